@@ -1,0 +1,2 @@
+pub mod Derive
+pub mod Chosen
