@@ -67,22 +67,15 @@ size g = sumOf (λ r. weight (alternatives (r .body))) (rules g) + sumOf (λ s. 
 
 -- a set's member matches a character; so does a set
 abbrev pub isMember : ℕ → Member → Bool
-isMember c (chars k) = among c (codes k)
-isMember c (range a b) = leb (codeOf a) c && leb c (codeOf b)
-isMember c (class k) = inClass k c
+isMember c m = elim m [ chars k ↦ among c (codes k) | range a b ↦ leb (codeOf a) c && leb c (codeOf b) | class k ↦ inClass k c ]
 
 -- "A literal derives a stretch that spells it, a set any one character that it matches, an insertion an empty stretch":
 -- whether a terminal derives the beginning of a text, and of how many characters
 abbrev pub fits : Terminal → Text → Bool
 fits (literal m k) t = begins (codes k) t
-fits (inclusion m ms) [] = false
-fits (inclusion m ms) (c ∷ t) = any (isMember c) ms
-fits (exclusion m ms) [] = false
-fits (exclusion m ms) (c ∷ t) = not (any (isMember c) ms)
+fits (inclusion m ms) t = elim t [ [] ↦ false | c ∷ u ↦ any (isMember c) ms ]
+fits (exclusion m ms) t = elim t [ [] ↦ false | c ∷ u ↦ not (any (isMember c) ms) ]
 fits (insertion k) t = true
 
 abbrev pub width : Terminal → ℕ
-width (literal m k) = length (codes k)
-width (inclusion m ms) = 1
-width (exclusion m ms) = 1
-width (insertion k) = 0
+width x = elim x [ literal m k ↦ length (codes k) | inclusion m ms ↦ 1 | exclusion m ms ↦ 1 | insertion k ↦ 0 ]

@@ -34,18 +34,14 @@ codeOf k = getD (codes k) 0 0
 
 -- 9: a range runs backwards
 unfoldable pub runsBack : Member → Bool
-runsBack (chars k) = false
-runsBack (range a b) = ltb (codeOf b) (codeOf a)
-runsBack (class k) = false
+runsBack m = elim m [ chars k ↦ false | range a b ↦ ltb (codeOf b) (codeOf a) | class k ↦ false ]
 
 unfoldable pub backwards : Grammar → Bool
 backwards g = any runsBack (members g)
 
 -- 10: no such class
 unfoldable pub noClass : Member → Bool
-noClass (chars k) = false
-noClass (range a b) = false
-noClass (class k) = not (isClass k)
+noClass m = elim m [ chars k ↦ false | range a b ↦ false | class k ↦ not (isClass k) ]
 
 unfoldable pub unclassed : Grammar → Bool
 unclassed g = any noClass (members g)

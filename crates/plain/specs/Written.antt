@@ -29,50 +29,43 @@ abbrev mutual
 abbrev pub written : Grammar → List Symbol
 written g = concatMap (λ r. withinBody (r .body)) (rules g)
 
--- the names used
+-- what a symbol is, in short
+pub data Kind : Type 0 where
+  atom : Terminal → Kind
+  named : Mark → Text → Kind
+  made : Kind
+
+abbrev pub kind : Symbol → Kind
+kind (terminal x) = atom x
+kind (nonterminal m n) = named m n
+kind (group b) = made
+kind (option f) = made
+kind (repeat0 f) = made
+kind (repeat1 f) = made
+kind (repeat0sep f sep) = made
+kind (repeat1sep f sep) = made
+kind (rest f sep) = made
+
 abbrev pub namesIn : Symbol → List Text
-namesIn (terminal x) = []
-namesIn (nonterminal m n) = n ∷ []
-namesIn (group b) = []
-namesIn (option f) = []
-namesIn (repeat0 f) = []
-namesIn (repeat1 f) = []
-namesIn (repeat0sep f sep) = []
-namesIn (repeat1sep f sep) = []
-namesIn (rest f sep) = []
+namesIn s = elim (kind s) [ atom x ↦ [] | named m n ↦ n ∷ [] | made ↦ [] ]
 
 abbrev pub terminalsIn : Symbol → List Terminal
-terminalsIn (terminal x) = x ∷ []
-terminalsIn (nonterminal m n) = []
-terminalsIn (group b) = []
-terminalsIn (option f) = []
-terminalsIn (repeat0 f) = []
-terminalsIn (repeat1 f) = []
-terminalsIn (repeat0sep f sep) = []
-terminalsIn (repeat1sep f sep) = []
-terminalsIn (rest f sep) = []
+terminalsIn s = elim (kind s) [ atom x ↦ x ∷ [] | named m n ↦ [] | made ↦ [] ]
 
 abbrev pub membersIn : Terminal → List Member
-membersIn (literal m k) = []
-membersIn (inclusion m ms) = ms
-membersIn (exclusion m ms) = ms
-membersIn (insertion k) = []
+membersIn x = elim x [ literal m k ↦ [] | inclusion m ms ↦ ms | exclusion m ms ↦ ms | insertion k ↦ [] ]
 
+-- literals and insertions, members, both ends of a range
 abbrev pub charsInMember : Member → List Chars
-charsInMember (chars k) = k ∷ []
-charsInMember (range a b) = a ∷ b ∷ []
-charsInMember (class k) = []
+charsInMember x = elim x [ chars k ↦ k ∷ [] | range a b ↦ a ∷ b ∷ [] | class k ↦ [] ]
 
 abbrev pub charsIn : Terminal → List Chars
-charsIn (literal m k) = k ∷ []
-charsIn (inclusion m ms) = concatMap charsInMember ms
-charsIn (exclusion m ms) = concatMap charsInMember ms
-charsIn (insertion k) = k ∷ []
+charsIn x = elim x [ literal m k ↦ k ∷ [] | inclusion m ms ↦ concatMap charsInMember ms | exclusion m ms ↦ concatMap charsInMember ms | insertion k ↦ k ∷ [] ]
 
 abbrev pub hexIn : Chars → List ℕ
-hexIn (string cs) = []
-hexIn (hex n) = n ∷ []
+hexIn k = elim k [ string cs ↦ [] | hex n ↦ n ∷ [] ]
 
+-- the names used
 abbrev pub names : Grammar → List Text
 names g = concatMap namesIn (written g)
 
@@ -82,7 +75,6 @@ terminals g = concatMap terminalsIn (written g)
 abbrev pub members : Grammar → List Member
 members g = concatMap membersIn (terminals g)
 
--- "unused rules, set members, range ends, insertions" too
 abbrev pub hexes : Grammar → List ℕ
 hexes g = concatMap hexIn (concatMap charsIn (terminals g))
 

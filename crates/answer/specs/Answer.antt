@@ -1,0 +1,152 @@
+-- The answers of the calls: the table of refusals in its order, and what a call leaves in its answer and its buffer.
+use mathlib.Core.Bool.{Bool, true, false, not, _&&_, _||_}
+use mathlib.Core.Path.{_≡_}
+use mathlib.Core.Logic.{_⊎_, _↔_}
+use mathlib.Core.List.{List, [], _∷_, _++_}
+use Prim.Native.Nat.{ℕ, _+_, _*_, _/_, _<_}
+use lib.Dec.{T}
+use lib.ListN.{length, drop}
+use Rattle.text.specs.Limits.{grammarBytes, mostSize, recordChars, grammarTable, readingNumbers}
+use Rattle.text.specs.Lists.{Text, chars, all, same}
+use Rattle.text.specs.Utf8.{Utf8, unmarked, known}
+use Rattle.category.specs.Category.{categories, categoryOf}
+use Rattle.tree.specs.Tree.{Prolog, no-prolog, version, Grammar}
+use Rattle.syntax.specs.Syntax.{Ixml}
+use Rattle.plain.specs.Static.{undefined, duplicate, beyond, banned, backwards, unclassed}
+use Rattle.plain.specs.Plain.{size}
+use Rattle.derive.specs.Derive.{Row, Derivation, root}
+use Rattle.derive.specs.Chosen.{Reading, Second}
+use Rattle.xml.specs.Document.{document, markOf, twice, misnamed, unwritable, isAttribute, notOne, namespaced}
+use Rattle.xml.specs.Bytes.{bytes}
+
+-- a line of the table: its number, and exactly when it applies
+pub record Line : Type 1 where
+  pub number : ℕ
+  pub Applies : Type 0
+
+abbrev pub line : ℕ → Type 0 → Line
+line n A = record { number = n; Applies = A }
+
+-- "The topmost line that applies is given, and none is given unless it applies"; 0 where none does
+abbrev pub Topmost : List Line → ℕ → Type 0
+Topmost [] n = n ≡ 0
+Topmost (l ∷ ls) n = (l .Applies × (n ≡ l .number)) ⊎ ((l .Applies → ⊥) × Topmost ls n)
+
+-- the characters of a grammar's bytes, after a byte order mark; its syntax tree
+abbrev pub GrammarText : List ℕ → Text → Type 0
+GrammarText bs cs = (ds : Text) × Utf8 bs ds × (cs ≡ unmarked ds)
+
+abbrev pub GrammarTree : List ℕ → Grammar → Type 0
+GrammarTree bs g = (cs : Text) × GrammarText bs cs × Ixml cs g
+
+-- the lines that checking may give
+abbrev pub ofText : (List ℕ → Text → Type 0) → List ℕ → (Text → Type 0) → Type 0
+ofText R bs P = (cs : Text) × R bs cs × P cs
+
+abbrev pub ofTree : List ℕ → (Grammar → Type 0) → Type 0
+ofTree bs P = (g : Grammar) × GrammarTree bs g × P g
+
+abbrev pub grammarLines : List ℕ → List Line → List Line
+grammarLines bs ls =
+    line 1 (grammarBytes < length bs)
+    ∷ line 2 (((cs : Text) × Utf8 bs cs) → ⊥)
+    ∷ line 3 (ofText GrammarText bs (λ cs. T (not (all known cs))))
+    ∷ line 4 (ofText GrammarText bs (λ cs. ((g : Grammar) × Ixml cs g) → ⊥))
+    ∷ line 5 (ofTree bs (λ g. T (undefined g)))
+    ∷ line 6 (ofTree bs (λ g. T (duplicate g)))
+    ∷ line 7 (ofTree bs (λ g. T (beyond g)))
+    ∷ line 8 (ofTree bs (λ g. T (banned g)))
+    ∷ line 9 (ofTree bs (λ g. T (backwards g)))
+    ∷ line 10 (ofTree bs (λ g. T (unclassed g)))
+    ∷ line 11 (ofTree bs (λ g. mostSize < size g))
+    ∷ ls
+
+-- what reading and converting are given: bytes of the grammar and the record, lengths of the two tables and of the buffer
+pub record Job : Type 0 where
+  pub grammar : List ℕ
+  pub input : List ℕ
+  pub mainTable : ℕ
+  pub secondTable : ℕ
+  pub room : ℕ
+
+-- the job's grammar and record; with the derivation and the numbers of the chosen reading
+pub record Given (j : Job) (g : Grammar) (r : Text) : Type 0 where
+  pub tree : GrammarTree (j .grammar) g
+  pub text : Utf8 (j .input) r
+
+abbrev pub ofJob : Job → (Grammar → Text → Type 0) → Type 0
+ofJob j P = (g : Grammar) × (r : Text) × Given j g r × P g r
+
+abbrev pub ofReading : Job → (Grammar → Text → Row → List ℕ → Type 0) → Type 0
+ofReading j P = ofJob j (λ g r. (t : Row) × (p : List ℕ) × Reading g r t p × P g r t p)
+
+-- "size × (n+1) × (n+2) / 2 numbers"
+abbrev pub tableNeed : ℕ → ℕ → ℕ
+tableNeed s n = s * ((n + 1) * (n + 2) / 2)
+
+abbrev pub recordLines : Job → List Line → List Line
+recordLines j ls =
+    line 12 (((cs : Text) × Utf8 (j .input) cs) → ⊥)
+    ∷ line 13 (ofText Utf8 (j .input) (λ cs. T (not (all known cs))))
+    ∷ line 14 (ofText Utf8 (j .input) (λ cs. recordChars < length cs))
+    ∷ line 15 (ofJob j (λ g r. (j .mainTable < tableNeed (size g) (length r)) ⊎ (j .secondTable < grammarTable)))
+    ∷ line 16 (ofJob j (λ g r. ((t : Row) × Derivation g r t) → ⊥))
+    ∷ line 29 (ofReading j (λ g r t p. readingNumbers < length p))
+    ∷ ls
+
+abbrev pub documentLines : Job → List Line → List Line
+documentLines j ls =
+    line 17 (ofReading j (λ g r t p. T (twice (document g r t))))
+    ∷ line 18 (ofReading j (λ g r t p. T (misnamed (document g r t))))
+    ∷ line 19 (ofReading j (λ g r t p. T (unwritable (document g r t))))
+    ∷ line 20 (ofReading j (λ g r t p. T (isAttribute (markOf g (root g)))))
+    ∷ line 21 (ofReading j (λ g r t p. T (notOne (document g r t))))
+    ∷ line 22 (ofReading j (λ g r t p. T (namespaced (document g r t))))
+    ∷ ls
+
+-- "a prolog names a version other than `1.0`"
+unfoldable pub mismatched : Grammar → Bool
+mismatched g = elim (g .prolog) [ no-prolog ↦ false | version k ↦ not (same k (chars "1.0")) ]
+
+-- the result of reading, "the reading as numbers", and of converting, "the XML", each with its ambiguous mark
+abbrev pub ReadingResult : Job → List ℕ → Bool → Type 0
+ReadingResult j xs m = ofReading j (λ g r t p. (T m ↔ Second g r p) × (xs ≡ p))
+
+abbrev pub XmlResult : Job → List ℕ → Bool → Type 0
+XmlResult j xs m = ofReading j (λ g r t p. (T m ↔ Second g r p) × (xs ≡ bytes m (mismatched g) (document g r t)))
+
+abbrev pub tooLong : Job → (List ℕ → Bool → Type 0) → Line
+tooLong j R = line 23 ((xs : List ℕ) × (m : Bool) × R xs m × (j .room < length xs))
+
+-- "An answer holds the number, a length, an ambiguous mark and a version mark."
+pub record Answer : Type 0 where
+  pub number : ℕ
+  pub length : ℕ
+  pub ambiguous : Bool
+  pub version : Bool
+
+-- "Length is 0 unless the number is 0 … The ambiguous mark may be set only with 0 … The version mark is set, for 0 and 16, exactly
+-- when … A result fills the first bytes or numbers of its buffer; the rest, and on every refusal the whole buffer, is unchanged."
+pub record Answers (lines : List Line) (Result : List ℕ → Bool → Type 0) (bs : List ℕ) (old : List ℕ) (a : Answer) (new : List ℕ) : Type 0 where
+  pub number : Topmost lines (a .number)
+  pub answered : a .number ≡ 0 → (xs : List ℕ) × Result xs (a .ambiguous) × (a .length ≡ length xs) × (new ≡ xs ++ drop (length xs) old)
+  pub refused : (a .number ≡ 0 → ⊥) → (a .length ≡ 0) × (a .ambiguous ≡ false) × (new ≡ old)
+  pub version : T (a .version) ↔ (((a .number ≡ 0) ⊎ (a .number ≡ 16)) × ofTree bs (λ g. T (mismatched g)))
+
+-- the four calls: "Checking gives 0 to 11 only, … reading gives 0 to 16, 29 and 23; converting gives all."
+abbrev pub Checks : List ℕ → Answer → Type 0
+Checks bs a = Answers (grammarLines bs []) (λ xs m. (xs ≡ []) × (m ≡ false)) bs [] a []
+
+abbrev pub Reads : Job → List ℕ → Answer → List ℕ → Type 0
+Reads j = Answers (grammarLines (j .grammar) (recordLines j (tooLong j (ReadingResult j) ∷ []))) (ReadingResult j) (j .grammar)
+
+abbrev pub Converts : Job → List ℕ → Answer → List ℕ → Type 0
+Converts j = Answers (grammarLines (j .grammar) (recordLines j (documentLines j (tooLong j (XmlResult j) ∷ [])))) (XmlResult j) (j .grammar)
+
+-- a category by its place in the list of all; past its end "not known here"
+unfoldable pub place : List Text → Text → ℕ
+place [] k = 0
+place (x ∷ xs) k = elim (same k x) [ true ↦ 0 | false ↦ place xs k + 1 ]
+
+unfoldable pub categoryAnswer : ℕ → ℕ
+categoryAnswer c = place categories (categoryOf c)
