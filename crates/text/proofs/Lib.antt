@@ -1,0 +1,3 @@
+pub mod Tests
+pub mod Step
+pub mod Decode
