@@ -9,7 +9,6 @@ use lib.ListN.{length, drop}
 use Rattle.text.specs.Limits.{grammarBytes, mostSize, recordChars, grammarTable, readingNumbers}
 use Rattle.text.specs.Lists.{Text, chars, all, same}
 use Rattle.text.specs.Utf8.{Utf8, unmarked, known}
-use Rattle.category.specs.Category.{categories, categoryOf}
 use Rattle.tree.specs.Tree.{Prolog, no-prolog, version, Grammar}
 use Rattle.syntax.specs.Syntax.{Ixml}
 use Rattle.plain.specs.Static.{undefined, duplicate, beyond, banned, backwards, unclassed}
@@ -143,10 +142,4 @@ Reads j = Answers (grammarLines (j .grammar) (recordLines j (tooLong j (ReadingR
 abbrev pub Converts : Job → List ℕ → Answer → List ℕ → Type 0
 Converts j = Answers (grammarLines (j .grammar) (recordLines j (documentLines j (tooLong j (XmlResult j) ∷ [])))) (XmlResult j) (j .grammar)
 
--- a category by its place in the list of all; past its end "not known here"
-unfoldable pub place : List Text → Text → ℕ
-place [] k = 0
-place (x ∷ xs) k = elim (same k x) [ true ↦ 0 | false ↦ place xs k + 1 ]
-
-unfoldable pub categoryAnswer : ℕ → ℕ
-categoryAnswer c = place categories (categoryOf c)
+-- the category call answers `categoryNumber` for every number

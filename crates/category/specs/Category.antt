@@ -1,7 +1,7 @@
 -- Categories of code points, and classes.
 use mathlib.Core.Bool.{Bool, true, false, _&&_, _||_}
 use mathlib.Core.List.{List, [], _∷_}
-use Prim.Native.Nat.{ℕ}
+use Prim.Native.Nat.{ℕ, _+_}
 use Prim.Native.String.{String}
 use Rattle.text.specs.Lists.{Text, chars, pick, any, same, begins, among, Span, span, inside}
 
@@ -64,3 +64,11 @@ inClass k c =
     pick (same k (chars "LC"))
     (any (same (categoryOf c)) (chars "Lu" ∷ chars "Ll" ∷ chars "Lt" ∷ []))
     (begins k (categoryOf c))
+
+-- a category by its place in the list of all; past its end "not known here"
+unfoldable pub place : List Text → Text → ℕ
+place [] k = 0
+place (x ∷ xs) k = elim (same k x) [ true ↦ 0 | false ↦ place xs k + 1 ]
+
+unfoldable pub categoryNumber : ℕ → ℕ
+categoryNumber c = place categories (categoryOf c)
