@@ -1,1 +1,6 @@
+pub mod Classes
+pub mod Holds
+pub mod SpacingLaws
+pub mod LexicalSound
+pub mod Sound
 pub mod Samples

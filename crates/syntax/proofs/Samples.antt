@@ -21,7 +21,7 @@ computing : Unit {0}
 unfolding category.ranges category.look category.categoryOf category.inClass
     s.ch s.whitespace s.plain s.quote s.digit s.digitValue s.capital s.letter s.bar s.isMark s.markOf s.namestart s.namefollower s.defines
     r.when r.then r.map r.guard r.expect p.kind p.step p.scan p.spacing p.required p.spaced
-    l.read-word l.quoted l.nonempty l.read-string l.digits l.read-hex l.read-chars l.single l.read-character l.read-class l.range-or l.read-member l.separated l.members l.read-set l.read-mark
+    l.read-word l.quoted l.nonempty l.read-string l.digits l.read-hex l.read-chars l.one-character l.read-character l.read-class l.range-or l.read-member l.separated l.members l.read-set l.read-mark
     l.run l.read-name l.ended l.ending l.last-dot l.but-last l.less-dot l.read-use
     g.read-terminal g.read-insertion g.read-nonterminal g.tmark g.marked g.read-plain g.repeated g.suffix g.under g.starts g.alts g.read-rule g.at-end g.rules g.heading g.after-heading g.read-prolog g.read-ixml g.answer g.parse
 computing = tt

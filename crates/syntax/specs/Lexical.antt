@@ -43,14 +43,14 @@ unfoldable pub read-chars : Text → Result Chars
 read-chars t = when (ch 0x23 (hd t)) (λ _. map hex (read-hex t)) (λ _. map string (read-string t))
 
 -- an end of a range: one character, or a hex number
-unfoldable pub single : Chars → Bool
-single (string []) = false
-single (string (c ∷ [])) = true
-single (string (c ∷ e ∷ cs)) = false
-single (hex n) = true
+unfoldable pub one-character : Chars → Bool
+one-character (string []) = false
+one-character (string (c ∷ [])) = true
+one-character (string (c ∷ e ∷ cs)) = false
+one-character (hex n) = true
 
 unfoldable pub read-character : Text → Result Chars
-read-character t = then (read-chars t) (λ k u. guard (single k) (λ _. ok k u))
+read-character t = then (read-chars t) (λ k u. guard (one-character k) (λ _. ok k u))
 
 unfoldable pub read-class : Text → Result Text
 read-class t = guard (capital (hd t)) (λ _. when (letter (hd (tl t))) (λ _. ok (hd t ∷ hd (tl t) ∷ []) (tl (tl t))) (λ _. ok (hd t ∷ []) (tl t)))
@@ -59,7 +59,7 @@ read-class t = guard (capital (hd t)) (λ _. when (letter (hd (tl t))) (λ _. ok
 unfoldable pub range-or : Chars → Text → Result Member
 range-or k t =
     when (ch 0x2d (hd t))
-    (λ _. guard (single k) (λ _. then (skip (tl t)) (λ _ u. then (read-character u) (λ e w. spaced (range k e) w))))
+    (λ _. guard (one-character k) (λ _. then (skip (tl t)) (λ _ u. then (read-character u) (λ e w. spaced (range k e) w))))
     (λ _. ok (tree.chars k) t)
 
 -- member, s
