@@ -164,6 +164,9 @@ spacing-list c = rw (blanks c) (simp (or-assoc, or-false))
 pub no-spacing : (f : ℕ → Bool) (c : ℕ) → none-of f spacings ≡ true → f c ≡ true → spacing c ≡ false
 no-spacing f c p q = spacing-list c ∙ not-among spacings f c p q
 
+pub ch-spacing : (k c : ℕ) → among k spacings ≡ false → ch k c ≡ true → spacing c ≡ false
+ch-spacing k c p e = spacing-list c ∙ at-ch (λ j. among j spacings) false k c p e
+
 pub spacing-not : (f : ℕ → Bool) (c : ℕ) → none-of f spacings ≡ true → spacing c ≡ true → f c ≡ false
 spacing-not f c p q = among-not spacings f c p (sym (spacing-list c) ∙ q)
 

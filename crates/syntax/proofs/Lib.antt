@@ -3,4 +3,5 @@ pub mod Holds
 pub mod SpacingLaws
 pub mod LexicalSound
 pub mod Sound
+pub mod LexicalComplete
 pub mod Samples
