@@ -66,6 +66,11 @@ pub at-ch : (f : ℕ → Bool) (b : Bool) (k c : ℕ) → f k ≡ b → ch k c �
 unfolding ch
 at-ch f b k c p e = rw (eqb-true c k e) p
 
+-- one character is no other
+pub ch-not : (j k : ℕ) → eqb k j ≡ false → ch j k ≡ false
+unfolding ch
+ch-not j k e = e
+
 -- a test that all of a list pass holds of each of them: classes are told apart by computing it
 pub among-at : (ks : List ℕ) (g : ℕ → Bool) (c : ℕ) → all g ks ≡ true → among c ks ≡ true → g c ≡ true
 among-at [] g c p q = absurd (clash refl q)

@@ -106,7 +106,7 @@ joins-letter c e = or-right (digit c) _ (or-right (quote c) _ e)
 pub before-s : (f : ℕ → Bool) {u w : Text} → none-of f spacings ≡ true → S u w → f (hd w) ≡ false → f (hd u) ≡ false
 before-s f {u} p s e = ⊎-elim (λ q. rw q e) (λ q. spacing-not f (hd u) p q) (head-s s)
 
-joins-s : {u w : Text} → S u w → joins (hd w) ≡ false → joins (hd u) ≡ false
+pub joins-s : {u w : Text} → S u w → joins (hd w) ≡ false → joins (hd u) ≡ false
 unfolding joins quote digit letter capital
 joins-s s e = before-s joins refl s e
 

@@ -4,4 +4,7 @@ pub mod SpacingLaws
 pub mod LexicalSound
 pub mod Sound
 pub mod LexicalComplete
+pub mod Names
+pub mod Steps
+pub mod Complete
 pub mod Samples

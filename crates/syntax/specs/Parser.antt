@@ -1,8 +1,9 @@
 -- The reader of the grammar text. The first argument of a function of the cycle bounds how deep its calls go: four for each
 -- character left are enough. The second is how many brackets more may open.
 use mathlib.Core.Bool.{Bool, true, false, _&&_, _||_}
+use mathlib.Core.Path.{_≡_}
 use mathlib.Core.List.{List, [], _∷_}
-use Prim.Native.Nat.{ℕ, zero, suc, _+_, _*_}
+use Prim.Native.Nat.{ℕ, zero, suc, _+_, _*_, _≤_}
 use lib.ListN.{length}
 use Rattle.text.specs.Limits.{levels}
 use Rattle.text.specs.Lists.{Text, chars, among}
@@ -82,6 +83,22 @@ unfoldable mutual
       when (ch 0x28 (hd t))
       (λ _. under d (λ e. then (skip (tl t)) (λ _ u. then (alts n e u) (λ b v. expect (ch 0x29) v (λ w. spaced (group b) w)))))
       (λ _. read-plain t)
+
+-- an answer of a function of the cycle, at every sufficient bound
+abbrev pub Alts= : ℕ → Text → Result Body → Type 0
+Alts= d t x = (n : ℕ) → 4 * length t + 4 ≤ n → alts n d t ≡ x
+
+abbrev pub Alt= : ℕ → Text → Result Alternative → Type 0
+Alt= d t x = (n : ℕ) → 4 * length t + 3 ≤ n → when (starts (hd t)) (λ _. terms n d t) (λ _. ok nil t) ≡ x
+
+abbrev pub Terms= : ℕ → Text → Result Alternative → Type 0
+Terms= d t x = (n : ℕ) → 4 * length t + 3 ≤ n → terms n d t ≡ x
+
+abbrev pub Term= : ℕ → Text → Result Symbol → Type 0
+Term= d t x = (n : ℕ) → 4 * length t + 2 ≤ n → term n d t ≡ x
+
+abbrev pub Factor= : ℕ → Text → Result Symbol → Type 0
+Factor= d t x = (n : ℕ) → 4 * length t + 1 ≤ n → factor n d t ≡ x
 
 abbrev pub enough : Text → ℕ
 enough t = 4 * length t + 4
