@@ -1,7 +1,7 @@
 -- What the grammar derives, the reader reads, with the same tree.
 use native.Mathlib.Omega.{arith}
 use mathlib.Core.Bool.{Bool, true, false, not, _&&_, _||_}
-use mathlib.Core.Path.{_≡_, refl, sym, ap, _∙_}
+use mathlib.Core.Path.{_≡_, refl, sym, ap, subst, _∙_}
 use mathlib.Core.Logic.{_⊎_, inl, inr, ⊎-elim}
 use mathlib.Core.List.{List, [], _∷_}
 use Prim.Native.Nat.{ℕ, zero, suc, _+_, _*_, _<_, _≤_}
@@ -12,10 +12,12 @@ use Rattle.text.specs.Lists.{Text, chars, all, among, pick}
 use Rattle.category.specs.Category as category
 use Rattle.tree.specs.Tree.{Mark, unmarked, included, attribute, deleted, Chars, Member, Terminal, literal, inclusion, exclusion, insertion}
 use Rattle.tree.specs.Tree.{Symbol, terminal, nonterminal, group, option, repeat0, repeat1, repeat0sep, repeat1sep, Alternative, nil, cons, Body, one, also, Rule, Prolog, no-prolog, version, Grammar}
-use Rattle.syntax.specs.Syntax.{Chr, chr, Is, is, ch, Word, S, RS, quote, String, CharsOf, SetOf, bar, isMark, isTmark, markOf, Marked, namestart, namefollower, Name, TerminalOf, Alts, Alt, Terms, Term, Factor, defines, RuleOf, Rules, PrologOf, Ixml}
+use Rattle.syntax.specs.Syntax.{Chr, chr, Is, is, ch, Word, S, RS, quote, digit, letter, capital, String, CharsOf, SetOf, bar, isMark, isTmark, markOf, Marked, namestart, namefollower, Followers, Name, TerminalOf, Alts, Alt, Terms, Term, Factor, defines, RuleOf, Rules, PrologOf, Ixml}
 use Rattle.syntax.specs.Syntax.Word.{word-end, word-char}
 use Rattle.syntax.specs.Syntax.SetOf.{set-none, set-some}
 use Rattle.syntax.specs.Syntax.Marked.{mark-none, mark-some}
+use Rattle.syntax.specs.Syntax.CharsOf.{c-string}
+use Rattle.syntax.specs.Syntax.Followers.{f-none, f-next}
 use Rattle.syntax.specs.Syntax.Name.{a-name}
 use Rattle.syntax.specs.Syntax.TerminalOf.{t-literal, t-inclusion, t-exclusion, t-insertion}
 use Rattle.syntax.specs.Syntax.Alts.{alts-one, alts-also}
@@ -29,13 +31,15 @@ use Rattle.syntax.specs.Syntax.PrologOf.{prolog-none, prolog-some}
 use Rattle.syntax.specs.Syntax.Ixml.{ixml}
 use Rattle.syntax.specs.Result.{Result, ok, fail, hd, tl, when, then, map, guard, expect}
 use Rattle.syntax.specs.Spacing.{skip, spacing, required, spaced}
-use Rattle.syntax.specs.Lexical.{read-word, read-string, read-chars, read-set, read-mark, read-name, read-use, separated}
+use Rattle.syntax.specs.Lexical.{read-word, read-string, read-chars, read-set, read-mark, read-name, read-use, ended, ending, separated}
 use Rattle.syntax.specs.Parser.{read-terminal, read-insertion, read-nonterminal, tmark, marked, read-plain, repeated, suffix, under, starts, single, alts, terms, term, factor, enough, rule, read-rule, at-end, rules, heading, after-heading, read-prolog, grammar, read-ixml}
 use Rattle.syntax.specs.Parser.{Alts=, Alt=, Terms=, Term=, Factor=, Parsed, parsed, no-parse, answer, parse}
-use Rattle.syntax.proofs.Classes.{clash, and-false, or-true, no-ch, at-ch, ch-not, among-at, none-of, among-not, spacings, no-spacing, ch-spacing, spacing-not, namestart-end, mark-end}
+use Rattle.syntax.proofs.Classes.{clash, and-left, and-right, and-false, or-true, no-ch, at-ch, ch-not, among-at, none-of, among-not, spacings, no-spacing, ch-spacing, spacing-not, namestart-end, namefollower-end, mark-end}
 use Rattle.syntax.proofs.SpacingLaws.{complete-s, complete-rs, complete-spaced, head-s, head-rs, rs-s, short-s, short-rs, spacing-end}
 use Rattle.syntax.proofs.LexicalComplete.{joins, joins-s as before-joins, before-s, complete-word, complete-string, complete-chars, complete-set, complete-mark, opens, first-chars, opens-spacing, separated-last, separated-more, short-chars, short-set, short-marked}
 use Rattle.syntax.proofs.Names.{Ending, Follows, after-alts, after-alt, after-term, after-factor, within, wider, follows-not, head-among, head-ch, follows-spacing, follows-joins, follows-starts, complete-use, complete-name, before-follower, spacing-follower, short-name}
+use Rattle.syntax.proofs.Holds.{Holds, none, some}
+use Rattle.syntax.proofs.Sound.{Headed, sound-heading}
 use Rattle.syntax.proofs.Steps.{Agrees, alt-none=, alt-some=, alts-step, terms-step, term-step, factor-plain, factor-step}
 
 -- 1. What is left is shorter.
@@ -341,6 +345,7 @@ complete-group {t} {v = v} {w = w} {y = y} {b = b} d (is p) s e a (is q) s' f =
 
 mutual
   unfolding then map
+
   c-alts : {d : ℕ} {t u : Text} {b : Body} → Alts d t u b → Follows after-alts u → Alts= d t (ok b u)
   c-alts (alts-one {d = d} {t = t} {u = u} {a = a} p) f =
       alts-step d t (ok a u) (ok (one a) u) (c-alt p (wider after-alt refl f)) (λ g _. separated-last bar also one g a u (alts-bar f))
@@ -381,3 +386,149 @@ mutual
   c-factor (f-group {d = d} p s a (is q) s') f =
       let z = head-ch 0x29 after-alts refl (ch-not 0x2e 0x29 refl) q in
       complete-group d p s (first-alts a (ch-spacing 0x29 _ refl q)) (c-alts a z) (is q) s' f
+
+-- 6. Rules.
+rule-start : ℕ → Bool
+rule-start c = isMark c || namestart c
+
+rule-marked : {t u : Text} {m : Mark} → Marked isMark t u m → namestart (hd u) ≡ true → rule-start (hd t) ≡ true
+unfolding rule-start
+rule-marked {t} mark-none e = rw e (or-true (isMark (hd t)))
+rule-marked (mark-some (chr p) s) e = rw p
+
+first-rule : {t u : Text} {r : Rule} → RuleOf t u r → rule-start (hd t) ≡ true
+first-rule (a-rule p n s i s' a j) = rule-marked p (name-start n)
+
+rule-spacing : (c : ℕ) → rule-start c ≡ true → spacing c ≡ false
+unfolding rule-start isMark namestart category.inClass category.categoryOf category.look category.ranges
+rule-spacing c e = no-spacing rule-start c refl e
+
+rule-ended : (u : Text) → rule-start (hd u) ≡ true → ended u ≡ true
+unfolding ended rule-start
+rule-ended [] e = refl
+rule-ended (c ∷ u) e = e
+
+rule-no-end : {A : Type 0} (u : Text) (f g : Unit {0} → A) → rule-start (hd u) ≡ true → at-end u f g ≡ g tt
+unfolding at-end rule-start
+rule-no-end [] f g e = absurd (clash (rw (mark-end, namestart-end) refl) e)
+rule-no-end (c ∷ u) f g e = refl
+
+defines-spacing : (c : ℕ) → defines c ≡ true → spacing c ≡ false
+unfolding defines
+defines-spacing c e = no-spacing defines c refl e
+
+defines-follower : (c : ℕ) → defines c ≡ true → namefollower c ≡ false
+unfolding defines namefollower namestart category.inClass category.categoryOf category.look category.ranges
+defines-follower c e = among-not (chars "=:") namefollower c refl e
+
+at-dot : {c : ℕ} {t : Text} → ch 0x2e c ≡ true → Ending t → Follows after-alts (c ∷ t)
+at-dot {c} e z = record { one-of = at-ch (λ j. among j after-alts) true 0x2e c refl e; dot = λ _. z }
+
+-- the mark and the name of a rule
+mark-read : {t u v n : Text} {m : Mark} → Marked isMark t u m → Name u v n → read-mark t ≡ ok m u
+mark-read p n = let e = unmarked-name _ (name-start n) in complete-mark p (unmarked-not-mark _ e) (start-spacing _ (start-unmarked _ e))
+
+name-read : {t u v n : Text} → Name t u n → S u v → defines (hd v) ≡ true → read-name t ≡ ok n u
+name-read n s e = complete-name n (before-follower s (defines-follower _ e))
+
+c-rule : {t u : Text} {r : Rule} → RuleOf t u r → Ending u → read-rule t ≡ ok r u
+unfolding read-rule then expect guard
+c-rule (a-rule {y = y} p n s (is c) s' a (is q)) z =
+    let f = at-dot q z in
+    rw (mark-read p n, name-read n s c, complete-s s (defines-spacing _ c), c, complete-s s' (first-alts a (ch-spacing 0x2e _ refl q)), c-alts a f (enough y) (omega arith), q)
+
+ending-rules : {t u : Text} {rs : List Rule} → Rules t u rs → S u [] → Ending t
+unfolding ending ended
+ending-rules rules-none s = record { stops = before-follower s namefollower-end; ends = rw (complete-s s spacing-end) }
+ending-rules (rules-next {u = u} b r q) s = record { stops = spacing-follower _ (head-rs b); ends = rw (complete-s (rs-s b) (rule-spacing _ (first-rule r))) (rule-ended u (first-rule r)) }
+
+c-rules : {t u : Text} {rs : List Rule} → Rules t u rs → S u [] → (n : ℕ) → length t < n → rules n t ≡ ok rs []
+unfolding rules then map guard at-end
+c-rules r s zero h = absurd (omega arith)
+c-rules rules-none s (suc n) h = rw (complete-s s spacing-end)
+c-rules (rules-next {u = u} b r q) s (suc n) h =
+    let i = short-rs b in let j = short-rule r in
+    rw (complete-s (rs-s b) (rule-spacing _ (first-rule r)), rule-no-end u _ _ (first-rule r), head-rs b, c-rule r (ending-rules q s), c-rules q s n (omega arith))
+
+-- 7. The prolog. No rule begins as one does.
+word-followers : {w t u : Text} → all namefollower w ≡ true → Word w t u → (cs : Text) × Followers t u cs
+word-followers e word-end = ([], f-none)
+word-followers e (word-char {k = k} {w = w} (is {c = c} p) h) =
+    let x = word-followers (and-right (namefollower k) (all namefollower w) e) h in (c ∷ x .0, f-next (chr (at-ch namefollower true k c (and-left (namefollower k) (all namefollower w) e) p)) (x .1))
+
+word-name : {t u : Text} (k : ℕ) (w : Text) → namestart k ≡ true → all namefollower w ≡ true → Word (k ∷ w) t u → (n : Text) × Name t u n
+word-name k w e f (word-char (is {c = c} p) h) = let x = word-followers f h in (c ∷ x .0, a-name (chr (at-ch namestart true k c e p)) (x .1))
+
+ixml-name : {t u : Text} → Word (chars "ixml") t u → (n : Text) × Name t u n
+unfolding namefollower namestart category.inClass category.categoryOf category.look category.ranges
+ixml-name h = word-name _ _ refl refl h
+
+first-word : {k : ℕ} {w t u : Text} → Word (k ∷ w) t u → ch k (hd t) ≡ true
+first-word (word-char (is p) h) = p
+
+v-spacing : {t u : Text} → Word (chars "version") t u → spacing (hd t) ≡ false
+v-spacing h = ch-spacing 0x76 _ refl (first-word h)
+
+v-defines : (c : ℕ) → ch 0x76 c ≡ true → defines c ≡ false
+unfolding defines
+v-defines c e = at-ch defines false 0x76 c refl e
+
+-- two answers of one reader leave the same text
+same-rest : {A : Type 0} {x : Result A} {v w : A} {t u : Text} → x ≡ ok v t → x ≡ ok w u → t ≡ u
+same-rest p q = cc
+
+same-name : {t u u' v n n' : Text} → Name t u n → S u v → defines (hd v) ≡ true → Name t u' n' → spacing (hd u') ≡ true → u ≡ u'
+same-name n s e n' f = same-rest (name-read n s e) (complete-name n' (spacing-follower _ f))
+
+apart : {t u v w x n n' : Text} → Name t u n → S u v → defines (hd v) ≡ true → Name t w n' → RS w x → ch 0x76 (hd x) ≡ true → ⊥
+apart {w = w} {x = x} n s e n' r f =
+    let p = same-name n s e n' (head-rs r) in
+    let q = same-rest (complete-s (rw p at s) (defines-spacing _ e)) (complete-s (rs-s r) (ch-spacing 0x76 _ refl f)) in
+    clash (v-defines (hd x) f) (rw q at e)
+
+no-heading : {t u v : Text} {r : Rule} → Headed t u → RuleOf t v r → ⊥
+no-heading h (a-rule p n s (is c) s' a q) =
+    let k = ixml-name (h .ixml-at) in
+    let e = same-rest (mark-read p n) (mark-read mark-none (k .1)) in
+    apart (rw e at n) s c (k .1) (h .space) (first-word (h .version-at))
+
+heading-fails : {t u : Text} {r : Rule} → RuleOf t u r → heading t ≡ fail
+heading-fails {t} r = go (heading t) (sound-heading t)
+  where
+    go : (x : Result (Unit {0})) → Holds (λ _ u. Headed t u) x → x ≡ fail
+    go fail h = refl
+    go (ok _ u) (some h) = absurd (no-heading h r)
+
+dot-joins : (c : ℕ) → ch 0x2e c ≡ true → joins c ≡ false
+unfolding joins quote digit letter capital
+dot-joins c e = at-ch joins false 0x2e c refl e
+
+first-string : {t u k : Text} → String t u k → spacing (hd t) ≡ false
+first-string h = opens-spacing _ (first-chars (c-string h))
+
+c-prolog : {t u v : Text} {p : Prolog} {r : Rule} → PrologOf t u p → RuleOf u v r → read-prolog t ≡ ok p u
+unfolding read-prolog heading after-heading then expect guard
+c-prolog prolog-none r = rw (heading-fails r)
+c-prolog (prolog-some {k = k} h s h' s' c s'' (is d) z) r =
+    rw (complete-word h, complete-rs s (v-spacing h'), complete-word h', complete-rs s' (first-string c), complete-string c (before-joins s'' (dot-joins _ d)), complete-s s'' (ch-spacing 0x2e _ refl d), d)
+    (complete-spaced (version k) z (rule-spacing _ (first-rule r)))
+
+first-prolog : {t u v : Text} {p : Prolog} {r : Rule} → PrologOf t u p → RuleOf u v r → spacing (hd t) ≡ false
+first-prolog prolog-none r = rule-spacing _ (first-rule r)
+first-prolog (prolog-some h s h' s' c s'' d z) r = ch-spacing 0x69 _ refl (first-word h)
+
+-- 8. The whole text.
+pub complete : (t : Text) (g : Grammar) → Ixml t g → parse t ≡ parsed g
+unfolding parse answer read-ixml then map
+complete t g (ixml {w = w} s p r rs e) =
+    rw (complete-s s (first-prolog p r), c-prolog p r, c-rule r (ending-rules rs e), c-rules rs e (suc (length w)) (omega arith))
+
+pub unique : (t : Text) (g g' : Grammar) → Ixml t g → Ixml t g' → g ≡ g'
+unique t g g' p q = let a = complete t g p in let b = complete t g' q in cc
+
+abbrev Refused : Parsed → Type 0
+Refused (parsed g) = ⊥
+Refused no-parse = Unit {0}
+
+pub refuses : (t : Text) → parse t ≡ no-parse → (g : Grammar) → Ixml t g → ⊥
+refuses t e g p = subst Refused (sym e ∙ complete t g p) tt
