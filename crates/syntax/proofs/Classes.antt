@@ -1,17 +1,21 @@
 -- Tests on one character: passing and failing, lists of characters, and spacing as such a list.
 use native.Mathlib.Omega.{arith}
 use mathlib.Core.Bool.{Bool, true, false, not, _&&_, _||_}
-use mathlib.Core.Path.{_≡_, refl, sym, ap, _∙_}
-use mathlib.Core.Logic.{_⊎_, inl, inr, ⊎-elim}
+use mathlib.Core.Path.{_≡_, refl, sym, _∙_}
 use mathlib.Core.List.{List, [], _∷_}
 use Prim.Native.Nat.{ℕ, zero, suc, _<_, _≤_}
 use lib.Dec.{leb, eqb}
 use borrow.Author.Tests.{eqb-true, eqb-false, leb-true, leb-false, lt-leb, ne-eqb, not-true}
-use Rattle.text.specs.Lists.{Text, chars, pick, any, all, among, Span, span, inside, begins, same}
-use Rattle.category.specs.Category.{Row, row, at, ranges, look, categoryOf, inClass}
+use Rattle.text.specs.Lists.{Text, chars, any, all, among, Span, inside}
+use Rattle.category.specs.Category.{Row, ranges, look, categoryOf, inClass}
 use Rattle.syntax.specs.Syntax.{Chr, chr, Is, is, ch, whitespace, quote, capital, letter, bar, isMark, defines, namestart, namefollower}
 use Rattle.syntax.specs.Result.{hd, tl}
 use Rattle.syntax.specs.Spacing.{spacing}
+
+-- to unfold this is to unfold the classes of characters
+unfoldable pub by-category : Unit {0}
+unfolding ranges look categoryOf inClass
+by-category = tt
 
 pub clash : {b : Bool} → b ≡ false → b ≡ true → ⊥
 clash p q = let z : _≡_ {A = ℕ} 0 1 = cc in omega arith
@@ -143,7 +147,7 @@ abbrev agrees : ℕ → Bool
 agrees c = agree (inClass (chars "Zs") c) (blank c)
 
 all-agree : upto 0x100 agrees ≡ true
-unfolding upto agree inClass categoryOf look ranges
+unfolding upto agree by-category
 all-agree = refl
 
 not-blank : (c : ℕ) → 0xff < c → blank c ≡ false
@@ -205,9 +209,9 @@ unfolding defines
 defines-end = refl
 
 pub namestart-end : namestart 0x110000 ≡ false
-unfolding namestart inClass categoryOf look ranges
+unfolding namestart by-category
 namestart-end = refl
 
 pub namefollower-end : namefollower 0x110000 ≡ false
-unfolding namefollower namestart inClass categoryOf look ranges
+unfolding namefollower namestart by-category
 namefollower-end = refl

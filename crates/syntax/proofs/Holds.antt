@@ -1,11 +1,10 @@
 -- A claim of what was read, if anything was, and how it passes through each combinator of the reader.
 use mathlib.Core.Bool.{Bool, true, false}
 use mathlib.Core.Path.{_≡_, refl}
-use mathlib.Core.List.{List, [], _∷_}
 use Prim.Native.Nat.{ℕ}
 use Rattle.text.specs.Lists.{Text}
-use Rattle.syntax.specs.Syntax.{Is, S}
-use Rattle.syntax.specs.Result.{Result, ok, fail, hd, tl, when, then, map, guard, expect}
+use Rattle.syntax.specs.Syntax.{Is}
+use Rattle.syntax.specs.Result.{hd, tl, Result, ok, fail, when, then, map, guard, expect}
 use Rattle.syntax.proofs.Classes.{is-at}
 
 pub data Holds {A : Type 0} (P : A → Text → Type 0) : Result A → Type 0 where

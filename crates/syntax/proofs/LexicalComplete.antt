@@ -1,84 +1,38 @@
 -- What the grammar derives as a token, the reader reads, where nothing follows that would go on with it.
 use native.Mathlib.Omega.{arith}
-use mathlib.Core.Bool.{Bool, true, false, not, _&&_, _||_}
-use mathlib.Core.Path.{_≡_, refl, sym, ap, _∙_}
-use mathlib.Core.Logic.{_⊎_, inl, inr, ⊎-elim}
-use mathlib.Core.List.{List, [], _∷_, _++_}
-use Prim.Native.Nat.{ℕ, zero, suc, _+_, _*_, _<_, _≤_}
+use mathlib.Core.Bool.{Bool, true, false, not, _||_}
+use mathlib.Core.Path.{_≡_, refl}
+use mathlib.Core.List.{List, [], _∷_}
+use Prim.Native.Nat.{ℕ, zero, suc, _<_}
 use lib.Dec.{eqb}
-use lib.ListN.{length}
-use borrow.Author.Tests.{eqb-true}
-use Rattle.text.specs.Lists.{Text, chars, all, among}
-use Rattle.category.specs.Category as category
+use Rattle.text.specs.Lists.{Text, chars, among}
 use Rattle.category.specs.Category.{inClass}
-use Rattle.tree.specs.Tree.{Mark, unmarked, Chars, string, hex, Member, range, class}
-use Rattle.tree.specs.Tree as tree
-use Rattle.syntax.specs.Syntax.{Chr, chr, Is, is, ch, Word, S, plain, Qchar, Qchars, quote, String, digit, digitValue, Digits, Hex, CharsOf, Character, capital, letter, Class, MemberOf, bar, Members, SetOf, isMark, markOf, Marked}
-use Rattle.syntax.specs.Syntax.Word.{word-end, word-char}
+use Rattle.syntax.specs.Syntax.{chr, Is, is, ch, quote, capital, letter, bar, isMark, S, String, CharsOf, SetOf, Marked, Qchar, Qchars, Digits, Hex, Character, MemberOf, Members, Word, digit, markOf, plain, Class}
+use Rattle.syntax.specs.Result.{hd, tl, Result, ok, when, then, map, guard, expect}
+use Rattle.syntax.specs.Spacing.{spacing, skip}
+use mathlib.Core.Logic.{⊎-elim}
+use lib.ListN.{length}
+use Rattle.tree.specs.Tree.{Mark, Chars, Member, range, class}
+use Rattle.syntax.specs.Syntax.SetOf.{set-none, set-some}
+use Rattle.syntax.specs.Syntax.Marked.{mark-none, mark-some}
+use Rattle.syntax.specs.Syntax.CharsOf.{c-string, c-hex}
 use Rattle.syntax.specs.Syntax.Qchar.{q-plain, q-doubled}
 use Rattle.syntax.specs.Syntax.Qchars.{q-last, q-next}
 use Rattle.syntax.specs.Syntax.String.{a-string}
 use Rattle.syntax.specs.Syntax.Digits.{d-last, d-next}
 use Rattle.syntax.specs.Syntax.Hex.{a-hex}
-use Rattle.syntax.specs.Syntax.CharsOf.{c-string, c-hex}
 use Rattle.syntax.specs.Syntax.Character.{one-char, one-hex}
 use Rattle.syntax.specs.Syntax.Class.{c-one, c-two}
 use Rattle.syntax.specs.Syntax.MemberOf.{m-chars, m-range, m-class}
 use Rattle.syntax.specs.Syntax.Members.{m-last, m-next}
-use Rattle.syntax.specs.Syntax.SetOf.{set-none, set-some}
-use Rattle.syntax.specs.Syntax.Marked.{mark-none, mark-some}
-use Rattle.syntax.specs.Result.{Result, ok, fail, hd, tl, when, then, map, guard, expect}
-use Rattle.syntax.specs.Spacing.{skip, spacing, spaced}
-use Rattle.syntax.specs.Lexical.{read-word, quoted, nonempty, read-string, digits, read-hex, read-chars, one-character, read-character, read-class, range-or, read-member, separated, alone, members, read-set, read-mark}
-use Rattle.syntax.proofs.Classes.{clash, differ, no-ch, at-ch, or-true, among-at, none-of, among-not, not-among, spacings, spacing-list, no-spacing, ch-spacing, spacing-not}
-use Rattle.syntax.proofs.SpacingLaws.{complete-s, complete-spaced, head-s, short-s}
+use Rattle.syntax.specs.Syntax.Word.{word-end, word-char}
+use Rattle.syntax.specs.Lexical.{read-word, read-string, read-chars, read-set, read-mark, separated, quoted, nonempty, digits, read-hex, one-character, read-character, read-class, range-or, read-member, alone, members}
+use Rattle.tree.specs.Tree as tree
+use Rattle.syntax.proofs.Classes.{clash, or-true, no-ch, at-ch, among-at, none-of, among-not, spacings, no-spacing, ch-spacing, spacing-not}
+use Rattle.syntax.proofs.SpacingLaws.{complete-s, head-s, complete-spaced}
+use Rattle.syntax.proofs.Shorter.{short-s, of-character, short-member}
 
--- 1. What is left is shorter.
-short-qchar : {q c : ℕ} {t u : Text} → Qchar q t u c → length u < length t
-short-qchar (q-plain (chr p)) = omega arith
-short-qchar (q-doubled (is p) (is q)) = omega arith
-
-short-qchars : {q : ℕ} {t u cs : Text} → Qchars q t u cs → length u < length t
-short-qchars (q-last d) = short-qchar d
-short-qchars (q-next d r) = let h = short-qchars r in let k = short-qchar d in omega arith
-
-pub short-string : {t u cs : Text} → String t u cs → length u < length t
-short-string (a-string (chr p) d (is q)) = let h = short-qchars d in omega arith
-
-short-digits : {n m : ℕ} {t u : Text} → Digits n t u m → length u < length t
-short-digits (d-last (chr p)) = omega arith
-short-digits (d-next (chr p) d) = let h = short-digits d in omega arith
-
-short-hex : {t u : Text} {n : ℕ} → Hex t u n → length u < length t
-short-hex (a-hex (is p) d) = let h = short-digits d in omega arith
-
-pub short-chars : {t u : Text} {k : Chars} → CharsOf t u k → length u < length t
-short-chars (c-string s) = short-string s
-short-chars (c-hex h) = short-hex h
-
-of-character : {t u : Text} {k : Chars} → Character t u k → CharsOf t u k
-of-character (one-char s) = c-string s
-of-character (one-hex h) = c-hex h
-
-short-member : {t u : Text} {m : Member} → MemberOf t u m → length u < length t
-short-member (m-chars h) = short-chars h
-short-member (m-range a s (is p) s' b) = let h = short-chars (of-character a) in let i = short-s s in let j = short-s s' in let k = short-chars (of-character b) in omega arith
-short-member (m-class (c-one (chr p))) = omega arith
-short-member (m-class (c-two (chr p) (chr q))) = omega arith
-
-short-members : {t u : Text} {ms : List Member} → Members t u ms → length u < length t
-short-members (m-last p s) = let h = short-member p in let i = short-s s in omega arith
-short-members (m-next p s (is q) s' r) = let h = short-member p in let i = short-s s in let j = short-s s' in let k = short-members r in omega arith
-
-pub short-set : {t u : Text} {ms : List Member} → SetOf t u ms → length u < length t
-short-set (set-none (is p) s (is q) s') = let i = short-s s in let j = short-s s' in omega arith
-short-set (set-some (is p) s r (is q) s') = let i = short-s s in let j = short-s s' in let k = short-members r in omega arith
-
-pub short-marked : {f : ℕ → Bool} {t u : Text} {m : Mark} → Marked f t u m → length u ≤ length t
-short-marked mark-none = omega arith
-short-marked (mark-some (chr p) s) = let i = short-s s in omega arith
-
--- 2. What follows a token: no quote, no digit, no letter.
+-- 1. What follows a token: no quote, no digit, no letter.
 unfoldable pub joins : ℕ → Bool
 joins c = quote c || (digit c || letter c)
 
@@ -110,13 +64,13 @@ pub joins-s : {u w : Text} → S u w → joins (hd w) ≡ false → joins (hd u)
 unfolding joins quote digit letter capital
 joins-s s e = before-s joins refl s e
 
--- 3. Words.
+-- 2. Words.
 pub complete-word : {w t u : Text} → Word w t u → read-word w t ≡ ok tt u
 unfolding read-word expect guard
 complete-word word-end = refl
 complete-word (word-char (is p) h) = rw p (complete-word h)
 
--- 4. Strings.
+-- 3. Strings.
 quote-ends : (q : ℕ) (u w : Text) → Is (ch q) u w → ch q (hd w) ≡ false → quoted q u false ≡ ok [] w
 unfolding quoted when
 quote-ends q u [] (is p) e = rw p
@@ -157,7 +111,7 @@ pub complete-string : {t u cs : Text} → String t u cs → joins (hd u) ≡ fal
 unfolding read-string guard
 complete-string {u = u} (a-string {q = q} (chr p) d i) e = rw (p, qchars-read d i (passes-not quote q (hd u) p (joins-quote (hd u) e))) (nonempty-read d u)
 
--- 5. Hex numbers, characters.
+-- 4. Hex numbers, characters.
 digits-end : (n : ℕ) (u : Text) → digit (hd u) ≡ false → digits n u ≡ ok n u
 unfolding digits when
 digits-end n [] e = refl
@@ -194,13 +148,13 @@ complete-character : {t u : Text} {k : Chars} → Character t u k → joins (hd 
 unfolding read-character then guard
 complete-character c e = rw (complete-chars (of-character c) e, is-one c)
 
--- 6. Classes.
+-- 5. Classes.
 complete-class : {t u k : Text} → Class t u k → joins (hd u) ≡ false → read-class t ≡ ok k u
 unfolding read-class guard when
 complete-class {u = u} (c-one (chr p)) e = rw (p, joins-letter (hd u) e)
 complete-class (c-two (chr p) (chr q)) e = rw (p, q)
 
--- 7. Members and sets.
+-- 6. Members and sets.
 unfoldable pub opens : ℕ → Bool
 opens c = among c (chars "\"'#")
 
@@ -325,7 +279,7 @@ complete-set (set-none (is p) s (is q) s') e = rw (p, complete-s s (ch-spacing 0
 complete-set (set-some {v = v} {ms = ms} (is p) s r (is q) s') e =
     rw (p, complete-s s (member-spacing _ (first-members r)), member-shut _ (first-members r), complete-members r q (suc (length v)) (omega arith), q) (complete-spaced ms s' e)
 
--- 8. Marks.
+-- 7. Marks.
 pub complete-mark : {t u : Text} {m : Mark} → Marked isMark t u m → isMark (hd u) ≡ false → spacing (hd u) ≡ false → read-mark t ≡ ok m u
 unfolding read-mark when
 complete-mark mark-none e f = rw e

@@ -1,37 +1,34 @@
 -- What the reader's tokens accept, the grammar derives.
-use mathlib.Core.Bool.{Bool, true, false, not, _&&_, _||_}
+use mathlib.Core.Bool.{Bool, true, false, not, _&&_}
 use mathlib.Core.Path.{_≡_, refl, sym, subst}
-use mathlib.Core.List.{List, [], _∷_}
+use mathlib.Core.List.{[], _∷_}
 use Prim.Native.Nat.{ℕ, zero, suc, _+_, _*_}
-use lib.ListN.{length}
 use lib.Dec.{eqb}
-use borrow.Author.Tests.{eqb-true, eq-eqb, not-true}
+use borrow.Author.Tests.{eqb-true, not-true, eq-eqb}
 use Rattle.text.specs.Lists.{Text, all}
-use Rattle.tree.specs.Tree.{Mark, unmarked, Chars, string, hex, Member, range, class}
-use Rattle.tree.specs.Tree as tree
-use Rattle.syntax.specs.Syntax.{Chr, chr, Is, is, ch, Word, S, plain, Qchar, Qchars, quote, String, digit, digitValue, Digits, Hex, CharsOf, Character, capital, letter, Class, MemberOf, bar, Members, SetOf, isMark, markOf, Marked}
-use Rattle.syntax.specs.Syntax.{namestart, namefollower, Followers, Name}
-use Rattle.syntax.specs.Syntax.Word.{word-end, word-char}
+use Rattle.syntax.specs.Syntax.{chr, Is, is, ch, quote, capital, letter, bar, isMark, namestart, namefollower, S, String, CharsOf, SetOf, Marked, Followers, Name, Qchar, Qchars, Digits, Hex, Character, MemberOf, Members, Word, digit, markOf, plain, digitValue, Class}
+use Rattle.syntax.specs.Result.{hd, tl, Result, ok, fail, when, map, guard}
+use Rattle.syntax.specs.Spacing.{skip}
+use lib.ListN.{length}
+use Rattle.tree.specs.Tree.{Chars, Member, string, hex, range, class}
+use Rattle.syntax.specs.Syntax.SetOf.{set-none, set-some}
+use Rattle.syntax.specs.Syntax.Marked.{mark-none, mark-some}
+use Rattle.syntax.specs.Syntax.CharsOf.{c-string, c-hex}
+use Rattle.syntax.specs.Syntax.Followers.{f-none, f-next}
+use Rattle.syntax.specs.Syntax.Name.{a-name}
 use Rattle.syntax.specs.Syntax.Qchar.{q-plain, q-doubled}
 use Rattle.syntax.specs.Syntax.Qchars.{q-last, q-next}
 use Rattle.syntax.specs.Syntax.String.{a-string}
 use Rattle.syntax.specs.Syntax.Digits.{d-last, d-next}
 use Rattle.syntax.specs.Syntax.Hex.{a-hex}
-use Rattle.syntax.specs.Syntax.CharsOf.{c-string, c-hex}
 use Rattle.syntax.specs.Syntax.Character.{one-char, one-hex}
 use Rattle.syntax.specs.Syntax.Class.{c-one, c-two}
 use Rattle.syntax.specs.Syntax.MemberOf.{m-chars, m-range, m-class}
 use Rattle.syntax.specs.Syntax.Members.{m-last, m-next}
-use Rattle.syntax.specs.Syntax.SetOf.{set-none, set-some}
-use Rattle.syntax.specs.Syntax.Marked.{mark-none, mark-some}
-use Rattle.syntax.specs.Syntax.Followers.{f-none, f-next}
-use Rattle.syntax.specs.Syntax.Name.{a-name}
-use Rattle.syntax.specs.Result.{Result, ok, fail, hd, tl, when, then, map, guard, expect}
-use Rattle.syntax.specs.Spacing.{skip, spaced}
-use Rattle.syntax.specs.Lexical.{read-word, quoted, nonempty, read-string, digits, read-hex, read-chars, one-character, read-character, read-class, range-or, read-member, separated, alone, members, read-set, read-mark}
-use Rattle.syntax.specs.Lexical.{run, read-name, ending, last-dot, but-last, less-dot, read-use}
+use Rattle.syntax.specs.Syntax.Word.{word-end, word-char}
+use Rattle.syntax.specs.Lexical.{read-word, read-string, read-chars, read-set, read-mark, read-name, read-use, ending, separated, quoted, nonempty, digits, read-hex, one-character, read-character, read-class, range-or, read-member, alone, members, run, last-dot, but-last, less-dot}
 use Rattle.syntax.proofs.Classes.{clash, and-left, and-right, chr-at, is-at, ch-end, quote-end, capital-end, letter-end, bar-end, mark-end, namestart-end}
-use Rattle.syntax.proofs.Holds.{Holds, none, some, holds-when, holds-guard, holds-expect, holds-then, holds-map, weaken}
+use Rattle.syntax.proofs.Holds.{Holds, holds-when, holds-guard, holds-expect, holds-then, holds-map, weaken, none, some}
 use Rattle.syntax.proofs.SpacingLaws.{sound-spaced, holds-skip}
 
 -- a word of code points

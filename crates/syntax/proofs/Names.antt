@@ -1,24 +1,21 @@
 -- What follows in a rule's body, and names there: whether a run's last dot is the name's or the rule's.
-use native.Mathlib.Omega.{arith}
 use mathlib.Core.Bool.{Bool, true, false, not, _&&_, _||_}
-use mathlib.Core.Path.{_≡_, refl, sym, ap, _∙_}
-use mathlib.Core.Logic.{_⊎_, inl, inr, ⊎-elim}
+use mathlib.Core.Path.{_≡_, refl, sym, ap}
 use mathlib.Core.List.{List, [], _∷_, _++_}
-use Prim.Native.Nat.{ℕ, zero, suc, _<_, _≤_}
-use lib.ListN.{length}
+use Prim.Native.Nat.{ℕ}
 use borrow.Author.Tests.{eqb-true}
 use Rattle.text.specs.Lists.{Text, chars, all, among}
-use Rattle.category.specs.Category as category
-use Rattle.syntax.specs.Syntax.{Chr, chr, Is, is, ch, S, RS, quote, digit, capital, letter, isMark, namestart, namefollower, Followers, Name}
+use Rattle.syntax.specs.Syntax.{chr, ch, quote, capital, letter, isMark, namestart, namefollower, S, Followers, Name, digit}
+use Rattle.syntax.specs.Result.{hd, tl, ok, when, map, guard}
+use Rattle.syntax.specs.Spacing.{spacing, skip}
+use mathlib.Core.Logic.{⊎-elim}
 use Rattle.syntax.specs.Syntax.Followers.{f-none, f-next}
 use Rattle.syntax.specs.Syntax.Name.{a-name}
-use Rattle.syntax.specs.Result.{Result, ok, fail, hd, tl, when, then, map, guard, expect}
-use Rattle.syntax.specs.Spacing.{skip, spacing}
-use Rattle.syntax.specs.Lexical.{run, read-name, ended, ending, last-dot, but-last, less-dot, read-use}
+use Rattle.syntax.specs.Lexical.{read-name, read-use, ending, run, last-dot, but-last, less-dot, ended}
 use Rattle.syntax.specs.Parser.{starts}
-use Rattle.syntax.proofs.Classes.{clash, and-false, at-ch, among-at, none-of, among-not, spacings, no-spacing, spacing-not}
-use Rattle.syntax.proofs.SpacingLaws.{complete-s, head-s, head-rs, rs-s}
-use Rattle.syntax.proofs.LexicalComplete.{joins, before-s}
+use Rattle.syntax.proofs.Classes.{by-category, clash, and-false, at-ch, among-at, none-of, among-not, no-spacing, spacing-not}
+use Rattle.syntax.proofs.SpacingLaws.{complete-s, head-s}
+use Rattle.syntax.proofs.LexicalComplete.{joins}
 
 -- 1. FOLLOW sets. After a full stop comes what ends a rule.
 pub record Ending (w : Text) : Type 0 where
@@ -66,7 +63,7 @@ unfolding joins quote digit letter capital
 follows-joins f = follows-not joins refl f
 
 pub follows-starts : {u : Text} → Follows after-alt u → starts (hd u) ≡ false
-unfolding starts namestart category.inClass category.categoryOf category.look category.ranges
+unfolding starts namestart by-category
 follows-starts f = follows-not starts refl f
 
 -- 2. Runs.
@@ -81,7 +78,7 @@ run-end {u = u} f-none e = run-stops u e
 run-end (f-next (chr p) f) e = rw (p, run-end f e)
 
 dot-follower : namefollower 0x2e ≡ true
-unfolding namefollower namestart category.inClass category.categoryOf category.look category.ranges
+unfolding namefollower namestart by-category
 dot-follower = refl
 
 run-dot : {t u cs : Text} (w : Text) → Followers t u cs → u ≡ 0x2e ∷ w → namefollower (hd w) ≡ false → run t ≡ ok (cs ++ 0x2e ∷ []) w
@@ -108,7 +105,7 @@ dot-cons (c ∷ w) e = ap (λ (k : ℕ). k ∷ w) (eqb-true c 0x2e e)
 
 -- 3. A name in a body.
 follows-ended : (u : Text) → Follows after-factor u → ended u ≡ false
-unfolding ended isMark namestart category.inClass category.categoryOf category.look category.ranges
+unfolding ended isMark namestart by-category
 follows-ended [] f = absurd (clash refl (f .one-of))
 follows-ended (c ∷ u) f = follows-not {u = c ∷ u} (λ k. isMark k || namestart k) refl f
 
@@ -122,12 +119,12 @@ less-a-dot {u = u} {cs = cs} f a e = let z = a .dot e in
     rw (run-dot (tl u) f (dot-cons u e) (z .stops), dot-last cs, z .ends, dot-less cs) (ap (λ (x : Text). ok cs x) (sym (dot-cons u e)))
 
 pub spacing-follower : (c : ℕ) → spacing c ≡ true → namefollower c ≡ false
-unfolding namefollower namestart category.inClass category.categoryOf category.look category.ranges
+unfolding namefollower namestart by-category
 spacing-follower c e = spacing-not namefollower c refl e
 
 -- of what follows a factor, only the full stop goes on with a name
 only-dot : (c : ℕ) → among c after-factor ≡ true → not (ch 0x2e c) && namefollower c ≡ false
-unfolding ch namefollower namestart category.inClass category.categoryOf category.look category.ranges
+unfolding ch namefollower namestart by-category
 only-dot c e = among-not after-factor (λ k. not (ch 0x2e k) && namefollower k) c refl e
 
 no-dot : (c : ℕ) → among c after-factor ≡ true → ch 0x2e c ≡ false → namefollower c ≡ false
@@ -151,10 +148,3 @@ before-follower {u} s e = ⊎-elim (λ q. rw q e) (λ q. spacing-follower (hd u)
 pub complete-name : {t u cs : Text} → Name t u cs → namefollower (hd u) ≡ false → read-name t ≡ ok cs u
 unfolding read-name guard map
 complete-name (a-name (chr p) f) e = rw (p, run-end f e)
-
-short-followers : {t u cs : Text} → Followers t u cs → length u ≤ length t
-short-followers f-none = omega arith
-short-followers (f-next (chr p) f) = let h = short-followers f in omega arith
-
-pub short-name : {t u cs : Text} → Name t u cs → length u < length t
-short-name (a-name (chr p) f) = let h = short-followers f in omega arith

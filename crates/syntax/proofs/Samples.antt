@@ -1,20 +1,23 @@
 -- Grammar texts, read by computing.
-use mathlib.Core.Bool.{Bool, true, false, not, _&&_}
+use mathlib.Core.Bool.{Bool, true, false, not}
 use mathlib.Core.Path.{_≡_, refl}
-use mathlib.Core.List.{List, [], _∷_, _++_}
+use mathlib.Core.List.{[], _∷_, _++_}
 use Prim.Native.Nat.{ℕ, zero, suc}
 use Prim.Native.String.{String}
 use Rattle.text.specs.Lists.{Text, chars, all}
 use Rattle.category.specs.Category as category
-use Rattle.tree.specs.Tree.{Mark, unmarked, included, attribute, deleted, Chars, string, hex, Member, range, class, Terminal, literal, inclusion, exclusion, insertion}
-use Rattle.tree.specs.Tree.{Symbol, terminal, nonterminal, group, option, repeat0, repeat1, repeat0sep, repeat1sep, Alternative, nil, cons, Body, one, also, Rule, Prolog, no-prolog, version, Grammar}
+use Rattle.tree.specs.Tree.{Grammar, unmarked, string, hex, range, class, literal, exclusion}
+use Rattle.tree.specs.Tree.{Symbol, terminal, nonterminal, repeat0, one, no-prolog, version}
 use Rattle.tree.specs.Tree as tree
 use Rattle.syntax.specs.Syntax as s
+use Rattle.syntax.specs.Syntax.{Ixml}
 use Rattle.syntax.specs.Result as r
 use Rattle.syntax.specs.Spacing as p
 use Rattle.syntax.specs.Lexical as l
 use Rattle.syntax.specs.Parser as g
 use Rattle.syntax.specs.Parser.{Parsed, parsed, no-parse, parse, rule, grammar, single}
+use Rattle.syntax.proofs.Classes.{clash}
+use Rattle.syntax.proofs.Sound.{sound}
 
 -- to unfold this is to unfold the reader
 computing : Unit {0}
@@ -167,3 +170,15 @@ own =
 own-accepted : accepts (parse own) ≡ true
 unfolding computing accepts own
 own-accepted = refl
+
+-- what is accepted is derived: the grammar of ixml derives its own text
+derived : (t : Text) → accepts (parse t) ≡ true → (g : Grammar) × Ixml t g
+unfolding accepts
+derived t = go (parse t) refl
+  where
+    go : (x : Parsed) → parse t ≡ x → accepts x ≡ true → (g : Grammar) × Ixml t g
+    go (parsed g) e a = (g, sound t g e)
+    go no-parse e a = absurd (clash refl a)
+
+own-derived : (g : Grammar) × Ixml own g
+own-derived = derived own own-accepted

@@ -1,15 +1,16 @@
 -- What the reader accepts, the grammar derives, with the same tree.
-use mathlib.Core.Bool.{Bool, true, false, not, _&&_, _||_}
+use mathlib.Core.Bool.{Bool, true, false, _||_}
 use mathlib.Core.Path.{_≡_, refl}
 use mathlib.Core.List.{List, [], _∷_}
-use Prim.Native.Nat.{ℕ, zero, suc, _+_, _*_}
+use Prim.Native.Nat.{ℕ, zero, suc}
 use lib.Dec.{eqb}
-use lib.ListN.{length}
-use Rattle.text.specs.Limits.{levels}
 use Rattle.text.specs.Lists.{Text, chars, pick}
-use Rattle.tree.specs.Tree.{Mark, unmarked, included, attribute, deleted, Terminal, literal, inclusion, exclusion, insertion}
-use Rattle.tree.specs.Tree.{Symbol, terminal, nonterminal, group, option, repeat0, repeat1, repeat0sep, repeat1sep, Alternative, nil, cons, Body, one, also, Rule, Prolog, no-prolog, version, Grammar}
-use Rattle.syntax.specs.Syntax.{Chr, chr, Is, is, ch, Word, S, RS, bar, isMark, isTmark, markOf, Marked, namestart, TerminalOf, Alts, Alt, Terms, Term, Factor, defines, RuleOf, Rules, PrologOf, Ixml}
+use Rattle.syntax.specs.Syntax.{chr, Is, ch, bar, isMark, defines, namestart, S, RS, Marked, TerminalOf, Alts, Alt, Terms, Term, Factor, RuleOf, Word, markOf, plain, isTmark, Rules, PrologOf, Ixml}
+use Rattle.syntax.specs.Result.{hd, tl, Result, ok, fail}
+use Rattle.syntax.specs.Spacing.{spacing}
+use Rattle.text.specs.Limits.{levels}
+use lib.ListN.{length}
+use Rattle.tree.specs.Tree.{Mark, Symbol, Rule, included, attribute, deleted, literal, inclusion, exclusion, insertion, terminal, nonterminal, group, option, repeat0, repeat1, repeat0sep, repeat1sep, cons, one, also, version, Grammar}
 use Rattle.syntax.specs.Syntax.Marked.{mark-none, mark-some}
 use Rattle.syntax.specs.Syntax.TerminalOf.{t-literal, t-inclusion, t-exclusion, t-insertion}
 use Rattle.syntax.specs.Syntax.Alts.{alts-one, alts-also}
@@ -21,15 +22,11 @@ use Rattle.syntax.specs.Syntax.RuleOf.{a-rule}
 use Rattle.syntax.specs.Syntax.Rules.{rules-none, rules-next}
 use Rattle.syntax.specs.Syntax.PrologOf.{prolog-none, prolog-some}
 use Rattle.syntax.specs.Syntax.Ixml.{ixml}
-use Rattle.syntax.specs.Result.{Result, ok, fail, hd, tl, when, then, map, guard, expect}
-use Rattle.syntax.specs.Spacing.{skip, spacing, required, spaced}
-use Rattle.syntax.specs.Lexical.{read-word, read-string, read-chars, read-set, read-mark, read-name, read-use, separated}
-use Rattle.syntax.specs.Parser.{read-terminal, read-insertion, read-nonterminal, tmark, marked, read-plain, repeated, suffix, under, starts, single, alts, terms, term, factor, enough, rule, read-rule, at-end, rules, heading, after-heading, read-prolog, grammar, read-ixml}
-use Rattle.syntax.specs.Parser.{Parsed, parsed, no-parse, answer, parse}
-use Rattle.syntax.proofs.Classes.{clash, chr-at, is-at, ch-end, bar-end, defines-end}
-use Rattle.syntax.proofs.Holds.{Holds, none, some, holds-when, holds-guard, holds-expect, holds-then, holds-map, weaken, taken}
-use Rattle.syntax.proofs.SpacingLaws.{sound-s, sound-rs, sound-spaced, holds-skip, as-rs}
-use Rattle.syntax.proofs.LexicalSound.{sound-word, sound-string, sound-chars, sound-set, sound-mark, sound-name, sound-use, sound-separated}
+use Rattle.syntax.specs.Parser.{read-terminal, read-insertion, read-nonterminal, tmark, marked, read-plain, repeated, suffix, under, starts, single, alts, terms, term, factor, enough, read-rule, at-end, rules, heading, after-heading, read-prolog, grammar, read-ixml, Parsed, parsed, no-parse, answer, parse}
+use Rattle.syntax.proofs.Classes.{clash, is-at, ch-end, bar-end, defines-end}
+use Rattle.syntax.proofs.Holds.{Holds, holds-when, holds-guard, holds-expect, holds-then, holds-map, weaken, taken, none, some}
+use Rattle.syntax.proofs.SpacingLaws.{sound-s, as-rs, sound-rs, sound-spaced, holds-skip}
+use Rattle.syntax.proofs.LexicalSound.{sound-word, sound-string, sound-chars, sound-separated, sound-set, sound-mark, sound-name, sound-use}
 
 -- 1. Factors that are no brackets.
 module _ (t u : Text) (m : Mark) (p : Marked isTmark t u m) where

@@ -1,32 +1,30 @@
 -- The skipper finds what the grammar derives, where what follows is no spacing, and nothing else.
 use native.Mathlib.Omega.{arith}
-use mathlib.Core.Bool.{Bool, true, false, not, _&&_, _||_}
-use mathlib.Core.Path.{_≡_, refl, sym, ap, subst, _∙_}
-use mathlib.Core.Logic.{_⊎_, inl, inr, ⊎-elim}
-use mathlib.Core.List.{List, [], _∷_}
-use Prim.Native.Nat.{ℕ, zero, suc, _+_, _<_, _≤_}
+use mathlib.Core.Bool.{Bool, true, false, not, _||_}
+use mathlib.Core.Path.{_≡_, refl, _∙_, subst}
+use mathlib.Core.List.{[], _∷_}
+use Prim.Native.Nat.{ℕ, zero, suc, _+_}
 use lib.Dec.{eqb}
-use lib.ListN.{length}
 use borrow.Author.Tests.{eqb-true}
+use Rattle.text.specs.Lists.{Text, pick}
+use Rattle.syntax.specs.Syntax.{Is, is, ch, whitespace, S, cchar, Comment, Inside, RS}
+use Rattle.syntax.specs.Result.{hd, Result, ok, then, map, guard}
+use Rattle.syntax.specs.Spacing.{spacing, white, opening, closing, other, kind, step, scan, skip, required, spaced}
+use mathlib.Core.Logic.{_⊎_, inl, inr}
 use Rattle.text.specs.Limits.{levels}
-use Rattle.text.specs.Lists.{Text, pick, among, chars}
-use Rattle.category.specs.Category as category
-use Rattle.syntax.specs.Syntax.{Is, is, ch, whitespace, cchar, Comment, Inside, S, RS}
 use Rattle.syntax.specs.Syntax.Comment.{comment}
 use Rattle.syntax.specs.Syntax.Inside.{in-none, in-char, in-comment}
 use Rattle.syntax.specs.Syntax.S.{s-none, s-white, s-comment}
 use Rattle.syntax.specs.Syntax.RS.{rs-white, rs-comment}
-use Rattle.syntax.specs.Result.{Result, ok, fail, hd, tl, when, then, map, guard}
-use Rattle.syntax.specs.Spacing.{Kind, white, opening, closing, other, kind, step, scan, skip, spacing, required, spaced}
-use Rattle.syntax.proofs.Classes.{clash, differ, or-true, spacings, spacing-list, spacing-not}
-use Rattle.syntax.proofs.Holds.{Holds, none, some, holds-guard, holds-then, holds-map, weaken, taken}
+use Rattle.syntax.proofs.Classes.{by-category, clash, or-true, differ}
+use Rattle.syntax.proofs.Holds.{Holds, holds-guard, holds-then, holds-map, weaken, none, some}
 
 -- 1. Kinds of characters.
 white-not : (c k : ℕ) → whitespace k ≡ false → whitespace c ≡ true → eqb c k ≡ false
 white-not c k p e = differ whitespace c k p e
 
 brace-not-white : (whitespace 0x7b ≡ false) × (whitespace 0x7d ≡ false)
-unfolding whitespace category.inClass category.categoryOf category.look category.ranges
+unfolding whitespace by-category
 brace-not-white = (refl, refl)
 
 kind-white : (c : ℕ) → whitespace c ≡ true → kind c ≡ white
@@ -108,7 +106,7 @@ unfolding spacing ch
 open-spacing c e = rw e
 
 pub spacing-end : spacing 0x110000 ≡ false
-unfolding spacing whitespace category.inClass category.categoryOf category.look category.ranges
+unfolding spacing whitespace by-category
 spacing-end = refl
 
 pub head-rs : {t u : Text} → RS t u → spacing (hd t) ≡ true
@@ -132,26 +130,7 @@ pub complete-spaced : {A : Type 0} {t u : Text} (v : A) → S t u → spacing (h
 unfolding spaced map
 complete-spaced v r e = rw (complete-s r e)
 
--- 5. What is left is shorter.
-mutual
-  short-comment : {d : ℕ} {t u : Text} → Comment d t u → length u < length t
-  short-comment (comment (is p) b (is q)) = let h = short-inside b in omega arith
-
-  short-inside : {d : ℕ} {t u : Text} → Inside d t u → length u ≤ length t
-  short-inside in-none = omega arith
-  short-inside (in-char (is p) b) = let h = short-inside b in omega arith
-  short-inside (in-comment c b) = let h = short-inside b in let k = short-comment c in omega arith
-
-pub short-s : {t u : Text} → S t u → length u ≤ length t
-short-s s-none = omega arith
-short-s (s-white (is p) s) = let h = short-s s in omega arith
-short-s (s-comment c s) = let h = short-s s in let k = short-comment c in omega arith
-
-pub short-rs : {t u : Text} → RS t u → length u < length t
-short-rs (rs-white (is p) s) = let h = short-s s in omega arith
-short-rs (rs-comment c s) = let h = short-s s in let k = short-comment c in omega arith
-
--- 6. Sound. Inside k comments where d more may open, t leads to u.
+-- 5. Sound. Inside k comments where d more may open, t leads to u.
 data Within : ℕ → ℕ → Text → Text → Type 0 where
   out : {d : ℕ} {t u : Text} → S t u → spacing (hd u) ≡ false → Within zero d t u
   deep : {k d : ℕ} {t v w u : Text} → Inside d t v → Is (ch 0x7d) v w → Within k (suc d) w u → Within (suc k) d t u

@@ -1,16 +1,16 @@
 -- The steps of the cycle at any sufficient bound. `again` stands for the call on a shorter text.
 use native.Mathlib.Omega.{arith}
-use mathlib.Core.Bool.{Bool, true, false}
-use mathlib.Core.Path.{_≡_, refl}
-use Prim.Native.Nat.{ℕ, zero, suc, _+_, _*_, _<_, _≤_}
-use lib.ListN.{length}
+use mathlib.Core.Bool.{true, false}
+use mathlib.Core.Path.{_≡_}
+use Prim.Native.Nat.{ℕ, zero, suc, _<_}
 use Rattle.text.specs.Lists.{Text}
-use Rattle.tree.specs.Tree.{Symbol, group, Alternative, nil, cons, Body, one, also}
 use Rattle.syntax.specs.Syntax.{ch, bar}
-use Rattle.syntax.specs.Result.{Result, ok, fail, hd, tl, when, then, expect}
+use Rattle.syntax.specs.Result.{hd, tl, Result, ok, when, then, expect}
 use Rattle.syntax.specs.Spacing.{skip, spaced}
+use lib.ListN.{length}
+use Rattle.tree.specs.Tree.{Symbol, Alternative, Body, group, cons, one, also, nil}
 use Rattle.syntax.specs.Lexical.{separated}
-use Rattle.syntax.specs.Parser.{read-plain, suffix, under, starts, single, alts, terms, term, factor, Alts=, Alt=, Terms=, Term=, Factor=}
+use Rattle.syntax.specs.Parser.{read-plain, suffix, under, starts, single, alts, terms, factor, Alts=, Alt=, Terms=, Term=, Factor=}
 
 -- the function agrees with the claim on texts shorter than t
 abbrev pub Agrees : {A : Type 0} → (Text → Result A → Type 0) → Text → (Text → Result A) → Type 0

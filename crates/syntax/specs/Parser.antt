@@ -1,6 +1,6 @@
 -- The reader of the grammar text. The first argument of a function of the cycle bounds how deep its calls go: four for each
 -- character left are enough. The second is how many brackets more may open.
-use mathlib.Core.Bool.{Bool, true, false, _&&_, _||_}
+use mathlib.Core.Bool.{Bool, true, false, _||_}
 use mathlib.Core.Path.{_≡_}
 use mathlib.Core.List.{List, [], _∷_}
 use Prim.Native.Nat.{ℕ, zero, suc, _+_, _*_, _≤_}

@@ -1,6 +1,6 @@
 -- What a function of the reader answers: a value and the text that follows it, or a failure.
 use mathlib.Core.Bool.{Bool, true, false}
-use mathlib.Core.List.{List, [], _∷_}
+use mathlib.Core.List.{[], _∷_}
 use Prim.Native.Nat.{ℕ}
 use Rattle.text.specs.Lists.{Text}
 
