@@ -30,7 +30,7 @@ use Rattle.syntax.proofs.Sound.{Headed, sound-heading, sound}
 use Rattle.syntax.proofs.LexicalComplete.{joins, joins-s, complete-word, complete-string, first-chars, opens-spacing}
 use Rattle.syntax.proofs.Names.{Ending, Follows, after-alts, spacing-follower, before-follower, complete-name}
 use Rattle.syntax.proofs.Plain.{front, behind-mark, no-bracket, front-name, front-among, front-wider, front-starts, starts-spacing, name-start, mark-read}
-use Rattle.syntax.proofs.Cycle.{first-alts, c-alts}
+use Rattle.syntax.proofs.Cycle.{first-alts, complete-alts}
 
 -- 1. Rules.
 mark-front : (c : ℕ) → isMark c ≡ true → front (chars "@^-") c ≡ true
@@ -75,24 +75,24 @@ marks-read p n = mark-read p (front-name behind-mark _ (name-start n))
 name-read : {t u v n : Text} → Name t u n → S u v → defines (hd v) ≡ true → read-name t ≡ ok n u
 name-read n s e = complete-name n (before-follower s (defines-follower _ e))
 
-c-rule : {t u : Text} {r : Rule} → RuleOf t u r → Ending u → read-rule t ≡ ok r u
+complete-rule : {t u : Text} {r : Rule} → RuleOf t u r → Ending u → read-rule t ≡ ok r u
 unfolding read-rule then expect guard
-c-rule (a-rule {y = y} p n s (is c) s' a (is q)) z =
+complete-rule (a-rule {y = y} p n s (is c) s' a (is q)) z =
     let f = at-dot q z in
-    rw (marks-read p n, name-read n s c, complete-s s (defines-spacing _ c), c, complete-s s' (first-alts a (ch-spacing 0x2e _ refl q)), c-alts a f (enough y) (omega arith), q)
+    rw (marks-read p n, name-read n s c, complete-s s (defines-spacing _ c), c, complete-s s' (first-alts a (ch-spacing 0x2e _ refl q)), complete-alts a f (enough y) (omega arith), q)
 
 ending-rules : {t u : Text} {rs : List Rule} → Rules t u rs → S u [] → Ending t
 unfolding ending ended
 ending-rules rules-none s = record { stops = before-follower s namefollower-end; ends = rw (complete-s s spacing-end) }
 ending-rules (rules-next {u = u} b r q) s = record { stops = spacing-follower _ (head-rs b); ends = rw (complete-s (rs-s b) (rule-spacing r)) (rule-ended u (first-rule r)) }
 
-c-rules : {t u : Text} {rs : List Rule} → Rules t u rs → S u [] → (n : ℕ) → length t < n → rules n t ≡ ok rs []
+complete-rules : {t u : Text} {rs : List Rule} → Rules t u rs → S u [] → (n : ℕ) → length t < n → rules n t ≡ ok rs []
 unfolding rules then map guard at-end
-c-rules r s zero h = absurd (omega arith)
-c-rules rules-none s (suc n) h = rw (complete-s s spacing-end)
-c-rules (rules-next {u = u} b r q) s (suc n) h =
+complete-rules r s zero h = absurd (omega arith)
+complete-rules rules-none s (suc n) h = rw (complete-s s spacing-end)
+complete-rules (rules-next {u = u} b r q) s (suc n) h =
     let i = short-rs b in let j = short-rule r in
-    rw (complete-s (rs-s b) (rule-spacing r), rule-no-end u _ _ (first-rule r), head-rs b, c-rule r (ending-rules q s), c-rules q s n (omega arith))
+    rw (complete-s (rs-s b) (rule-spacing r), rule-no-end u _ _ (first-rule r), head-rs b, complete-rule r (ending-rules q s), complete-rules q s n (omega arith))
 
 -- 2. The prolog. No rule begins as one does.
 word-followers : {w t u : Text} → all namefollower w ≡ true → Word w t u → (cs : Text) × Followers t u cs
@@ -150,10 +150,10 @@ dot-joins c e = at-ch joins false 0x2e c refl e
 first-string : {t u k : Text} → String t u k → spacing (hd t) ≡ false
 first-string h = opens-spacing _ (first-chars (c-string h))
 
-c-prolog : {t u v : Text} {p : Prolog} {r : Rule} → PrologOf t u p → RuleOf u v r → read-prolog t ≡ ok p u
+complete-prolog : {t u v : Text} {p : Prolog} {r : Rule} → PrologOf t u p → RuleOf u v r → read-prolog t ≡ ok p u
 unfolding read-prolog heading after-heading then expect guard
-c-prolog prolog-none r = rw (heading-fails r)
-c-prolog (prolog-some {k = k} h s h' s' c s'' (is d) z) r =
+complete-prolog prolog-none r = rw (heading-fails r)
+complete-prolog (prolog-some {k = k} h s h' s' c s'' (is d) z) r =
     rw (complete-word h, complete-rs s (v-spacing h'), complete-word h', complete-rs s' (first-string c), complete-string c (joins-s s'' (dot-joins _ d)), complete-s s'' (ch-spacing 0x2e _ refl d), d)
     (complete-spaced (version k) z (rule-spacing r))
 
@@ -165,7 +165,7 @@ first-prolog (prolog-some h s h' s' c s'' d z) r = ch-spacing 0x69 _ refl (first
 pub complete : (t : Text) (g : Grammar) → Ixml t g → parse t ≡ parsed g
 unfolding parse answer read-ixml then map
 complete t g (ixml {w = w} s p r rs e) =
-    rw (complete-s s (first-prolog p r), c-prolog p r, c-rule r (ending-rules rs e), c-rules rs e (suc (length w)) (omega arith))
+    rw (complete-s s (first-prolog p r), complete-prolog p r, complete-rule r (ending-rules rs e), complete-rules rs e (suc (length w)) (omega arith))
 
 pub unique : (t : Text) (g g' : Grammar) → Ixml t g → Ixml t g' → g ≡ g'
 unique t g g' p q = let a = complete t g p in let b = complete t g' q in cc

@@ -6,7 +6,7 @@ use mathlib.Core.List.{_∷_}
 use Prim.Native.Nat.{ℕ, suc, _<_}
 use lib.Dec.{eqb}
 use Rattle.text.specs.Lists.{Text, chars}
-use Rattle.syntax.specs.Syntax.{Is, is, ch, bar, S, Alts, Alt, Terms, Term, Factor, plain}
+use Rattle.syntax.specs.Syntax.{Is, is, ch, bar, S, Alts, Alt, Terms, Term, Factor}
 use Rattle.syntax.specs.Result.{hd, tl, Result, ok, when, then, map, guard, expect}
 use Rattle.syntax.specs.Spacing.{spacing, spaced}
 use lib.ListN.{length}
@@ -23,7 +23,7 @@ use Rattle.syntax.proofs.Shorter.{short-s, short-alt, short-term, short
 use Rattle.syntax.proofs.LexicalComplete.{before-s, separated-last, separated-more}
 use Rattle.syntax.proofs.Names.{Follows, after-alts, after-alt, after-term, after-factor, wider, follows-not, head-among, head-ch, follows-spacing, follows-starts}
 use Rattle.syntax.proofs.Steps.{alt-none=, alt-some=, alts-step, terms-step, term-step, factor-plain, factor-step}
-use Rattle.syntax.proofs.Plain.{front-starts, starts-round, starts-spacing, front-round, c-terminal, first-terminal, first-nonterminal, c-nonterminal}
+use Rattle.syntax.proofs.Plain.{front-starts, starts-round, starts-spacing, front-round, complete-terminal, first-terminal, first-nonterminal, complete-nonterminal}
 
 -- 1. Repetitions.
 module _ (g : Text → Result Symbol) (v : Symbol) (u : Text) where
@@ -123,43 +123,43 @@ complete-group {t} {v = v} {w = w} {y = y} {b = b} d (is p) s e a (is q) s' f =
 mutual
   unfolding then map
 
-  pub c-alts : {d : ℕ} {t u : Text} {b : Body} → Alts d t u b → Follows after-alts u → Alts= d t (ok b u)
-  c-alts (alts-one {d = d} {t = t} {u = u} {a = a} p) f =
-      alts-step d t (ok a u) (ok (one a) u) (c-alt p (wider after-alt refl f)) (λ g _. separated-last bar also one g a u (alts-bar f))
-  c-alts (alts-also {d = d} {t = t} {u = u} {w = w} {x = x} {a = a} {b = b} p (is q) s r) f =
+  pub complete-alts : {d : ℕ} {t u : Text} {b : Body} → Alts d t u b → Follows after-alts u → Alts= d t (ok b u)
+  complete-alts (alts-one {d = d} {t = t} {u = u} {a = a} p) f =
+      alts-step d t (ok a u) (ok (one a) u) (complete-alt p (wider after-alt refl f)) (λ g _. separated-last bar also one g a u (alts-bar f))
+  complete-alts (alts-also {d = d} {t = t} {u = u} {w = w} {x = x} {a = a} {b = b} p (is q) s r) f =
       let i = short-alt p in let j = short-s s in
-      alts-step d t (ok a u) (ok (also a b) x) (c-alt p (at-bar q)) (λ g k. separated-more bar also one g a u w (ok b x) q (complete-s s (first-alts r (follows-spacing (alts-end f)))) (k w (ok b x) (omega arith) (c-alts r f)))
+      alts-step d t (ok a u) (ok (also a b) x) (complete-alt p (at-bar q)) (λ g k. separated-more bar also one g a u w (ok b x) q (complete-s s (first-alts r (follows-spacing (alts-end f)))) (k w (ok b x) (omega arith) (complete-alts r f)))
 
-  c-alt : {d : ℕ} {t u : Text} {a : Alternative} → Alt d t u a → Follows after-alt u → Alt= d t (ok a u)
-  c-alt (alt-none {d = d} {t = t}) f = alt-none= d t (follows-starts f)
-  c-alt (alt-some {d = d} {t = t} ts) f = alt-some= d t _ (first-terms ts) (c-terms ts f)
+  complete-alt : {d : ℕ} {t u : Text} {a : Alternative} → Alt d t u a → Follows after-alt u → Alt= d t (ok a u)
+  complete-alt (alt-none {d = d} {t = t}) f = alt-none= d t (follows-starts f)
+  complete-alt (alt-some {d = d} {t = t} ts) f = alt-some= d t _ (first-terms ts) (complete-terms ts f)
 
-  c-terms : {d : ℕ} {t u : Text} {a : Alternative} → Terms d t u a → Follows after-alt u → Terms= d t (ok a u)
-  c-terms (terms-one {d = d} {t = t} {u = u} {f = v} p) f =
-      terms-step d t (ok v u) (ok (single v) u) (c-term p (wider after-term refl f)) (λ g _. separated-last (ch 0x2c) cons single g v u (alt-comma f))
-  c-terms (terms-more {d = d} {t = t} {u = u} {w = w} {x = x} {f = v} {a = a} p (is q) s r) f =
+  complete-terms : {d : ℕ} {t u : Text} {a : Alternative} → Terms d t u a → Follows after-alt u → Terms= d t (ok a u)
+  complete-terms (terms-one {d = d} {t = t} {u = u} {f = v} p) f =
+      terms-step d t (ok v u) (ok (single v) u) (complete-term p (wider after-term refl f)) (λ g _. separated-last (ch 0x2c) cons single g v u (alt-comma f))
+  complete-terms (terms-more {d = d} {t = t} {u = u} {w = w} {x = x} {f = v} {a = a} p (is q) s r) f =
       let i = short-term p in let j = short-s s in
-      terms-step d t (ok v u) (ok (cons v a) x) (c-term p (head-ch 0x2c after-term refl (ch-not 0x2e 0x2c refl) q))
-      (λ g k. separated-more (ch 0x2c) cons single g v u w (ok a x) q (complete-s s (starts-spacing _ (first-terms r))) (k w (ok a x) (omega arith) (c-terms r f)))
+      terms-step d t (ok v u) (ok (cons v a) x) (complete-term p (head-ch 0x2c after-term refl (ch-not 0x2e 0x2c refl) q))
+      (λ g k. separated-more (ch 0x2c) cons single g v u w (ok a x) q (complete-s s (starts-spacing _ (first-terms r))) (k w (ok a x) (omega arith) (complete-terms r f)))
 
-  c-term : {d : ℕ} {t u : Text} {f : Symbol} → Term d t u f → Follows after-term u → Term= d t (ok f u)
-  c-term (t-factor {d = d} {t = t} {u = u} {f = v} p) f =
-      term-step d t (ok v u) (ok v u) (c-factor p (term-end f)) (λ g _. suffix-none g v u (term-sign 0x3f refl f) (term-sign 0x2a refl f) (term-sign 0x2b refl f))
-  c-term (t-option {d = d} {t = t} {u = u} {w = w} {f = v} p (is i) s) f =
-      term-step d t (ok v u) (ok (option v) w) (c-factor p (head-ch 0x3f after-factor refl (ch-not 0x2e 0x3f refl) i)) (λ g _. suffix-option g v u i ∙ complete-spaced (option v) s (follows-spacing (term-end f)))
-  c-term (t-repeat0 {d = d} {t = t} p (is i) s) f =
-      repeat-plain 0x2a repeat0 repeat0sep suffix-star d t (c-factor p (head-ch 0x2a after-factor refl (ch-not 0x2e 0x2a refl) i)) (is i) s (no-sign 0x2a refl) (term-sign 0x2a refl f) (follows-spacing (term-end f))
-  c-term (t-repeat0sep {d = d} {t = t} p (is i) j s q) f =
-      repeat-sep 0x2a repeat0 repeat0sep suffix-star d t (c-factor p (head-ch 0x2a after-factor refl (ch-not 0x2e 0x2a refl) i)) (short-factor p) (is i) j s (c-factor q (term-end f)) (first-factor q)
-  c-term (t-repeat1 {d = d} {t = t} p (is i) s) f =
-      repeat-plain 0x2b repeat1 repeat1sep suffix-plus d t (c-factor p (head-ch 0x2b after-factor refl (ch-not 0x2e 0x2b refl) i)) (is i) s (no-sign 0x2b refl) (term-sign 0x2b refl f) (follows-spacing (term-end f))
-  c-term (t-repeat1sep {d = d} {t = t} p (is i) j s q) f =
-      repeat-sep 0x2b repeat1 repeat1sep suffix-plus d t (c-factor p (head-ch 0x2b after-factor refl (ch-not 0x2e 0x2b refl) i)) (short-factor p) (is i) j s (c-factor q (term-end f)) (first-factor q)
+  complete-term : {d : ℕ} {t u : Text} {f : Symbol} → Term d t u f → Follows after-term u → Term= d t (ok f u)
+  complete-term (t-factor {d = d} {t = t} {u = u} {f = v} p) f =
+      term-step d t (ok v u) (ok v u) (complete-factor p (term-end f)) (λ g _. suffix-none g v u (term-sign 0x3f refl f) (term-sign 0x2a refl f) (term-sign 0x2b refl f))
+  complete-term (t-option {d = d} {t = t} {u = u} {w = w} {f = v} p (is i) s) f =
+      term-step d t (ok v u) (ok (option v) w) (complete-factor p (head-ch 0x3f after-factor refl (ch-not 0x2e 0x3f refl) i)) (λ g _. suffix-option g v u i ∙ complete-spaced (option v) s (follows-spacing (term-end f)))
+  complete-term (t-repeat0 {d = d} {t = t} p (is i) s) f =
+      repeat-plain 0x2a repeat0 repeat0sep suffix-star d t (complete-factor p (head-ch 0x2a after-factor refl (ch-not 0x2e 0x2a refl) i)) (is i) s (no-sign 0x2a refl) (term-sign 0x2a refl f) (follows-spacing (term-end f))
+  complete-term (t-repeat0sep {d = d} {t = t} p (is i) j s q) f =
+      repeat-sep 0x2a repeat0 repeat0sep suffix-star d t (complete-factor p (head-ch 0x2a after-factor refl (ch-not 0x2e 0x2a refl) i)) (short-factor p) (is i) j s (complete-factor q (term-end f)) (first-factor q)
+  complete-term (t-repeat1 {d = d} {t = t} p (is i) s) f =
+      repeat-plain 0x2b repeat1 repeat1sep suffix-plus d t (complete-factor p (head-ch 0x2b after-factor refl (ch-not 0x2e 0x2b refl) i)) (is i) s (no-sign 0x2b refl) (term-sign 0x2b refl f) (follows-spacing (term-end f))
+  complete-term (t-repeat1sep {d = d} {t = t} p (is i) j s q) f =
+      repeat-sep 0x2b repeat1 repeat1sep suffix-plus d t (complete-factor p (head-ch 0x2b after-factor refl (ch-not 0x2e 0x2b refl) i)) (short-factor p) (is i) j s (complete-factor q (term-end f)) (first-factor q)
 
-  c-factor : {d : ℕ} {t u : Text} {f : Symbol} → Factor d t u f → Follows after-factor u → Factor= d t (ok f u)
-  c-factor (f-terminal {d = d} {t = t} x) f = λ n h. factor-plain d t (front-round (hd t) (first-terminal x)) n h ∙ c-terminal x f
-  c-factor (f-nonterminal {d = d} {t = t} p c s) f =
-      λ n h. factor-plain d t (front-round (hd t) (first-nonterminal p c)) n h ∙ c-nonterminal p c s f
-  c-factor (f-group {d = d} p s a (is q) s') f =
+  complete-factor : {d : ℕ} {t u : Text} {f : Symbol} → Factor d t u f → Follows after-factor u → Factor= d t (ok f u)
+  complete-factor (f-terminal {d = d} {t = t} x) f = λ n h. factor-plain d t (front-round (hd t) (first-terminal x)) n h ∙ complete-terminal x f
+  complete-factor (f-nonterminal {d = d} {t = t} p c s) f =
+      λ n h. factor-plain d t (front-round (hd t) (first-nonterminal p c)) n h ∙ complete-nonterminal p c s f
+  complete-factor (f-group {d = d} p s a (is q) s') f =
       let z = head-ch 0x29 after-alts refl (ch-not 0x2e 0x29 refl) q in
-      complete-group d p s (first-alts a (ch-spacing 0x29 _ refl q)) (c-alts a z) (is q) s' f
+      complete-group d p s (first-alts a (ch-spacing 0x29 _ refl q)) (complete-alts a z) (is q) s' f

@@ -165,11 +165,11 @@ unfolding read-plain read-insertion when expect guard then map
 insertion-read {k = k} (is e) s h s' f =
     rw (e, complete-s s (opens-spacing _ (first-chars h)), complete-chars h (joins-s s' (follows-joins f)), complete-spaced (insertion k) s' (follows-spacing f))
 
-pub c-terminal : {t u : Text} {x : Terminal} → TerminalOf t u x → Follows after-factor u → read-plain t ≡ ok (terminal x) u
-c-terminal (t-literal {m = m} p h s) f = terminal-read p (chars-behind h) (literal-read m h s f)
-c-terminal (t-inclusion {m = m} p h) f = terminal-read p (set-behind h) (inclusion-read m h f)
-c-terminal (t-exclusion {m = m} p (is q) s h) f = terminal-read p (ch-behind 0x7e _ refl q) (exclusion-read m (is q) s h f)
-c-terminal (t-insertion q s h s') f = insertion-read q s h s' f
+pub complete-terminal : {t u : Text} {x : Terminal} → TerminalOf t u x → Follows after-factor u → read-plain t ≡ ok (terminal x) u
+complete-terminal (t-literal {m = m} p h s) f = terminal-read p (chars-behind h) (literal-read m h s f)
+complete-terminal (t-inclusion {m = m} p h) f = terminal-read p (set-behind h) (inclusion-read m h f)
+complete-terminal (t-exclusion {m = m} p (is q) s h) f = terminal-read p (ch-behind 0x7e _ refl q) (exclusion-read m (is q) s h f)
+complete-terminal (t-insertion q s h s') f = insertion-read q s h s' f
 
 first-behind : {t u : Text} {m : Mark} → Marked isTmark t u m → among (hd u) behind-mark ≡ true → front no-bracket (hd t) ≡ true
 first-behind {t} {u} p e = front-wider may-be-marked no-bracket (hd t) refl (first-marked (as-mark p) (front-among behind-mark (hd u) e))
@@ -187,5 +187,5 @@ name-read : {u v w n : Text} (m : Mark) → Name u v n → S v w → Follows aft
 unfolding marked read-nonterminal when then
 name-read {n = n} m h s f = rw (name-start h, complete-use h s f) (complete-spaced (nonterminal m n) s (follows-spacing f))
 
-pub c-nonterminal : {t u v w n : Text} {m : Mark} → Marked isMark t u m → Name u v n → S v w → Follows after-factor w → read-plain t ≡ ok (nonterminal m n) w
-c-nonterminal {m = m} p h s f = marked-read _ p (front-name behind-mark _ (name-start h)) (name-read m h s f)
+pub complete-nonterminal : {t u v w n : Text} {m : Mark} → Marked isMark t u m → Name u v n → S v w → Follows after-factor w → read-plain t ≡ ok (nonterminal m n) w
+complete-nonterminal {m = m} p h s f = marked-read _ p (front-name behind-mark _ (name-start h)) (name-read m h s f)
