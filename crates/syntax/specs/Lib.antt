@@ -1,1 +1,5 @@
 pub mod Syntax
+pub mod Result
+pub mod Spacing
+pub mod Lexical
+pub mod Parser

@@ -1,0 +1,13 @@
+pub mod Classes
+pub mod Holds
+pub mod SpacingLaws
+pub mod Shorter
+pub mod LexicalSound
+pub mod Sound
+pub mod LexicalComplete
+pub mod Names
+pub mod Steps
+pub mod Plain
+pub mod Cycle
+pub mod Complete
+pub mod Samples
