@@ -1,2 +1,4 @@
 pub mod Derive
 pub mod Chosen
+pub mod Level
+pub mod Pick

@@ -1,0 +1,4 @@
+pub mod Tools
+pub mod Unique
+pub mod Rows
+pub mod Levels
