@@ -67,6 +67,11 @@ module _ (g : Grammar) (r : Text) where
   complete (suc k) (d-node {s} {ss} {c = c} {t = t} {a = a} {i = i} {m = m} {j = j} la dc d) h =
       both-can (suc k) s ss i j m (forward g r dc) (forward g r d) (node-can k s i m a la (complete k dc (omega arith))) (complete (suc k) d (omega arith))
 
+  pub complete-one : {t : Row} {s : Symbol} {i j : ℕ} (k : ℕ) → Derives g r t (s ∷ []) i j → height t ≤ k → T (canOne g r k s i j)
+  complete-one k (d-leaf {x} {i = i} l d-end) h = leaf-can k x i l
+  complete-one zero (d-node la c d-end) h = absurd (omega arith)
+  complete-one (suc k) (d-node {s} {a = a} {i = i} {m = m} la c d-end) h = node-can k s i m a la (complete k c (omega arith))
+
   -- a derivation of height at most k
   pub record Low (k : ℕ) (ss : List Symbol) (i j : ℕ) : Type 0 where
     pub row : Row
@@ -108,3 +113,6 @@ module _ (g : Grammar) (r : Text) where
 
   pub sound : (k : ℕ) (ss : List Symbol) (i j : ℕ) → T (can g r k ss i j) → Low k ss i j
   sound k = adjoin-sound k (sound-one k)
+
+  pub can-more : (k n : ℕ) (s : Symbol) (i j : ℕ) → k ≤ n → T (canOne g r k s i j) → T (canOne g r n s i j)
+  can-more k n s i j h c = let w = sound-one k s i j c in complete-one n (w .derives) (omega (arith, w .low))
