@@ -5,3 +5,5 @@ pub mod Levels
 pub mod Heights
 pub mod Chosen
 pub mod Picks
+pub mod Symbols
+pub mod Bound

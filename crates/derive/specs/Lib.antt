@@ -2,3 +2,4 @@ pub mod Derive
 pub mod Chosen
 pub mod Level
 pub mod Pick
+pub mod Bound
