@@ -7,3 +7,5 @@ pub mod Chosen
 pub mod Picks
 pub mod Symbols
 pub mod Bound
+pub mod Choose
+pub mod Another

@@ -1,5 +1,6 @@
 pub mod Derive
 pub mod Chosen
 pub mod Level
-pub mod Pick
 pub mod Bound
+pub mod Pick
+pub mod Another

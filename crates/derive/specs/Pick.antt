@@ -2,12 +2,14 @@
 use mathlib.Core.Bool.{Bool, true, false, _&&_}
 use mathlib.Core.List.{List, [], _∷_}
 use Prim.Native.Nat.{ℕ, zero, suc, _-_}
+use lib.Dec.{leb}
 use lib.ListN.{length}
 use Rattle.text.specs.Lists.{Text}
 use Rattle.tree.specs.Tree.{Symbol, Grammar}
 use Rattle.plain.specs.Plain.{alts}
-use Rattle.derive.specs.Derive.{Row, end, leaf, node, alternative}
+use Rattle.derive.specs.Derive.{Row, end, leaf, node, alternative, root}
 use Rattle.derive.specs.Level.{first, adjoin, canOne}
+use Rattle.derive.specs.Bound.{top}
 
 -- one row after another
 abbrev pub beside : Row → Row → Row
@@ -31,3 +33,13 @@ pickTree g r (suc k) s i j = elim (canOne g r k s i j) [
       (let a = first (λ a. adjoin (canOne g r k) (alternative g s a) i j) 0 (length (alts g s)) in
       node a j (pickRow (canOne g r k) (pickTree g r k) (alternative g s a) i j) end)
 ]
+
+pub data Answer : Type 0 where
+  none : Answer
+  found : Row → Answer
+
+-- the chosen derivation of the record. Heights are tried upwards, to the first that is enough.
+abbrev pub chosenOf : Grammar → Text → Answer
+chosenOf g r =
+    let k = first (λ k. canOne g r k (root g) 0 (length r)) 0 (suc (top g r)) in
+    elim (leb k (top g r)) [ true ↦ found (pickTree g r k (root g) 0 (length r)) | false ↦ none ]
