@@ -16,7 +16,7 @@ use Rattle.derive.specs.Derive.{Row, alternative, Derives, d-end, d-leaf
 use Rattle.derive.specs.Level.{canOne, can}
 use Rattle.derive.specs.Bound.{symbolsOf, endingAt, stretches, top, derivable}
 use Rattle.derive.proofs.Rows.{forward}
-use Rattle.derive.proofs.Levels.{node-can, both-can, complete-one, sound, sound-one, can-more, Low}
+use Rattle.derive.proofs.Levels.{node-can, both-can, complete, complete-one, sound, sound-one, can-more, Low}
 use Rattle.derive.proofs.Symbols.{in-concat, Inside, alternative-of, root-inside}
 
 -- a number that stays at most b does not rise for ever
@@ -143,6 +143,9 @@ module _ (g : Grammar) (r : Text) where
 
   pub bounded-one : {t : Row} {s : Symbol} {i j : ℕ} → In s (symbolsOf g) → j ≤ length r → Derives g r t (s ∷ []) i j → T (canOne g r (top g r) s i j)
   bounded-one h l d = let w = bounded (h, tt) l d in complete-one g r (top g r) (w .derives) (w .low)
+
+  pub bounded-can : {t : Row} {ss : List Symbol} {i j : ℕ} → Inside g ss → j ≤ length r → Derives g r t ss i j → T (can g r (top g r) ss i j)
+  bounded-can h l d = let w = bounded h l d in complete g r (top g r) (w .derives) (w .low)
 
   -- `derivable` decides whether the record has a derivation
   pub derivable-is : T (derivable g r) ↔ ((t : Row) × Derivation g r t)

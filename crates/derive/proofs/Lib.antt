@@ -9,3 +9,4 @@ pub mod Symbols
 pub mod Bound
 pub mod Choose
 pub mod Another
+pub mod Ambiguous
