@@ -10,3 +10,4 @@ pub mod Bound
 pub mod Choose
 pub mod Another
 pub mod Ambiguous
+pub mod Examples
