@@ -1,9 +1,9 @@
 -- `ambiguousOf` finds another way at a node of a derivation exactly where there is one.
-use mathlib.Core.Path.{_≡_, refl, sym, ap, subst, _∙_}
+use mathlib.Core.Path.{_≡_, refl, sym, subst}
 use mathlib.Core.Bool.{Bool, true, false, _&&_, _||_}
 use mathlib.Core.Logic.{_⊎_, inl, inr, _↔_}
 use mathlib.Core.List.{List, [], _∷_, nil≢cons, head-eq-of-cons-eq, tail-eq-of-cons-eq, List·Memᴰ as In}
-use Prim.Native.Nat.{ℕ, suc, _+_, _-_, _<_, _≤_, max}
+use Prim.Native.Nat.{ℕ, suc, _-_, _<_, _≤_, max}
 use native.Mathlib.Decide.{ℕ-discrete}
 use native.Mathlib.Omega.{arith}
 use lib.Dec.{T, eqb, eqb→eq, eqb-refl}
@@ -12,13 +12,13 @@ use Rattle.text.specs.Lists.{Text}
 use Rattle.tree.specs.Tree.{Symbol, Grammar}
 use Rattle.plain.specs.Plain.{alts}
 use Rattle.derive.specs.Derive.{Row, node, alternative, Derives, d-end, d-leaf, d-node, root, Derivation}
-use Rattle.derive.specs.Level.{first, somewhere, adjoin, canOne, can}
+use Rattle.derive.specs.Level.{first, canOne, can}
 use Rattle.derive.specs.Bound.{symbolsOf, top}
 use Rattle.derive.specs.Chosen.{Way, w-end, w-child, ends, Reading, Second}
 use Rattle.derive.specs.Another.{OtherWay, AnotherWay, aw-skip, aw-here, aw-inside, aw-later, elsewhere, otherBy, otherWay, ambiguousIn, ambiguousOf}
 use Rattle.derive.proofs.Tools.{and-both, both-and, or-case, or-left, or-right, look, isT, notT, found, finds}
 use Rattle.derive.proofs.Rows.{forward}
-use Rattle.derive.proofs.Levels.{complete, sound}
+use Rattle.derive.proofs.Levels.{sound}
 use Rattle.derive.proofs.Heights.{least-below, way-row, row-way}
 use Rattle.derive.proofs.Symbols.{Inside, alternative-of, root-inside}
 use Rattle.derive.proofs.Bound.{bounded-one, bounded-can}

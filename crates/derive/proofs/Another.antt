@@ -1,5 +1,5 @@
 -- There is a second derivation exactly where some node of the first has another way.
-use mathlib.Core.Path.{_≡_, refl, sym, ap, subst, _∙_}
+use mathlib.Core.Path.{_≡_, refl, sym, ap, _∙_}
 use mathlib.Core.Logic.{_↔_}
 use mathlib.Core.List.{List, [], _∷_, List-discrete}
 use Prim.Native.Nat.{ℕ, _+_}
@@ -9,9 +9,9 @@ use lib.ListN.{length}
 use Rattle.text.specs.Lists.{Text}
 use Rattle.tree.specs.Tree.{Symbol, Grammar}
 use Rattle.plain.specs.Plain.{width}
-use Rattle.derive.specs.Derive.{Row, Row-discrete, end, leaf, node, alternative, Derives, d-end, d-leaf, d-node, leftParse, root}
+use Rattle.derive.specs.Derive.{Row, Row-discrete, leaf, node, alternative, Derives, d-end, d-leaf, d-node, leftParse, root}
 use Rattle.derive.specs.Chosen.{ends, Reading, Second}
-use Rattle.derive.specs.Another.{OtherWay, AnotherWay, aw-skip, aw-here, aw-inside, aw-later}
+use Rattle.derive.specs.Another.{AnotherWay, aw-skip, aw-here, aw-inside, aw-later}
 use Rattle.derive.proofs.Unique.{same-row}
 use Rattle.derive.proofs.Rows.{single-ends}
 use Rattle.derive.proofs.Heights.{way-row, row-way}

@@ -1,9 +1,9 @@
 -- Whatever is derivable is derivable with a height of at most the number of symbols times the number of stretches.
-use mathlib.Core.Path.{_≡_, refl, sym, ap, subst, _∙_}
+use mathlib.Core.Path.{_≡_, refl, sym, ap, subst}
 use mathlib.Core.Bool.{Bool, true, false}
 use mathlib.Core.Logic.{_⊎_, inl, inr, _↔_}
-use mathlib.Core.List.{List, [], _∷_, _++_, map, List·Memᴰ as In, List·Memᴰ·head as in-head, List·Memᴰ·tail as in-tail, Memᴰ·append-left as in-left, Memᴰ·append-right as in-right, Memᴰ·map as in-map}
-use Prim.Native.Nat.{ℕ, zero, suc, _+_, _*_, _<_, _≤_}
+use mathlib.Core.List.{List, [], _∷_, map, List·Memᴰ as In, List·Memᴰ·head as in-head, List·Memᴰ·tail as in-tail, Memᴰ·append-left as in-left, Memᴰ·append-right as in-right, Memᴰ·map as in-map}
+use Prim.Native.Nat.{ℕ, zero, suc, _+_, _*_, _≤_}
 use native.Mathlib.Nat.{suc-mul}
 use native.Mathlib.Decide.{decLe, ℕ-discrete}
 use native.Mathlib.Omega.{arith}
@@ -11,8 +11,8 @@ use lib.Dec.{T, eqb-refl}
 use lib.ListN.{length, length-append, length-map}
 use Rattle.text.specs.Lists.{Text, concatMap}
 use Rattle.tree.specs.Tree.{Symbol, terminal, Grammar}
-use Rattle.plain.specs.Plain.{alts, width}
-use Rattle.derive.specs.Derive.{Row, alternative, Derives, d-end, d-leaf, d-node, height, root, Derivation}
+use Rattle.plain.specs.Plain.{width}
+use Rattle.derive.specs.Derive.{Row, Derives, d-end, d-leaf, d-node, root, Derivation}
 use Rattle.derive.specs.Level.{canOne, can}
 use Rattle.derive.specs.Bound.{symbolsOf, endingAt, stretches, top, derivable}
 use Rattle.derive.proofs.Rows.{forward}
@@ -84,6 +84,15 @@ in-stretches i j (suc n) h l = elim (ℕ-discrete j (suc n)) as (λ _. In (i, j)
   | yes e ↦ in-left (stretches n) (subst (λ (z : ℕ). In (i, j) (endingAt z z)) e (in-ending i j j h))
   | no e ↦ in-right (endingAt (suc n) (suc n)) (in-stretches i j n h (omega arith))
 ]
+
+ending-count : (j n : ℕ) → length (endingAt j n) ≡ suc n
+ending-count j zero = refl
+ending-count j (suc n) = ap suc (ending-count j n)
+
+-- "(n+1) × (n+2) / 2"
+pub stretches-count : (n : ℕ) → 2 * length (stretches n) ≡ (n + 1) * (n + 2)
+stretches-count zero = refl
+stretches-count (suc n) = omega (arith, length-append (endingAt (suc n) (suc n)) (stretches n), ending-count (suc n) (suc n), stretches-count n)
 
 -- a symbol on a stretch
 abbrev Cell : Type 0

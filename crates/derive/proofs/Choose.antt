@@ -1,24 +1,24 @@
 -- `chosenOf` gives the chosen derivation of the record exactly where the record has a derivation.
-use mathlib.Core.Path.{_≡_, refl, sym, subst}
-use mathlib.Core.Bool.{Bool, true, false}
-use mathlib.Core.Logic.{_⊎_, inl, inr}
+use mathlib.Core.Path.{_≡_, refl, sym, ap, subst, _∙_}
+use mathlib.Core.Bool.{Bool}
+use mathlib.Core.Logic.{inl, inr}
 use mathlib.Core.List.{List, [], _∷_}
-use Prim.Native.Nat.{ℕ, suc, _<_, _≤_}
+use Prim.Native.Nat.{ℕ, suc}
 use native.Mathlib.Omega.{arith}
-use lib.Dec.{T, leb, leb→le, le→leb}
+use lib.Dec.{leb, leb→le, le→leb}
 use lib.ListN.{length}
 use Rattle.text.specs.Lists.{Text}
 use Rattle.tree.specs.Tree.{Grammar}
-use Rattle.derive.specs.Derive.{Row, Derivation, root}
+use Rattle.derive.specs.Derive.{Row, leftParse, Derivation, root}
 use Rattle.derive.specs.Level.{first, canOne}
 use Rattle.derive.specs.Bound.{top}
-use Rattle.derive.specs.Chosen.{Chosen}
+use Rattle.derive.specs.Chosen.{Chosen, Reading}
 use Rattle.derive.specs.Pick.{pickTree, Answer, none, found, chosenOf}
 use Rattle.derive.proofs.Tools.{look, isT, notT, search-is}
 use Rattle.derive.proofs.Symbols.{root-inside}
 use Rattle.derive.proofs.Bound.{bounded-one}
 use Rattle.derive.proofs.Chosen.{chosen-derives, chosen-one}
-use Rattle.derive.proofs.Picks.{pick-tree}
+use Rattle.derive.proofs.Picks.{pick-tree, chosen-exists}
 
 abbrev IsFound : Answer → Type 0
 IsFound none = ⊥
@@ -68,3 +68,13 @@ module _ (g : Grammar) (r : Text) where
 
   pub chosen-found : {t : Row} → Chosen g r t (root g ∷ []) 0 (length r) → chosenOf g r ≡ found t
   chosen-found c = said-chosen says c
+
+  -- "The chosen reading": wherever the record has a derivation there is one, and one only
+  pub reading-exists : {t : Row} → Derivation g r t → (u : Row) × Reading g r u (leftParse u)
+  reading-exists d = let c = chosen-exists g r d in (c .0, record { chosen = c .1; parse = refl })
+
+  pub reading-unique : {t u : Row} {p q : List ℕ} → Reading g r t p → Reading g r u q → p ≡ q
+  reading-unique a b = a .parse ∙ ap leftParse (chosen-one g r (a .chosen) (b .chosen)) ∙ sym (b .parse)
+
+  pub found-reading : {t : Row} → chosenOf g r ≡ found t → Reading g r t (leftParse t)
+  found-reading e = record { chosen = found-chosen e; parse = refl }

@@ -1,15 +1,14 @@
 -- The chosen derivation: it is one, it is the only one, and none is lower.
-use mathlib.Core.Path.{_≡_, refl, sym, ap, subst}
+use mathlib.Core.Path.{_≡_, refl, sym, ap}
 use mathlib.Core.Logic.{_⊎_, inl, inr}
 use mathlib.Core.List.{List, [], _∷_, _++_}
-use Prim.Native.Nat.{ℕ, suc, _+_, _<_, _≤_, max}
+use Prim.Native.Nat.{ℕ, _+_, _≤_}
 use native.Mathlib.Omega.{arith}
-use lib.ListN.{length}
 use Rattle.text.specs.Lists.{Text}
 use Rattle.tree.specs.Tree.{Symbol, Grammar}
 use Rattle.plain.specs.Plain.{width}
-use Rattle.derive.specs.Derive.{Row, end, leaf, node, alternative, Derives, d-end, d-leaf, d-node, height, root}
-use Rattle.derive.specs.Chosen.{Least, Way, w-end, w-child, NotAfter, Picked, ends, Chosen, ch-end, ch-leaf, ch-node}
+use Rattle.derive.specs.Derive.{Row, leaf, node, alternative, Derives, d-end, d-leaf, d-node, height}
+use Rattle.derive.specs.Chosen.{Least, Way, w-child, NotAfter, Picked, ends, Chosen, ch-end, ch-leaf, ch-node}
 use Rattle.derive.specs.Pick.{beside}
 use Rattle.derive.proofs.Rows.{single-ends}
 use Rattle.derive.proofs.Heights.{least-same}
@@ -29,11 +28,11 @@ pub record SamePick (a b : ℕ) (es fs : List ℕ) : Type 0 where
   pub number : a ≡ b
   pub places : es ≡ fs
 
-first-both : (a b : ℕ) (es fs : List ℕ) → (a < b) ⊎ ((a ≡ b) × NotAfter es fs) → (b < a) ⊎ ((b ≡ a) × NotAfter fs es) → SamePick a b es fs
-first-both a b es fs (inl h) (inl k) = absurd (omega arith)
-first-both a b es fs (inl h) (inr k) = absurd (omega arith)
-first-both a b es fs (inr h) (inl k) = absurd (omega arith)
-first-both a b es fs (inr h) (inr k) = record { number = h .0; places = not-after-both es fs (h .1) (k .1) }
+first-both : {X Y : Type 0} (a b : ℕ) (es fs : List ℕ) → (X → a ≡ b → ⊥) → (Y → b ≡ a → ⊥) → (X → Y → ⊥) → X ⊎ ((a ≡ b) × NotAfter es fs) → Y ⊎ ((b ≡ a) × NotAfter fs es) → SamePick a b es fs
+first-both a b es fs u v w (inl h) (inl k) = absurd (w h k)
+first-both a b es fs u v w (inl h) (inr k) = absurd (u h (sym (k .0)))
+first-both a b es fs u v w (inr h) (inl k) = absurd (v k (sym (h .0)))
+first-both a b es fs u v w (inr h) (inr k) = record { number = h .0; places = not-after-both es fs (h .1) (k .1) }
 
 module _ (g : Grammar) (r : Text) where
   pub chosen-derives : {t : Row} {ss : List Symbol} {i j : ℕ} → Chosen g r t ss i j → Derives g r t ss i j
@@ -47,7 +46,8 @@ module _ (g : Grammar) (r : Text) where
   chosen-join (ch-node p c d) e = ch-node p c (chosen-join d e)
 
   pub picked-same : {s : Symbol} {i j a b : ℕ} {es fs : List ℕ} → Picked g r s i j a es → Picked g r s i j b fs → SamePick a b es fs
-  picked-same {a = a} {b = b} {es = es} {fs = fs} p q = first-both a b es fs (p .first b (q .high) fs (q .exists) (q .way) (q .lowest)) (q .first a (p .high) es (p .exists) (p .way) (p .lowest))
+  picked-same {a = a} {b = b} {es = es} {fs = fs} p q =
+      first-both a b es fs (λ h e. omega arith) (λ h e. omega arith) (λ h k. omega arith) (p .first b (q .high) fs (q .exists) (q .way) (q .lowest)) (q .first a (p .high) es (p .exists) (p .way) (p .lowest))
 
   -- of the same symbols with the same end places, one row is chosen
   pub chosen-unique : {t t' : Row} {ss : List Symbol} {i j j' : ℕ} → Chosen g r t ss i j → Chosen g r t' ss i j' → ends t ≡ ends t' → t ≡ t'

@@ -1,10 +1,9 @@
 -- Records from the drawer, computed and carried to the definitions.
 use mathlib.Core.Path.{_≡_, refl}
-use mathlib.Core.Bool.{Bool, true, false}
+use mathlib.Core.Bool.{true, false}
 use mathlib.Core.List.{List, [], _∷_}
 use Prim.Native.Nat.{ℕ, _+_}
 use Prim.Native.String.{String}
-use lib.Dec.{T}
 use Rattle.text.specs.Lists.{Text, chars}
 use Rattle.tree.specs.Tree.{unmarked, string, range, literal, inclusion, Symbol, terminal, nonterminal, group, option, repeat0, repeat1, Alternative, nil, cons, Body, one, also, Rule, no-prolog, Grammar}
 use Rattle.plain.specs.Static.{codeOf}
@@ -13,11 +12,11 @@ use Rattle.derive.specs.Chosen.{Reading, Second}
 use Rattle.derive.specs.Pick.{beside, found, chosenOf}
 use Rattle.derive.specs.Another.{ambiguousOf}
 use Rattle.derive.proofs.Tools.{isT, notT}
-use Rattle.derive.proofs.Choose.{found-chosen, none-derives}
+use Rattle.derive.proofs.Choose.{found-reading, none-derives}
 use Rattle.derive.proofs.Ambiguous.{ambiguous-second}
 
 reads : {g : Grammar} {r : Text} {t : Row} → chosenOf g r ≡ found t → Reading g r t (leftParse t)
-reads {g} {r} e = record { chosen = found-chosen g r e; parse = refl }
+reads {g} {r} = found-reading g r
 
 ambiguous : {g : Grammar} {r : Text} {t : Row} → chosenOf g r ≡ found t → ambiguousOf g r t ≡ true → Second g r (leftParse t)
 ambiguous {g} {r} e b = ambiguous-second g r (reads e) .0 (isT b)

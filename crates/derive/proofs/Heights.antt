@@ -1,20 +1,21 @@
 -- Least heights and ways: from derivations, and back.
-use mathlib.Core.Path.{_≡_, refl, ap, _∙_}
+use mathlib.Core.Path.{_≡_, refl, sym, ap, _∙_}
 use mathlib.Core.Bool.{Bool}
-use mathlib.Core.List.{List, [], _∷_, _++_}
-use Prim.Native.Nat.{ℕ, zero, suc, _+_, _<_, _≤_, max}
-use native.Mathlib.Decide.{decLe}
+use mathlib.Core.Logic.{_↔_}
+use mathlib.Core.List.{List, [], _∷_, _++_, head-eq-of-cons-eq, tail-eq-of-cons-eq}
+use Prim.Native.Nat.{ℕ, suc, _<_, _≤_, max}
 use native.Mathlib.Omega.{arith}
 use lib.Dec.{T}
 use lib.ListN.{length}
 use Rattle.text.specs.Lists.{Text}
 use Rattle.tree.specs.Tree.{Symbol, Grammar}
-use Rattle.derive.specs.Derive.{Row, end, Derives, d-end, d-leaf, d-node, height}
+use Rattle.plain.specs.Plain.{alts}
+use Rattle.derive.specs.Derive.{Row, end, node, alternative, Derives, d-end, d-leaf, d-node, height}
 use Rattle.derive.specs.Level.{first, canOne, can}
 use Rattle.derive.specs.Pick.{beside}
 use Rattle.derive.specs.Chosen.{Least, Way, w-end, w-child, ends}
 use Rattle.derive.proofs.Tools.{found, finds}
-use Rattle.derive.proofs.Rows.{join, height-beside, ends-beside, single-ends}
+use Rattle.derive.proofs.Rows.{join, split, height-beside, ends-beside, single-ends}
 use Rattle.derive.proofs.Levels.{complete, complete-one, sound-one}
 
 module _ (g : Grammar) (r : Text) where
@@ -83,3 +84,44 @@ module _ (g : Grammar) (r : Text) where
       let h = least-of (d-node la c d-end) in
       let u = row-way d in
       record { k = max (h .h) (u .k); way = w-child (h .least) (u .way); below = omega (arith, h .below, u .below) }
+
+  -- The step between children's least heights and heights of derivations, first for given end places: a way's k is the least
+  -- height of the rows that end there (`way-row` has it),
+  pub way-least : {ss : List Symbol} {i j k : ℕ} {es : List ℕ} → Way g r ss i j es k → (t : Row) → Derives g r t ss i j → ends t ≡ es → k ≤ height t
+  way-least w-end t d e = omega arith
+  way-least (w-child {ss = ss} {es = es} {m = m} {j = j} l w) t d e =
+      let v = split g r d in
+      let em : v .place ≡ m = head-eq-of-cons-eq (sym (v .places) ∙ e) in
+      let ee : ends (v .others) ≡ es = tail-eq-of-cons-eq (sym (v .places) ∙ e) in
+      let h1 = l .least (v .tree) (rw em at (v .one)) in
+      let h2 = way-least w (v .others) (rw em at (v .rest)) ee in
+      omega (arith, ap height (v .whole), height-beside (v .tree) (v .others))
+
+  -- then for a node: its least height is 1 plus the least k of its ways
+  pub record LowestWay (s : Symbol) (i j k : ℕ) : Type 0 where
+    pub number : ℕ
+    pub places : List ℕ
+    pub exists : number < length (alts g s)
+    pub way : Way g r (alternative g s number) i j places k
+    pub lowest : (b h : ℕ) (fs : List ℕ) → b < length (alts g s) → Way g r (alternative g s b) i j fs h → k ≤ h
+
+  ways-above : {t : Row} {s : Symbol} {i j k : ℕ} → LowestWay s i j k → Derives g r t (s ∷ []) i j → suc k ≤ height t
+  ways-above w (d-leaf l d-end) = absurd (omega (arith, w .exists))
+  ways-above w (d-node {c = c} {a = a} la dc d-end) = let v = row-way dc in omega (arith, w .lowest a (v .k) (ends c) la (v .way), v .below)
+
+  ways-least : {s : Symbol} {i j k : ℕ} → LowestWay s i j k → Least g r s i j (suc k)
+  ways-least {j = j} w =
+      let u = way-row (w .way) in
+      record { tree = node (w .number) j (u .row) end; derives = d-node (w .exists) (u .derives) d-end; attained = omega (arith, u .high); least = λ t d. ways-above w d }
+
+  least-ways : {t : Row} {s : Symbol} {i j k : ℕ} → Derives g r t (s ∷ []) i j → height t ≡ suc k → ((u : Row) → Derives g r u (s ∷ []) i j → suc k ≤ height u) → LowestWay s i j k
+  least-ways (d-leaf l d-end) e f = absurd (omega arith)
+  least-ways {k = k} (d-node {s} {c = c} {a = a} {i = i} {m = m} la dc d-end) e f =
+      let v = row-way dc in
+      let above : (b h : ℕ) (fs : List ℕ) → b < length (alts g s) → Way g r (alternative g s b) i m fs h → k ≤ h
+      = λ b h fs lb w. let u = way-row w in omega (arith, u .high, f (node b m (u .row) end) (d-node lb (u .derives) d-end)) in
+      let q : v .k ≡ k = omega (arith, v .below, above a (v .k) (ends c) la (v .way)) in
+      record { number = a; places = ends c; exists = la; way = rw q at (v .way); lowest = above }
+
+  pub node-least : (s : Symbol) (i j k : ℕ) → Least g r s i j (suc k) ↔ LowestWay s i j k
+  node-least s i j k = (λ l. least-ways (l .derives) (l .attained) (l .least), ways-least)

@@ -1,7 +1,7 @@
 -- `can` says exactly which symbols derive which stretches with heights at most k.
 use mathlib.Core.Path.{_≡_, refl, sym, subst}
-use mathlib.Core.Bool.{Bool, true, false, _&&_}
-use mathlib.Core.Logic.{_⊎_, inl, inr}
+use mathlib.Core.Bool.{Bool, false, _&&_}
+use mathlib.Core.Logic.{_⊎_, inl, inr, _↔_}
 use mathlib.Core.List.{List, [], _∷_}
 use Prim.Native.Nat.{ℕ, zero, suc, _+_, _-_, _<_, _≤_}
 use native.Mathlib.Omega.{arith}
@@ -113,6 +113,10 @@ module _ (g : Grammar) (r : Text) where
 
   pub sound : (k : ℕ) (ss : List Symbol) (i j : ℕ) → T (can g r k ss i j) → Low k ss i j
   sound k = adjoin-sound k (sound-one k)
+
+  -- derivable within k is exactly what `can` computes
+  pub can-is : (k : ℕ) (ss : List Symbol) (i j : ℕ) → T (can g r k ss i j) ↔ Low k ss i j
+  can-is k ss i j = (sound k ss i j, λ w. complete k (w .derives) (w .low))
 
   pub can-more : (k n : ℕ) (s : Symbol) (i j : ℕ) → k ≤ n → T (canOne g r k s i j) → T (canOne g r n s i j)
   can-more k n s i j h c = let w = sound-one k s i j c in complete-one n (w .derives) (omega (arith, w .low))

@@ -1,6 +1,5 @@
 -- `pickTree` gives the chosen derivation.
-use mathlib.Core.Path.{_≡_, refl, sym, ap, subst, _∙_}
-use mathlib.Core.Bool.{Bool, true, false, _&&_}
+use mathlib.Core.Path.{_≡_, ap, subst, _∙_}
 use mathlib.Core.Logic.{_⊎_, inl, inr}
 use mathlib.Core.List.{List, [], _∷_, _++_}
 use Prim.Native.Nat.{ℕ, zero, suc, _+_, _-_, _<_, _≤_, max}
@@ -11,11 +10,11 @@ use lib.ListN.{length}
 use Rattle.text.specs.Lists.{Text}
 use Rattle.tree.specs.Tree.{Symbol, terminal, Grammar}
 use Rattle.plain.specs.Plain.{alts, width}
-use Rattle.derive.specs.Derive.{Row, end, leaf, node, alternative, Derives, d-end, d-leaf, d-node, height}
-use Rattle.derive.specs.Level.{first, adjoin, canOne, can}
+use Rattle.derive.specs.Derive.{Row, end, leaf, node, alternative, Derives, d-end, d-node, height}
+use Rattle.derive.specs.Level.{first, canOne, can}
 use Rattle.derive.specs.Chosen.{Least, Way, w-end, w-child, NotAfter, Picked, ends, Chosen, ch-end, ch-leaf, ch-node}
 use Rattle.derive.specs.Pick.{beside, pickRow, pickTree}
-use Rattle.derive.proofs.Tools.{and-both, both-and, look, isT, notT, Found, found}
+use Rattle.derive.proofs.Tools.{and-both, both-and, look, isT, notT, found}
 use Rattle.derive.proofs.Rows.{forward, ends-beside, single-ends}
 use Rattle.derive.proofs.Levels.{Spelt, spelt, spelt-can, canBy, canAt, cases, complete-one, can-more}
 use Rattle.derive.proofs.Heights.{level-least, least-below, least-can, least-same, way-row, way-can}

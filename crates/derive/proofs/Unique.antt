@@ -1,12 +1,12 @@
 -- A left parse names one derivation.
 use mathlib.Core.Path.{_≡_, refl, ap}
-use mathlib.Core.List.{List, [], _∷_, _++_, append-assoc}
+use mathlib.Core.List.{List, [], _++_, append-assoc}
 use Prim.Native.Nat.{ℕ, _+_}
 use native.Mathlib.Omega.{arith}
 use Rattle.text.specs.Lists.{Text}
 use Rattle.tree.specs.Tree.{Symbol, Grammar}
 use Rattle.plain.specs.Plain.{width}
-use Rattle.derive.specs.Derive.{Row, leaf, node, alternative, Derives, d-end, d-leaf, d-node, leftParse, Derivation}
+use Rattle.derive.specs.Derive.{Row, leaf, node, Derives, d-end, d-leaf, d-node, leftParse, Derivation}
 
 -- what two derivations have in common whose left parses, followed by xs and by ys, are one list
 pub record Same (t t' : Row) (j j' : ℕ) (xs ys : List ℕ) : Type 0 where
