@@ -4,7 +4,6 @@ use mathlib.Core.Bool.{Bool, true, false, _&&_, _||_}
 use mathlib.Core.Logic.{_⊎_, inl, inr, _↔_}
 use mathlib.Core.List.{List, [], _∷_, nil≢cons, head-eq-of-cons-eq, tail-eq-of-cons-eq, List·Memᴰ as In}
 use Prim.Native.Nat.{ℕ, suc, _-_, _<_, _≤_, max}
-use native.Mathlib.Decide.{ℕ-discrete}
 use native.Mathlib.Omega.{arith}
 use lib.Dec.{T, eqb, eqb→eq, eqb-refl}
 use lib.ListN.{length}
@@ -18,8 +17,7 @@ use Rattle.derive.specs.Chosen.{Way, w-end, w-child, ends, Reading, Seco
 use Rattle.derive.specs.Another.{OtherWay, AnotherWay, aw-skip, aw-here, aw-inside, aw-later, elsewhere, otherBy, otherWay, ambiguousIn, ambiguousOf}
 use Rattle.derive.proofs.Tools.{and-both, both-and, or-case, or-left, or-right, look, isT, notT, found, finds}
 use Rattle.derive.proofs.Rows.{forward}
-use Rattle.derive.proofs.Levels.{sound}
-use Rattle.derive.proofs.Heights.{least-below, way-row, row-way}
+use Rattle.derive.proofs.Heights.{least-below, way-row, can-way}
 use Rattle.derive.proofs.Symbols.{Inside, alternative-of, root-inside}
 use Rattle.derive.proofs.Bound.{bounded-one, bounded-can}
 use Rattle.derive.proofs.Chosen.{chosen-derives}
@@ -35,10 +33,10 @@ if-same m n x y h = elim (look (eqb m n)) as (λ _. ((m ≡ n) × T x) ⊎ ((m �
   | inr e ↦ inr (λ q. notT e (subst (λ (z : ℕ). T (eqb m z)) q (eqb-refl m)), subst (λ (b : Bool). T (ifSame b x y)) e h)
 ]
 
-same-if : (m n : ℕ) (x y : Bool) → ((m ≡ n) × T x) ⊎ ((m ≡ n → ⊥) × T y) → T (ifSame (eqb m n) x y)
-same-if m n x y h = elim (look (eqb m n)) as (λ _. T (ifSame (eqb m n) x y)) [
-  | inl e ↦ subst (λ (b : Bool). T (ifSame b x y)) (sym e) (elim h as (λ _. T x) [ inl k ↦ k .1 | inr k ↦ absurd (k .0 (eqb→eq m n (isT e))) ])
-  | inr e ↦ subst (λ (b : Bool). T (ifSame b x y)) (sym e) (elim h as (λ _. T y) [ inl k ↦ absurd (notT e (subst (λ (z : ℕ). T (eqb m z)) (k .0) (eqb-refl m))) | inr k ↦ k .1 ])
+same-if : (m n : ℕ) (x y : Bool) → (m ≡ n → T x) → ((m ≡ n → ⊥) → T y) → T (ifSame (eqb m n) x y)
+same-if m n x y f h = elim (look (eqb m n)) as (λ _. T (ifSame (eqb m n) x y)) [
+  | inl e ↦ subst (λ (b : Bool). T (ifSame b x y)) (sym e) (f (eqb→eq m n (isT e)))
+  | inr e ↦ subst (λ (b : Bool). T (ifSame b x y)) (sym e) (h (λ q. notT e (subst (λ (z : ℕ). T (eqb m z)) q (eqb-refl m))))
 ]
 
 module _ (g : Grammar) (r : Text) where
@@ -49,21 +47,11 @@ module _ (g : Grammar) (r : Text) where
     way : Way g r ss i j places high
     other : places ≡ es → ⊥
 
-  -- of all ways, none ends at es
-  abbrev None : List Symbol → ℕ → ℕ → List ℕ → Type 0
-  None ss i j es = (fs : List ℕ) (h : ℕ) → Way g r ss i j fs h → fs ≡ es → ⊥
+  shorter : {i j e h : ℕ} {es fs : List ℕ} → Way g r [] i j fs h → fs ≡ e ∷ es → ⊥
+  shorter w-end q = nil≢cons q
 
-  shorter : {i j e : ℕ} {es : List ℕ} → None [] i j (e ∷ es)
-  shorter _ _ w-end q = nil≢cons q
-
-  longer : {s : Symbol} {ss : List Symbol} {i j : ℕ} → None (s ∷ ss) i j []
-  longer _ _ (w-child l w) q = nil≢cons (sym q)
-
-  any-way : (k : ℕ) (ss : List Symbol) (i j : ℕ) (es : List ℕ) → T (can g r k ss i j) → None ss i j es → Elsewhere ss i j es
-  any-way k ss i j es h f =
-      let u = sound g r k ss i j h in
-      let w = row-way g r (u .derives) in
-      record { places = ends (u .row); high = w .k; way = w .way; other = f (ends (u .row)) (w .k) (w .way) }
+  longer : {s : Symbol} {ss : List Symbol} {i j h : ℕ} {fs : List ℕ} → Way g r (s ∷ ss) i j fs h → fs ≡ [] → ⊥
+  longer (w-child l w) q = nil≢cons (sym q)
 
   -- the first symbol ends at m, the others elsewhere than at es if m is e
   abbrev elseAt : ℕ → Symbol → List Symbol → ℕ → ℕ → ℕ → List ℕ → ℕ → Bool
@@ -71,8 +59,8 @@ module _ (g : Grammar) (r : Text) where
 
   elsewhere-sound : (k : ℕ) (ss : List Symbol) (i j : ℕ) (es : List ℕ) → T (elsewhere (canOne g r k) ss i j es) → Elsewhere ss i j es
   elsewhere-sound k [] i j [] h = absurd h
-  elsewhere-sound k [] i j (e ∷ es) h = any-way k [] i j (e ∷ es) h shorter
-  elsewhere-sound k (s ∷ ss) i j [] h = any-way k (s ∷ ss) i j [] h longer
+  elsewhere-sound k [] i j (e ∷ es) h = let v = can-way g r k [] i j h in record { places = v .places; high = v .high; way = v .way; other = shorter (v .way) }
+  elsewhere-sound k (s ∷ ss) i j [] h = let v = can-way g r k (s ∷ ss) i j h in record { places = v .places; high = v .high; way = v .way; other = longer (v .way) }
   elsewhere-sound k (s ∷ ss) i j (e ∷ es) h =
       let m = first (elseAt k s ss i j e es) i (suc j - i) in
       let w = found (elseAt k s ss i j e es) i (suc j - i) h in
@@ -81,9 +69,8 @@ module _ (g : Grammar) (r : Text) where
       elim (if-same m e (elsewhere (canOne g r k) ss m j es) (can g r k ss m j) (b .1)) as (λ _. Elsewhere (s ∷ ss) i j (e ∷ es)) [
         | inl c ↦ (let v = elsewhere-sound k ss m j es (c .1) in
             record { places = m ∷ v .places; high = max (l .h) (v .high); way = w-child (l .least) (v .way); other = λ q. v .other (tail-eq-of-cons-eq q) })
-        | inr c ↦ (let u = sound g r k ss m j (c .1) in
-            let v = row-way g r (u .derives) in
-            record { places = m ∷ ends (u .row); high = max (l .h) (v .k); way = w-child (l .least) (v .way); other = λ q. c .0 (head-eq-of-cons-eq q) })
+        | inr c ↦ (let v = can-way g r k ss m j (c .1) in
+            record { places = m ∷ v .places; high = max (l .h) (v .high); way = w-child (l .least) (v .way); other = λ q. c .0 (head-eq-of-cons-eq q) })
       ]
 
   way-bounded : {ss : List Symbol} {i j h : ℕ} {fs : List ℕ} → Inside g ss → j ≤ length r → Way g r ss i j fs h → T (can g r (top g r) ss i j)
@@ -99,11 +86,7 @@ module _ (g : Grammar) (r : Text) where
       let one = bounded-one g r (n .0) (omega arith) (a .derives) in
       finds (elseAt k s ss i j e es) i (suc j - i) m (forward g r (a .derives)) (omega arith)
       (both-and (canOne g r k s i m) (ifSame (eqb m e) (elsewhere (canOne g r k) ss m j es) (can g r k ss m j)) one
-      (same-if m e (elsewhere (canOne g r k) ss m j es) (can g r k ss m j)
-      (elim (ℕ-discrete m e) as (λ _. ((m ≡ e) × T (elsewhere (canOne g r k) ss m j es)) ⊎ ((m ≡ e → ⊥) × T (can g r k ss m j))) [
-        | yes q ↦ inl (q, elsewhere-complete es (n .1) l w (λ p. f (λ ι. q ι ∷ p ι)))
-        | no q ↦ inr (q, way-bounded (n .1) l w)
-      ])))
+      (same-if m e (elsewhere (canOne g r k) ss m j es) (can g r k ss m j) (λ q. elsewhere-complete es (n .1) l w (λ p. f (λ ι. q ι ∷ p ι))) (λ _. way-bounded (n .1) l w)))
 
   -- at one node
   other-sound : {s : Symbol} {i j a : ℕ} {es : List ℕ} → T (otherWay g r s i j a es) → OtherWay g r s i j a es
@@ -115,9 +98,8 @@ module _ (g : Grammar) (r : Text) where
       elim (if-same b a (elsewhere (canOne g r k) (alternative g s b) i j es) (can g r k (alternative g s b) i j) (w .holds)) as (λ _. OtherWay g r s i j a es) [
         | inl c ↦ (let v = elsewhere-sound k (alternative g s b) i j es (c .1) in
             record { number = b; places = v .places; high = v .high; exists = lb; way = v .way; other = λ _ q. v .other q })
-        | inr c ↦ (let u = sound g r k (alternative g s b) i j (c .1) in
-            let v = row-way g r (u .derives) in
-            record { number = b; places = ends (u .row); high = v .k; exists = lb; way = v .way; other = λ q _. c .0 q })
+        | inr c ↦ (let v = can-way g r k (alternative g s b) i j (c .1) in
+            record { number = b; places = v .places; high = v .high; exists = lb; way = v .way; other = λ q _. c .0 q })
       ]
 
   other-complete : {s : Symbol} {i j a : ℕ} {es : List ℕ} → In s (symbolsOf g) → j ≤ length r → OtherWay g r s i j a es → T (otherWay g r s i j a es)
@@ -126,11 +108,7 @@ module _ (g : Grammar) (r : Text) where
       let b = w .number in
       let ni = alternative-of g n b in
       finds (otherBy g r s i j a es) 0 (length (alts g s)) b (omega arith) (omega (arith, w .exists))
-      (same-if b a (elsewhere (canOne g r k) (alternative g s b) i j es) (can g r k (alternative g s b) i j)
-      (elim (ℕ-discrete b a) as (λ _. ((b ≡ a) × T (elsewhere (canOne g r k) (alternative g s b) i j es)) ⊎ ((b ≡ a → ⊥) × T (can g r k (alternative g s b) i j))) [
-        | yes q ↦ inl (q, elsewhere-complete es ni l (w .way) (w .other q))
-        | no q ↦ inr (q, way-bounded ni l (w .way))
-      ]))
+      (same-if b a (elsewhere (canOne g r k) (alternative g s b) i j es) (can g r k (alternative g s b) i j) (λ q. elsewhere-complete es ni l (w .way) (w .other q)) (λ _. way-bounded ni l (w .way)))
 
   -- at all nodes of a row
   ambiguous-sound : {t : Row} {ss : List Symbol} {i j : ℕ} → Derives g r t ss i j → T (ambiguousIn g r t ss i) → AnotherWay g r t ss i j

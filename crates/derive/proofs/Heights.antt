@@ -16,7 +16,7 @@ use Rattle.derive.specs.Pick.{beside}
 use Rattle.derive.specs.Chosen.{Least, Way, w-end, w-child, ends}
 use Rattle.derive.proofs.Tools.{found, finds}
 use Rattle.derive.proofs.Rows.{join, split, height-beside, ends-beside, single-ends}
-use Rattle.derive.proofs.Levels.{complete, complete-one, sound-one}
+use Rattle.derive.proofs.Levels.{complete, complete-one, sound-one, sound}
 
 module _ (g : Grammar) (r : Text) where
   -- the first level at which a symbol derives a stretch is its least height there
@@ -84,6 +84,18 @@ module _ (g : Grammar) (r : Text) where
       let h = least-of (d-node la c d-end) in
       let u = row-way d in
       record { k = max (h .h) (u .k); way = w-child (h .least) (u .way); below = omega (arith, h .below, u .below) }
+
+  -- a way, of any height
+  pub record SomeWay (ss : List Symbol) (i j : ℕ) : Type 0 where
+    pub places : List ℕ
+    pub high : ℕ
+    pub way : Way g r ss i j places high
+
+  pub can-way : (k : ℕ) (ss : List Symbol) (i j : ℕ) → T (can g r k ss i j) → SomeWay ss i j
+  can-way k ss i j h =
+      let u = sound g r k ss i j h in
+      let w = row-way (u .derives) in
+      record { places = ends (u .row); high = w .k; way = w .way }
 
   -- The step between children's least heights and heights of derivations, first for given end places: a way's k is the least
   -- height of the rows that end there (`way-row` has it),
