@@ -14,7 +14,7 @@ use Rattle.derive.specs.Derive.{Row, node, alternative, Derives, d-end, 
 use Rattle.derive.specs.Level.{first, canOne, can}
 use Rattle.derive.specs.Bound.{symbolsOf, top}
 use Rattle.derive.specs.Chosen.{Way, w-end, w-child, ends, Reading, Second}
-use Rattle.derive.specs.Another.{OtherWay, AnotherWay, aw-skip, aw-here, aw-inside, aw-later, elsewhere, otherBy, otherWay, ambiguousIn, ambiguousOf}
+use Rattle.derive.specs.Another.{OtherWay, AnotherWay, aw-skip, aw-here, aw-inside, aw-later, elsewhere, otherBy, hasOther, ambiguousIn, ambiguousOf}
 use Rattle.derive.proofs.Tools.{and-both, both-and, or-case, or-left, or-right, look, isT, notT, found, finds}
 use Rattle.derive.proofs.Rows.{forward}
 use Rattle.derive.proofs.Heights.{least-below, way-row, can-way}
@@ -89,7 +89,7 @@ module _ (g : Grammar) (r : Text) where
       (same-if m e (elsewhere (canOne g r k) ss m j es) (can g r k ss m j) (λ q. elsewhere-complete es (n .1) l w (λ p. f (λ ι. q ι ∷ p ι))) (λ _. way-bounded (n .1) l w)))
 
   -- at one node
-  other-sound : {s : Symbol} {i j a : ℕ} {es : List ℕ} → T (otherWay g r s i j a es) → OtherWay g r s i j a es
+  other-sound : {s : Symbol} {i j a : ℕ} {es : List ℕ} → T (hasOther g r s i j a es) → OtherWay g r s i j a es
   other-sound {s} {i} {j} {a} {es} h =
       let k = top g r in
       let b = first (otherBy g r s i j a es) 0 (length (alts g s)) in
@@ -102,7 +102,7 @@ module _ (g : Grammar) (r : Text) where
             record { number = b; places = v .places; high = v .high; exists = lb; way = v .way; other = λ q _. c .0 q })
       ]
 
-  other-complete : {s : Symbol} {i j a : ℕ} {es : List ℕ} → In s (symbolsOf g) → j ≤ length r → OtherWay g r s i j a es → T (otherWay g r s i j a es)
+  other-complete : {s : Symbol} {i j a : ℕ} {es : List ℕ} → In s (symbolsOf g) → j ≤ length r → OtherWay g r s i j a es → T (hasOther g r s i j a es)
   other-complete {s} {i} {j} {a} {es} n l w =
       let k = top g r in
       let b = w .number in
@@ -115,7 +115,7 @@ module _ (g : Grammar) (r : Text) where
   ambiguous-sound d-end h = absurd h
   ambiguous-sound (d-leaf l d) h = aw-skip (ambiguous-sound d h)
   ambiguous-sound (d-node {s} {ss} {c} {t} {a} {i} {m} {j} la k d) h =
-      let x = otherWay g r s i m a (ends c) in
+      let x = hasOther g r s i m a (ends c) in
       let y = ambiguousIn g r c (alternative g s a) i in
       let z = ambiguousIn g r t ss m in
       elim (or-case x (y || z) h) as (λ _. AnotherWay g r (node a m c t) (s ∷ ss) i j) [
@@ -130,16 +130,16 @@ module _ (g : Grammar) (r : Text) where
   ambiguous-complete (d-leaf l d) n q (aw-skip w) = ambiguous-complete d (n .1) q w
   ambiguous-complete (d-node {s} {ss} {c} {t} {a} {i} {m} la k d) n q (aw-here w) =
       let l = forward g r d in
-      or-left (otherWay g r s i m a (ends c)) (ambiguousIn g r c (alternative g s a) i || ambiguousIn g r t ss m) (other-complete (n .0) (omega arith) w)
+      or-left (hasOther g r s i m a (ends c)) (ambiguousIn g r c (alternative g s a) i || ambiguousIn g r t ss m) (other-complete (n .0) (omega arith) w)
   ambiguous-complete (d-node {s} {ss} {c} {t} {a} {i} {m} la k d) n q (aw-inside w) =
       let l = forward g r d in
       let y = ambiguousIn g r c (alternative g s a) i in
       let z = ambiguousIn g r t ss m in
-      or-right (otherWay g r s i m a (ends c)) (y || z) (or-left y z (ambiguous-complete k (alternative-of g (n .0) a) (omega arith) w))
+      or-right (hasOther g r s i m a (ends c)) (y || z) (or-left y z (ambiguous-complete k (alternative-of g (n .0) a) (omega arith) w))
   ambiguous-complete (d-node {s} {ss} {c} {t} {a} {i} {m} la k d) n q (aw-later w) =
       let y = ambiguousIn g r c (alternative g s a) i in
       let z = ambiguousIn g r t ss m in
-      or-right (otherWay g r s i m a (ends c)) (y || z) (or-right y z (ambiguous-complete d (n .1) q w))
+      or-right (hasOther g r s i m a (ends c)) (y || z) (or-right y z (ambiguous-complete d (n .1) q w))
 
   -- for any derivation of the record
   pub ambiguous-is : {t : Row} → Derivation g r t → T (ambiguousOf g r t) ↔ AnotherWay g r t (root g ∷ []) 0 (length r)

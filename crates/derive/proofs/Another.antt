@@ -25,17 +25,17 @@ module _ (g : Grammar) (r : Text) where
     pub new : row ≡ t → ⊥
 
   -- another way at a node gives another derivation
-  pub other : {t : Row} {ss : List Symbol} {i j : ℕ} → Derives g r t ss i j → AnotherWay g r t ss i j → Other t ss i j
-  other (d-leaf {x} {i = i} l d) (aw-skip w) = let u = other d w in record { row = leaf (i + width x) (u .row); derives = d-leaf l (u .derives); new = λ e. u .new (cc) }
-  other (d-node {c = c} {t = t} {a = a} {m = m} h k d) (aw-here w) =
+  pub another : {t : Row} {ss : List Symbol} {i j : ℕ} → Derives g r t ss i j → AnotherWay g r t ss i j → Other t ss i j
+  another (d-leaf {x} {i = i} l d) (aw-skip w) = let u = another d w in record { row = leaf (i + width x) (u .row); derives = d-leaf l (u .derives); new = λ e. u .new (cc) }
+  another (d-node {c = c} {t = t} {a = a} {m = m} h k d) (aw-here w) =
       let v = way-row g r (w .way) in
       record {
         row = node (w .number) m (v .row) t;
         derives = d-node (w .exists) (v .derives) d;
         new = λ e. let q : v .row ≡ c = cc in w .other (cc) (sym (v .places) ∙ ap ends q);
       }
-  other (d-node {t = t} {a = a} {m = m} h k d) (aw-inside w) = let u = other k w in record { row = node a m (u .row) t; derives = d-node h (u .derives) d; new = λ e. u .new (cc) }
-  other (d-node {c = c} {a = a} {m = m} h k d) (aw-later w) = let u = other d w in record { row = node a m c (u .row); derives = d-node h k (u .derives); new = λ e. u .new (cc) }
+  another (d-node {t = t} {a = a} {m = m} h k d) (aw-inside w) = let u = another k w in record { row = node a m (u .row) t; derives = d-node h (u .derives) d; new = λ e. u .new (cc) }
+  another (d-node {c = c} {a = a} {m = m} h k d) (aw-later w) = let u = another d w in record { row = node a m c (u .row); derives = d-node h k (u .derives); new = λ e. u .new (cc) }
 
   -- two derivations that end their trees at the same places differ in the way at some node
   pub differ : {t t' : Row} {ss : List Symbol} {i j : ℕ} → Derives g r t ss i j → Derives g r t' ss i j → ends t' ≡ ends t → (t' ≡ t → ⊥) → AnotherWay g r t ss i j
@@ -66,7 +66,7 @@ module _ (g : Grammar) (r : Text) where
   pub other-parse : {t : Row} {s : Symbol} {i j : ℕ} → Derives g r t (s ∷ []) i j → OtherParse (leftParse t) s i j ↔ AnotherWay g r t (s ∷ []) i j
   other-parse d = (
     λ w. differ d (w .1) (single-ends g r (w .1) ∙ sym (single-ends g r d)) (λ e. w .2 (ap leftParse e)),
-    λ w. let u = other d w in (u .row, u .derives, λ e. u .new (same-row g r (u .derives) d e)),
+    λ w. let u = another d w in (u .row, u .derives, λ e. u .new (same-row g r (u .derives) d e)),
   )
 
   -- a second derivation of the record

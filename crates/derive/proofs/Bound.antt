@@ -117,14 +117,14 @@ module _ (g : Grammar) (r : Text) where
   Settled k = (s : Symbol) (i j : ℕ) → In s (symbolsOf g) → i ≤ j → j ≤ length r → T (canOne g r (suc k) s i j) → T (canOne g r k s i j)
 
   -- some level of at most `top` is settled
-  record Level : Type 0 where
+  record Last : Type 0 where
     k : ℕ
     early : k ≤ top g r
     settled : Settled k
 
-  level : Level
+  last : Last
   unfolding Settled
-  level =
+  last =
       let e = cells-length (stretches (length r)) (symbolsOf g) in
       let w = still (λ (k : ℕ). count (full k) cells) (top g r) (λ k. omega (arith, count-le (full k) cells)) in
       let up : (x : Cell) → T (full (w .k) x) → T (full (suc (w .k)) x) = λ x. can-more g r (w .k) (suc (w .k)) (x .0) (x .1 .0) (x .1 .1) (omega arith) in
@@ -147,8 +147,8 @@ module _ (g : Grammar) (r : Text) where
 
   pub bounded : {t : Row} {ss : List Symbol} {i j : ℕ} → Inside g ss → j ≤ length r → Derives g r t ss i j → Low g r (top g r) ss i j
   bounded {ss = ss} {i = i} {j = j} h l d =
-      let w = sound g r (level .k) ss i j (settles (level .k) (level .settled) h l d) in
-      record { row = w .row; derives = w .derives; low = omega (arith, w .low, level .early) }
+      let w = sound g r (last .k) ss i j (settles (last .k) (last .settled) h l d) in
+      record { row = w .row; derives = w .derives; low = omega (arith, w .low, last .early) }
 
   pub bounded-one : {t : Row} {s : Symbol} {i j : ℕ} → In s (symbolsOf g) → j ≤ length r → Derives g r t (s ∷ []) i j → T (canOne g r (top g r) s i j)
   bounded-one h l d = let w = bounded (h, tt) l d in complete-one g r (top g r) (w .derives) (w .low)

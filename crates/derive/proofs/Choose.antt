@@ -56,6 +56,10 @@ module _ (g : Grammar) (r : Text) where
   said-none (says-found u c) e = absurd (found≢none e)
   said-none (says-none f) e = f
 
+  said-lacks : {a : Answer} → Says a → ((t : Row) → Derivation g r t → ⊥) → a ≡ none
+  said-lacks (says-found u c) f = absurd (f u (chosen-derives g r c))
+  said-lacks (says-none h) f = refl
+
   said-chosen : {a : Answer} {t : Row} → Says a → Chosen g r t (root g ∷ []) 0 (length r) → a ≡ found t
   said-chosen (says-found u c) d = let q = chosen-one g r c d in cc
   said-chosen {t = t} (says-none f) d = absurd (f t (chosen-derives g r d))
@@ -65,6 +69,9 @@ module _ (g : Grammar) (r : Text) where
 
   pub none-derives : chosenOf g r ≡ none → (t : Row) → Derivation g r t → ⊥
   none-derives e = said-none says e
+
+  pub lacks-none : ((t : Row) → Derivation g r t → ⊥) → chosenOf g r ≡ none
+  lacks-none f = said-lacks says f
 
   pub chosen-found : {t : Row} → Chosen g r t (root g ∷ []) 0 (length r) → chosenOf g r ≡ found t
   chosen-found c = said-chosen says c

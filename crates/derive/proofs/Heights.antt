@@ -126,14 +126,15 @@ module _ (g : Grammar) (r : Text) where
       let u = way-row (w .way) in
       record { tree = node (w .number) j (u .row) end; derives = d-node (w .exists) (u .derives) d-end; attained = omega (arith, u .high); least = λ t d. ways-above w d }
 
+  way-above : {s : Symbol} {i j k b h : ℕ} {fs : List ℕ} → ((u : Row) → Derives g r u (s ∷ []) i j → suc k ≤ height u) → b < length (alts g s) → Way g r (alternative g s b) i j fs h → k ≤ h
+  way-above {j = j} {b = b} f lb w = let u = way-row w in omega (arith, u .high, f (node b j (u .row) end) (d-node lb (u .derives) d-end))
+
   least-ways : {t : Row} {s : Symbol} {i j k : ℕ} → Derives g r t (s ∷ []) i j → height t ≡ suc k → ((u : Row) → Derives g r u (s ∷ []) i j → suc k ≤ height u) → LowestWay s i j k
   least-ways (d-leaf l d-end) e f = absurd (omega arith)
-  least-ways {k = k} (d-node {s} {c = c} {a = a} {i = i} {m = m} la dc d-end) e f =
+  least-ways {k = k} (d-node {c = c} {a = a} la dc d-end) e f =
       let v = row-way dc in
-      let above : (b h : ℕ) (fs : List ℕ) → b < length (alts g s) → Way g r (alternative g s b) i m fs h → k ≤ h
-      = λ b h fs lb w. let u = way-row w in omega (arith, u .high, f (node b m (u .row) end) (d-node lb (u .derives) d-end)) in
-      let q : v .k ≡ k = omega (arith, v .below, above a (v .k) (ends c) la (v .way)) in
-      record { number = a; places = ends c; exists = la; way = rw q at (v .way); lowest = above }
+      let q : v .k ≡ k = omega (arith, v .below, way-above f la (v .way)) in
+      record { number = a; places = ends c; exists = la; way = rw q at (v .way); lowest = λ b h fs lb w. way-above f lb w }
 
   pub node-least : (s : Symbol) (i j k : ℕ) → Least g r s i j (suc k) ↔ LowestWay s i j k
   node-least s i j k = (λ l. least-ways (l .derives) (l .attained) (l .least), ways-least)

@@ -37,16 +37,16 @@ elsewhere f (s ∷ ss) i j [] = adjoin f (s ∷ ss) i j
 elsewhere f (s ∷ ss) i j (e ∷ es) =
     somewhere (λ m. let others = elim (eqb m e) as (λ _. Bool) [ true ↦ elsewhere f ss m j es | false ↦ adjoin f ss m j ] in f s i m && others) i (suc j - i)
 
--- alternative b has another way than alternative a with the end places es
+-- alternative b has another way for s on i to j than alternative a with the end places es
 abbrev pub otherBy : Grammar → Text → Symbol → ℕ → ℕ → ℕ → List ℕ → ℕ → Bool
 otherBy g r s i j a es b = elim (eqb b a) [
   | true ↦ elsewhere (canOne g r (top g r)) (alternative g s b) i j es
   | false ↦ adjoin (canOne g r (top g r)) (alternative g s b) i j
 ]
 
--- some alternative has
-abbrev pub otherWay : Grammar → Text → Symbol → ℕ → ℕ → ℕ → List ℕ → Bool
-otherWay g r s i j a es = somewhere (otherBy g r s i j a es) 0 (length (alts g s))
+-- some alternative has another way
+abbrev pub hasOther : Grammar → Text → Symbol → ℕ → ℕ → ℕ → List ℕ → Bool
+hasOther g r s i j a es = somewhere (otherBy g r s i j a es) 0 (length (alts g s))
 
 -- some node of the row, at any depth, has another way
 abbrev pub ambiguousIn : Grammar → Text → Row → List Symbol → ℕ → Bool
@@ -58,7 +58,7 @@ ambiguousIn g r (node a m c t) (s ∷ ss) i =
     let inside = ambiguousIn g r c (alternative g s a) i in
     let later = ambiguousIn g r t ss m in
     let deeper = inside || later in
-    otherWay g r s i m a (ends c) || deeper
+    hasOther g r s i m a (ends c) || deeper
 
 -- the derivation t of the record is not the only one
 abbrev pub ambiguousOf : Grammar → Text → Row → Bool
