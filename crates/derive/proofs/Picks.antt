@@ -79,17 +79,11 @@ module _ (g : Grammar) (r : Text) where
         exists = la;
         way = u .way;
         lowest = rw e at l;
-        first = λ b n fs lb w q. earliest l b n fs w q;
+        first = λ b n fs lb w q.
+            let n≤k : n ≤ k = omega (arith, least-same g r l q) in
+            let le = least b (way-can g r k w n≤k) in
+            elim (ℕ-discrete a b) [ yes e ↦ inr (e, u .first fs n (rw (← e) at w) n≤k) | no e ↦ inl (omega arith) ];
       }
-    where
-      earliest : Least g r s i j (suc k) → (b n : ℕ) (fs : List ℕ) → Way g r (alternative g s b) i j fs n → Least g r s i j (suc n) → (a < b) ⊎ ((a ≡ b) × NotAfter (ends c) fs)
-      earliest l b n fs w q =
-          let n≤k : n ≤ k = omega (arith, least-same g r l q) in
-          let le = least b (way-can g r k w n≤k) in
-          elim (ℕ-discrete a b) as (λ _. (a < b) ⊎ ((a ≡ b) × NotAfter (ends c) fs)) [
-            | yes e ↦ inr (e, u .first fs n (rw (← e) at w) n≤k)
-            | no e ↦ inl (omega arith)
-          ]
 
   pick-leaf : (s : Symbol) (i j : ℕ) → Spelt r s i j → Chosen g r (leaf j end) (s ∷ []) i j
   pick-leaf s i j w =
