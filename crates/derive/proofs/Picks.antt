@@ -1,6 +1,6 @@
 -- `pickTree` gives the chosen derivation.
 use mathlib.Core.Path.{_≡_, ap, subst, _∙_}
-use mathlib.Core.Logic.{_⊎_, inl, inr}
+use mathlib.Core.Logic.{inl, inr}
 use mathlib.Core.List.{List, [], _∷_, _++_}
 use Prim.Native.Nat.{ℕ, zero, suc, _+_, _-_, _<_, _≤_, max}
 use native.Mathlib.Decide.{decLe, ℕ-discrete}
@@ -12,7 +12,7 @@ use Rattle.tree.specs.Tree.{Symbol, terminal, Grammar}
 use Rattle.plain.specs.Plain.{alts, width}
 use Rattle.derive.specs.Derive.{Row, end, leaf, node, alternative, Derives, d-end, d-node, height}
 use Rattle.derive.specs.Level.{first, canOne, can}
-use Rattle.derive.specs.Chosen.{Least, Way, w-end, w-child, NotAfter, Picked, ends, Chosen, ch-end, ch-leaf, ch-node}
+use Rattle.derive.specs.Chosen.{Way, w-end, w-child, NotAfter, Picked, ends, Chosen, ch-end, ch-leaf, ch-node}
 use Rattle.derive.specs.Pick.{beside, pickRow, pickTree}
 use Rattle.derive.proofs.Tools.{and-both, both-and, look, isT, notT, found}
 use Rattle.derive.proofs.Rows.{forward, ends-beside, single-ends}
