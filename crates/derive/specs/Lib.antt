@@ -1,2 +1,6 @@
 pub mod Derive
 pub mod Chosen
+pub mod Level
+pub mod Bound
+pub mod Pick
+pub mod Another

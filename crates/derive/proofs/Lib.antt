@@ -1,0 +1,13 @@
+pub mod Tools
+pub mod Unique
+pub mod Rows
+pub mod Levels
+pub mod Heights
+pub mod Chosen
+pub mod Picks
+pub mod Symbols
+pub mod Bound
+pub mod Choose
+pub mod Another
+pub mod Ambiguous
+pub mod Examples
