@@ -107,15 +107,21 @@ documentLines j ls =
 unfoldable pub mismatched : Grammar → Bool
 mismatched g = elim (g .prolog) [ no-prolog ↦ false | version k ↦ not (same k (chars "1.0")) ]
 
--- the result of reading, "the reading as numbers", and of converting, "the XML", each with its ambiguous mark
-abbrev pub ReadingResult : Job → List ℕ → Bool → Type 0
-ReadingResult j xs m = ofReading j (λ g r t p. (T m ↔ Second g r p) × (xs ≡ p))
+-- the result of reading, "the reading as numbers", and of converting, "the XML", with the ambiguous mark m
+abbrev pub Shown : Type 0
+Shown = Bool → Grammar → Text → Row → List ℕ → List ℕ
 
-abbrev pub XmlResult : Job → List ℕ → Bool → Type 0
-XmlResult j xs m = ofReading j (λ g r t p. (T m ↔ Second g r p) × (xs ≡ bytes m (mismatched g) (document g r t)))
+abbrev pub asNumbers : Shown
+asNumbers m g r t p = p
 
-abbrev pub tooLong : Job → (List ℕ → Bool → Type 0) → Line
-tooLong j R = line 23 ((xs : List ℕ) × (m : Bool) × R xs m × (j .room < length xs))
+abbrev pub asXml : Shown
+asXml m g r t p = bytes m (mismatched g) (document g r t)
+
+abbrev pub ResultOf : Job → Shown → List ℕ → Bool → Type 0
+ResultOf j F xs m = ofReading j (λ g r t p. (T m ↔ Second g r p) × (xs ≡ F m g r t p))
+
+abbrev pub tooLong : Job → Shown → Line
+tooLong j F = line 23 ((xs : List ℕ) × (m : Bool) × ResultOf j F xs m × (j .room < length xs))
 
 -- "An answer holds the number, a length, an ambiguous mark and a version mark."
 pub record Answer : Type 0 where
@@ -137,9 +143,9 @@ abbrev pub Checks : List ℕ → Answer → Type 0
 Checks bs a = Answers (grammarLines bs []) (λ xs m. (xs ≡ []) × (m ≡ false)) bs [] a []
 
 abbrev pub Reads : Job → List ℕ → Answer → List ℕ → Type 0
-Reads j = Answers (grammarLines (j .grammar) (recordLines j (tooLong j (ReadingResult j) ∷ []))) (ReadingResult j) (j .grammar)
+Reads j = Answers (grammarLines (j .grammar) (recordLines j (tooLong j asNumbers ∷ []))) (ResultOf j asNumbers) (j .grammar)
 
 abbrev pub Converts : Job → List ℕ → Answer → List ℕ → Type 0
-Converts j = Answers (grammarLines (j .grammar) (recordLines j (documentLines j (tooLong j (XmlResult j) ∷ [])))) (XmlResult j) (j .grammar)
+Converts j = Answers (grammarLines (j .grammar) (recordLines j (documentLines j (tooLong j asXml ∷ [])))) (ResultOf j asXml) (j .grammar)
 
 -- the category call answers `categoryNumber` for every number

@@ -1,8 +1,6 @@
 -- Derivations, from the plain rules alone.
-use mathlib.Core.Bool.{Bool, true, false}
-use mathlib.Core.Path.{_≡_}
 use mathlib.Core.List.{List, [], _∷_, _++_}
-use Prim.Native.Nat.{ℕ, suc, _+_, _<_, _≤_, max}
+use Prim.Native.Nat.{ℕ, suc, _+_, _<_, max}
 use lib.Dec.{T}
 use lib.ListN.{length, getD, drop}
 use Rattle.text.specs.Lists.{Text}

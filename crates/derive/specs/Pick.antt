@@ -34,12 +34,12 @@ pickTree g r (suc k) s i j = elim (canOne g r k s i j) [
       node a j (pickRow (canOne g r k) (pickTree g r k) (alternative g s a) i j) end)
 ]
 
-pub data Answer : Type 0 where
-  none : Answer
-  found : Row → Answer
+pub data Choice : Type 0 where
+  no-choice : Choice
+  found : Row → Choice
 
 -- the chosen derivation of the record. Heights are tried upwards, to the first that is enough.
-abbrev pub chosenOf : Grammar → Text → Answer
+abbrev pub chosenOf : Grammar → Text → Choice
 chosenOf g r =
     let k = first (λ k. canOne g r k (root g) 0 (length r)) 0 (suc (top g r)) in
-    elim (leb k (top g r)) [ true ↦ found (pickTree g r k (root g) 0 (length r)) | false ↦ none ]
+    elim (leb k (top g r)) [ true ↦ found (pickTree g r k (root g) 0 (length r)) | false ↦ no-choice ]

@@ -20,7 +20,7 @@ use Rattle.syntax.proofs.Classes.{clash}
 use Rattle.syntax.proofs.Sound.{sound}
 
 -- to unfold this is to unfold the reader
-computing : Unit {0}
+unfoldable pub computing : Unit {0}
 unfolding category.ranges category.look category.categoryOf category.inClass
     s.ch s.whitespace s.plain s.quote s.digit s.digitValue s.capital s.letter s.bar s.isMark s.markOf s.namestart s.namefollower s.defines
     r.when r.then r.map r.guard r.expect p.kind p.step p.scan p.spacing p.required p.spaced

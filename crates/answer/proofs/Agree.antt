@@ -1,0 +1,210 @@
+-- Each test is its line's: what the tests compute is what the lines say.
+use mathlib.Core.Bool.{Bool, true, false, not, _||_}
+use mathlib.Core.Path.{_≡_, refl, sym, subst, ap, _∙_}
+use mathlib.Core.Logic.{_⊎_, inl, inr, _↔_}
+use mathlib.Core.List.{List, [], _∷_}
+use Prim.Native.Nat.{ℕ, _<_}
+use native.Mathlib.Omega.{arith}
+use lib.Dec.{T, ltb, ltb→lt, lt→ltb}
+use lib.ListN.{length}
+use Rattle.text.specs.Limits.{grammarBytes, mostSize, recordChars, grammarTable, readingNumbers}
+use Rattle.text.specs.Lists.{Text, all}
+use Rattle.text.specs.Utf8.{Utf8, unmarked, known}
+use Rattle.text.specs.Decode.{Decoded, text, not-utf8, decode}
+use Rattle.text.proofs.Decode.{decode-sound, decode-complete}
+use Rattle.tree.specs.Tree.{Grammar}
+use Rattle.syntax.specs.Syntax.{Ixml}
+use Rattle.syntax.specs.Parser.{Parsed, parsed, no-parse, parse}
+use Rattle.syntax.proofs.Sound.{sound}
+use Rattle.syntax.proofs.Complete.{complete}
+use Rattle.plain.specs.Static.{undefined, duplicate, beyond, banned, backwards, unclassed}
+use Rattle.plain.specs.Plain.{size}
+use Rattle.derive.specs.Derive.{Row, Derivation, root, leftParse}
+use Rattle.derive.specs.Chosen.{Chosen, Reading, Second}
+use Rattle.derive.specs.Pick.{Choice, found, no-choice, chosenOf}
+use Rattle.derive.proofs.Chosen.{chosen-derives}
+use Rattle.derive.proofs.Choose.{found-chosen, none-derives, chosen-found}
+use Rattle.xml.specs.Document.{document, markOf, twice, misnamed, unwritable, isAttribute, notOne, namespaced}
+use Rattle.answer.specs.Answer.{Line, GrammarText, GrammarTree, ofText, ofTree, grammarLines, Job, Given, ofJob, ofReading, tableNeed, recordLines, documentLines}
+use Rattle.answer.specs.Compute.{Test, onText, onTree, onChoice, isText, isTree, isFound, afterMark, treeOf, grammarTests, onJob, onReading, recordTests, documentTests}
+use Rattle.answer.proofs.Lines.{Agree}
+
+-- a test of a test is its fact
+abbrev pub Tests : Bool → Type 0 → Type 0
+Tests b A = T b ↔ A
+
+pub same-test : (b : Bool) → Tests b (T b)
+same-test b = (λ h. h, λ h. h)
+
+pub less : (a b : ℕ) → Tests (ltb a b) (a < b)
+less a b = (ltb→lt a b, lt→ltb a b)
+
+either : (a b : Bool) (A B : Type 0) → Tests a A → Tests b B → Tests (a || b) (A ⊎ B)
+either true b A B p q = (λ h. inl (p .0 tt), λ h. tt)
+either false b A B p q = (λ h. inr (q .0 h), λ h. elim h as (λ _. T b) [ inl x ↦ absurd (p .1 x) | inr y ↦ q .1 y ])
+
+-- a text, its tree
+text-known : (bs : List ℕ) (f : Text → Bool) (P : Text → Type 0) → ((cs : Text) → Tests (f cs) (P cs)) → Tests (onText (decode bs) f) (ofText Utf8 bs P)
+text-known bs f P h = (go (decode bs) refl, λ x. rw (decode-complete bs (x .0) (x .1)) (h (x .0) .1 (x .2)))
+  where
+    go : (d : Decoded) → decode bs ≡ d → T (onText d f) → ofText Utf8 bs P
+    go (text cs) e t = (cs, decode-sound bs cs e, h cs .0 t)
+    go not-utf8 e t = absurd t
+
+no-text : (bs : List ℕ) → Tests (not (isText (decode bs))) (((cs : Text) × Utf8 bs cs) → ⊥)
+no-text bs = (go (decode bs) refl, back (decode bs) refl)
+  where
+    go : (d : Decoded) → decode bs ≡ d → T (not (isText d)) → ((cs : Text) × Utf8 bs cs) → ⊥
+    go (text cs) e t x = t
+    go not-utf8 e t x = let w : not-utf8 ≡ text (x .0) = sym e ∙ decode-complete bs (x .0) (x .1) in let z : _≡_ {A = ℕ} 0 1 = cc in omega arith
+
+    back : (d : Decoded) → decode bs ≡ d → (((cs : Text) × Utf8 bs cs) → ⊥) → T (not (isText d))
+    back (text cs) e n = n (cs, decode-sound bs cs e)
+    back not-utf8 e n = tt
+
+marked-known : (bs : List ℕ) (f : Text → Bool) (P : Text → Type 0) → ((cs : Text) → Tests (f cs) (P cs)) → Tests (onText (decode bs) (λ cs. f (unmarked cs))) (ofText GrammarText bs P)
+marked-known bs f P h =
+    let w = text-known bs (λ cs. f (unmarked cs)) (λ cs. P (unmarked cs)) (λ cs. h (unmarked cs)) in
+    (λ t. let x = w .0 t in (unmarked (x .0), (x .0, x .1, refl), x .2), λ x. w .1 (x .1 .0, x .1 .1, subst P (x .1 .2) (x .2)))
+
+no-tree : (cs : Text) → Tests (not (isTree (parse cs))) (((g : Grammar) × Ixml cs g) → ⊥)
+no-tree cs = (go (parse cs) refl, back (parse cs) refl)
+  where
+    go : (p : Parsed) → parse cs ≡ p → T (not (isTree p)) → ((g : Grammar) × Ixml cs g) → ⊥
+    go (parsed g) e t x = t
+    go no-parse e t x = let w : no-parse ≡ parsed (x .0) = sym e ∙ complete cs (x .0) (x .1) in let z : _≡_ {A = ℕ} 0 1 = cc in omega arith
+
+    back : (p : Parsed) → parse cs ≡ p → (((g : Grammar) × Ixml cs g) → ⊥) → T (not (isTree p))
+    back (parsed g) e n = n (g, sound cs g e)
+    back no-parse e n = tt
+
+pub tree-sound : (bs : List ℕ) (g : Grammar) → treeOf bs ≡ parsed g → GrammarTree bs g
+unfolding treeOf
+tree-sound bs g e = go (decode bs) refl e
+  where
+    go : (d : Decoded) → decode bs ≡ d → afterMark d ≡ parsed g → GrammarTree bs g
+    go (text cs) q p = (unmarked cs, (cs, decode-sound bs cs q, refl), sound (unmarked cs) g p)
+    go not-utf8 q p = let z : _≡_ {A = ℕ} 0 1 = cc in absurd (omega arith)
+
+pub tree-complete : (bs : List ℕ) (g : Grammar) → GrammarTree bs g → treeOf bs ≡ parsed g
+unfolding treeOf
+tree-complete bs g x = rw (decode-complete bs (x .1 .0) (x .1 .1)) (complete (unmarked (x .1 .0)) g (subst (λ (cs : Text). Ixml cs g) (x .1 .2) (x .2)))
+
+pub tree-known : (bs : List ℕ) (f : Grammar → Bool) (P : Grammar → Type 0) → ((g : Grammar) → Tests (f g) (P g)) → Tests (onTree (treeOf bs) f) (ofTree bs P)
+tree-known bs f P h = (go (treeOf bs) refl, λ x. rw (tree-complete bs (x .0) (x .1)) (h (x .0) .1 (x .2)))
+  where
+    go : (p : Parsed) → treeOf bs ≡ p → T (onTree p f) → ofTree bs P
+    go (parsed g) e t = (g, tree-sound bs g e, h g .0 t)
+    go no-parse e t = absurd t
+
+test-known : (bs : List ℕ) (f : Grammar → Bool) → Tests (onTree (treeOf bs) f) (ofTree bs (λ g. T (f g)))
+test-known bs f = tree-known bs f (λ g. T (f g)) (λ g. same-test (f g))
+
+pub grammar-agrees : (bs : List ℕ) (ls : List Line) (ts : List Test) → Agree ls ts → Agree (grammarLines bs ls) (grammarTests bs ts)
+grammar-agrees bs ls ts a = (
+  refl,
+  less grammarBytes (length bs),
+  (
+    refl,
+    no-text bs,
+    (
+      refl,
+      marked-known bs (λ cs. not (all known cs)) (λ cs. T (not (all known cs))) (λ cs. same-test (not (all known cs))),
+      (
+        refl,
+        marked-known bs (λ cs. not (isTree (parse cs))) (λ cs. ((g : Grammar) × Ixml cs g) → ⊥) no-tree,
+        (
+          refl,
+          test-known bs undefined,
+          (
+            refl,
+            test-known bs duplicate,
+            (
+              refl,
+              test-known bs beyond,
+              (refl, test-known bs banned, (refl, test-known bs backwards, (refl, test-known bs unclassed, (refl, tree-known bs (λ g. ltb mostSize (size g)) (λ g. mostSize < size g) (λ g. less mostSize (size g)), a)))),
+            ),
+          ),
+        ),
+      ),
+    ),
+  ),
+)
+
+-- a job's grammar and record, and its chosen reading
+pub job-known : (j : Job) (f : Grammar → Text → Bool) (P : Grammar → Text → Type 0) → ((g : Grammar) (r : Text) → Tests (f g r) (P g r)) → Tests (onJob j f) (ofJob j P)
+job-known j f P h =
+    let w = tree-known (j .grammar) (λ g. onText (decode (j .input)) (f g)) (λ g. ofText Utf8 (j .input) (P g)) (λ g. text-known (j .input) (f g) (P g) (h g)) in
+    (λ t. let x = w .0 t in (x .0, x .2 .0, record { tree = x .1; text = x .2 .1 }, x .2 .2), λ x. w .1 (x .0, x .2 .tree, (x .1, x .2 .text, x .3)))
+
+reading-of : (g : Grammar) (r : Text) (t : Row) → Chosen g r t (root g ∷ []) 0 (length r) → Reading g r t (leftParse t)
+reading-of g r t c = record { chosen = c; parse = refl }
+
+pub reading-known : (j : Job) (f : Grammar → Text → Row → Bool) (P : Grammar → Text → Row → List ℕ → Type 0) → ((g : Grammar) (r : Text) (t : Row) → Tests (f g r t) (P g r t (leftParse t)))
+    → Tests (onReading j f) (ofReading j P)
+reading-known j f P h = job-known j (λ g r. onChoice (chosenOf g r) (f g r)) (λ g r. (t : Row) × (p : List ℕ) × Reading g r t p × P g r t p) each
+  where
+    each : (g : Grammar) (r : Text) → Tests (onChoice (chosenOf g r) (f g r)) ((t : Row) × (p : List ℕ) × Reading g r t p × P g r t p)
+    each g r = (go (chosenOf g r) refl, λ x. rw (chosen-found g r (x .2 .chosen)) (h g r (x .0) .1 (subst (λ (p : List ℕ). P g r (x .0) p) (x .2 .parse) (x .3))))
+      where
+        go : (c : Choice) → chosenOf g r ≡ c → T (onChoice c (f g r)) → (t : Row) × (p : List ℕ) × Reading g r t p × P g r t p
+        go (found t) e q = (t, leftParse t, reading-of g r t (found-chosen g r e), h g r t .0 q)
+        go no-choice e q = absurd q
+
+no-reading : (g : Grammar) (r : Text) → Tests (not (isFound (chosenOf g r))) (((t : Row) × Derivation g r t) → ⊥)
+no-reading g r = (go (chosenOf g r) refl, back (chosenOf g r) refl)
+  where
+    go : (c : Choice) → chosenOf g r ≡ c → T (not (isFound c)) → ((t : Row) × Derivation g r t) → ⊥
+    go (found t) e q x = q
+    go no-choice e q x = none-derives g r e (x .0) (x .1)
+
+    back : (c : Choice) → chosenOf g r ≡ c → (((t : Row) × Derivation g r t) → ⊥) → T (not (isFound c))
+    back (found t) e n = n (t, chosen-derives g r (found-chosen g r e))
+    back no-choice e n = tt
+
+test-reading : (j : Job) (f : Grammar → Text → Row → Bool) → Tests (onReading j f) (ofReading j (λ g r t p. T (f g r t)))
+test-reading j f = reading-known j f (λ g r t p. T (f g r t)) (λ g r t. same-test (f g r t))
+
+pub record-agrees : (j : Job) (ls : List Line) (ts : List Test) → Agree ls ts → Agree (recordLines j ls) (recordTests j ts)
+record-agrees j ls ts a = (
+  refl,
+  no-text (j .input),
+  (
+    refl,
+    text-known (j .input) (λ cs. not (all known cs)) (λ cs. T (not (all known cs))) (λ cs. same-test (not (all known cs))),
+    (
+      refl,
+      text-known (j .input) (λ cs. ltb recordChars (length cs)) (λ cs. recordChars < length cs) (λ cs. less recordChars (length cs)),
+      (
+        refl,
+        job-known j (λ g r. ltb (j .mainTable) (tableNeed (size g) (length r)) || ltb (j .secondTable) grammarTable) (λ g r. (j .mainTable < tableNeed (size g) (length r)) ⊎ (j .secondTable < grammarTable))
+            (λ g r. either (ltb (j .mainTable) (tableNeed (size g) (length r))) (ltb (j .secondTable) grammarTable) (j .mainTable < tableNeed (size g) (length r)) (j .secondTable < grammarTable)
+            (less (j .mainTable) (tableNeed (size g) (length r))) (less (j .secondTable) grammarTable)),
+        (
+          refl,
+          job-known j (λ g r. not (isFound (chosenOf g r))) (λ g r. ((t : Row) × Derivation g r t) → ⊥) no-reading,
+          (refl, reading-known j (λ g r t. ltb readingNumbers (length (leftParse t))) (λ g r t p. readingNumbers < length p) (λ g r t. less readingNumbers (length (leftParse t))), a),
+        ),
+      ),
+    ),
+  ),
+)
+
+pub document-agrees : (j : Job) (ls : List Line) (ts : List Test) → Agree ls ts → Agree (documentLines j ls) (documentTests j ts)
+document-agrees j ls ts a = (
+  refl,
+  test-reading j (λ g r t. twice (document g r t)),
+  (
+    refl,
+    test-reading j (λ g r t. misnamed (document g r t)),
+    (
+      refl,
+      test-reading j (λ g r t. unwritable (document g r t)),
+      (
+        refl,
+        test-reading j (λ g r t. isAttribute (markOf g (root g))),
+        (refl, test-reading j (λ g r t. notOne (document g r t)), (refl, test-reading j (λ g r t. namespaced (document g r t)), a)),
+      ),
+    ),
+  ),
+)

@@ -1,0 +1,225 @@
+-- Each call has exactly one answer for each job, and it is the one that is computed.
+use mathlib.Core.Bool.{Bool, true, false, not, _&&_, _||_}
+use mathlib.Core.Path.{_≡_, refl, sym, subst, ap, _∙_}
+use mathlib.Core.Logic.{_⊎_, inl, inr, _↔_, ⊎-elim}
+use mathlib.Core.List.{List, [], _∷_, _++_}
+use Prim.Native.Nat.{ℕ, _<_}
+use native.Mathlib.Omega.{arith}
+use native.Mathlib.Decide.{ℕ-discrete}
+use lib.Dec.{T, ltb, eqb, ltb→lt}
+use lib.ListN.{length, drop}
+use borrow.Author.Tests.{eqb-true, eqb-false, eq-eqb, ne-eqb}
+use Rattle.text.specs.Lists.{Text, all}
+use Rattle.text.specs.Utf8.{unmarked}
+use Rattle.text.proofs.Table.{and-left, and-right}
+use Rattle.text.proofs.Tests.{look, isT, notT, T-true, T-false, clash}
+use Rattle.text.specs.Decode.{Decoded, text, not-utf8, decode}
+use Rattle.text.proofs.Decode.{decode-sound, decode-complete}
+use Rattle.tree.specs.Tree.{Grammar}
+use Rattle.syntax.specs.Parser.{Parsed, parsed, no-parse, parse}
+use Rattle.derive.specs.Derive.{Row, root, leftParse}
+use Rattle.derive.specs.Chosen.{Chosen, Reading, Second}
+use Rattle.derive.specs.Pick.{Choice, found, no-choice, chosenOf}
+use Rattle.derive.specs.Another.{ambiguousOf}
+use Rattle.derive.proofs.Choose.{found-chosen, chosen-found}
+use Rattle.derive.proofs.Ambiguous.{ambiguous-second}
+use Rattle.answer.specs.Answer.{Line, line, Topmost, ofTree, grammarLines, recordLines, documentLines, Job, mismatched, Given, ofReading, Shown, asNumbers, asXml, ResultOf, tooLong, Answer, Answers, Checks, Reads, Converts}
+use Rattle.answer.specs.Compute.{Test, test, firstOf, onReading, grammarTests, recordTests, documentTests, isText, isTree, isFound, onText, onJob, treeOf, afterMark, Result, result, resultOf, resultBy, Outcome, outcome, mismatch, checkOf, longTest, callOf, readOf, convertOf}
+use Rattle.answer.proofs.Lines.{one-topmost, Agree, first-topmost}
+use Rattle.answer.proofs.Agree.{Tests, grammar-agrees, record-agrees, document-agrees, tree-known, reading-known, same-test, less, tree-sound, tree-complete}
+
+-- two tests of one fact are one
+same-mark : (a b : Bool) (A : Type 0) → T a ↔ A → T b ↔ A → a ≡ b
+same-mark true b A p q = sym (T-true b (q .1 (p .0 tt)))
+same-mark false b A p q = sym (T-false b (λ t. p .1 (q .0 t)))
+
+module _ (lines : List Line) (R : List ℕ → Bool → Type 0) (bs old : List ℕ) (one : (xs ys : List ℕ) (m n : Bool) → R xs m → R ys n → (xs ≡ ys) × (m ≡ n)) where
+  -- no two answers
+  pub one-answer : (a b : Answer) (new new' : List ℕ) → Answers lines R bs old a new → Answers lines R bs old b new' → (a ≡ b) × (new ≡ new')
+  one-answer a b new new' p q = elim (ℕ-discrete (a .number) 0) as (λ _. (a ≡ b) × (new ≡ new')) [
+    | yes z ↦ (let x = p .answered z in
+        let y = q .answered (sym same ∙ z) in
+        let w = one (x .0) (y .0) (a .ambiguous) (b .ambiguous) (x .1) (y .1) in (
+          λ ι. record { number = same ι; length = (x .2 ∙ ap length (w .0) ∙ sym (y .2)) ι; ambiguous = w .1 ι; version = marks ι },
+          x .3 ∙ ap (λ (xs : List ℕ). xs ++ drop (length xs) old) (w .0) ∙ sym (y .3),
+        ))
+    | no z ↦ (let x = p .refused z in
+        let y = q .refused (λ e. z (same ∙ e)) in
+        (λ ι. record { number = same ι; length = (x .0 ∙ sym (y .0)) ι; ambiguous = (x .1 ∙ sym (y .1)) ι; version = marks ι }, x .2 ∙ sym (y .2)))
+  ]
+    where
+      same : a .number ≡ b .number
+      same = one-topmost lines (a .number) (b .number) (p .number) (q .number)
+
+      marks : a .version ≡ b .version
+      marks = same-mark (a .version) (b .version) (((a .number ≡ 0) ⊎ (a .number ≡ 16)) × ofTree bs (λ g. T (mismatched g))) (p .version)
+          (subst (λ (n : ℕ). T (b .version) ↔ (((n ≡ 0) ⊎ (n ≡ 16)) × ofTree bs (λ g. T (mismatched g)))) (sym same) (q .version))
+
+-- the computed one is one
+mark-0 : (m : Bool) (A : Type 0) (n : ℕ) → n ≡ 0 → T m ↔ A → T m ↔ (((n ≡ 0) ⊎ (n ≡ 16)) × A)
+mark-0 m A n e h = (λ t. (inl e, h .0 t), λ x. h .1 (x .1))
+
+mark-other : (m : Bool) (A : Type 0) (n : ℕ) → (n ≡ 0 → ⊥) → T m ↔ A → T (eqb n 16 && m) ↔ (((n ≡ 0) ⊎ (n ≡ 16)) × A)
+mark-other m A n z h = elim (ℕ-discrete n 16) as (λ _. T (eqb n 16 && m) ↔ (((n ≡ 0) ⊎ (n ≡ 16)) × A)) [
+  | yes e ↦ rw (eq-eqb n 16 e) (λ t. (inr e, h .0 t), λ x. h .1 (x .1))
+  | no e ↦ rw (ne-eqb n 16 e) (λ t. absurd t, λ x. ⊎-elim (λ q. z q) (λ q. e q) (x .0))
+]
+
+pub computed : (ls : List Line) (ts : List Test) (R : List ℕ → Bool → Type 0) (bs old : List ℕ) (x : Result) (m : Bool) → Agree ls ts → T m ↔ ofTree bs (λ g. T (mismatched g))
+    → (firstOf ts ≡ 0 → R (x .cells) (x .ambiguous)) → Answers ls R bs old (outcome old m (firstOf ts) x .answer) (outcome old m (firstOf ts) x .buffer)
+computed ls ts R bs old x m a v h = go (firstOf ts) (first-topmost ls ts a) h (eqb (firstOf ts) 0) refl
+  where
+    go : (n : ℕ) → Topmost ls n → (n ≡ 0 → R (x .cells) (x .ambiguous)) → (b : Bool) → eqb n 0 ≡ b → Answers ls R bs old (outcome old m n x .answer) (outcome old m n x .buffer)
+    go n t k true e =
+        rw (e, outcome) (record {
+          number = t;
+          answered = λ z. (x .cells, k z, refl, refl);
+          refused = λ z. absurd (z (eqb-true n 0 e));
+          version = mark-0 m (ofTree bs (λ g. T (mismatched g))) n (eqb-true n 0 e) v;
+        })
+    go n t k false e =
+        rw (e, outcome) (record {
+          number = t;
+          answered = λ z. absurd (eqb-false n 0 e z);
+          refused = λ z. (refl, refl, refl);
+          version = mark-other m (ofTree bs (λ g. T (mismatched g))) n (eqb-false n 0 e) v;
+        })
+
+-- Checking.
+mismatch-known : (bs : List ℕ) → T (mismatch bs) ↔ ofTree bs (λ g. T (mismatched g))
+mismatch-known bs = tree-known bs mismatched (λ g. T (mismatched g)) (λ g. same-test (mismatched g))
+
+no-buffer : (m : Bool) (n : ℕ) → outcome [] m n (result [] false) .buffer ≡ []
+no-buffer m n = go (eqb n 0) refl
+  where
+    go : (b : Bool) → eqb n 0 ≡ b → outcome [] m n (result [] false) .buffer ≡ []
+    go true e = rw (e, outcome)
+    go false e = rw (e, outcome)
+
+pub check-answers : (bs : List ℕ) → Checks bs (checkOf bs)
+unfolding checkOf
+check-answers bs =
+    let n = firstOf (grammarTests bs []) in
+    let w = computed (grammarLines bs []) (grammarTests bs []) (λ xs m. (xs ≡ []) × (m ≡ false)) bs [] (result [] false) (mismatch bs) (grammar-agrees bs [] [] tt) (mismatch-known bs) (λ z. (refl, refl)) in
+    subst (λ (new : List ℕ). Checks' bs (outcome [] (mismatch bs) n (result [] false) .answer) new) (no-buffer (mismatch bs) n) w
+  where
+    Checks' : List ℕ → Answer → List ℕ → Type 0
+    Checks' bs a new = Answers (grammarLines bs []) (λ xs m. (xs ≡ []) × (m ≡ false)) bs [] a new
+
+pub check-settled : (bs : List ℕ) (a : Answer) → Checks bs a → a ≡ checkOf bs
+check-settled bs a p =
+    one-answer (grammarLines bs []) (λ xs m. (xs ≡ []) × (m ≡ false)) bs [] (λ xs ys m n x y. (x .0 ∙ sym (y .0), x .1 ∙ sym (y .1))) a (checkOf bs) [] [] p (check-answers bs) .0
+
+-- no test passes
+abbrev Fail : List Test → Type 0
+Fail [] = Unit {0}
+Fail (t ∷ ts) = (t .passes tt ≡ false) × Fail ts
+
+abbrev numbered : List Test → Bool
+numbered ts = all (λ t. ltb 0 (t .number)) ts
+
+none-pass : (ts : List Test) → T (numbered ts) → firstOf ts ≡ 0 → Fail ts
+none-pass [] k z = tt
+none-pass (t ∷ ts) k z = go (t .passes tt) refl z (none-pass ts (and-right (ltb 0 (t .number)) (numbered ts) k))
+  where
+    go : (b : Bool) → t .passes tt ≡ b → _≡_ {A = ℕ} (elim b as (λ _. ℕ) [ true ↦ t .number | false ↦ firstOf ts ]) 0 → (firstOf ts ≡ 0 → Fail ts) → Fail (t ∷ ts)
+    go true e q h = let l = ltb→lt 0 (t .number) (and-left (ltb 0 (t .number)) (numbered ts) k) in absurd (omega arith)
+    go false e q h = (e, h q)
+
+text-there : (d : Decoded) → not (isText d) ≡ false → (cs : Text) × (d ≡ text cs)
+text-there (text cs) e = (cs, refl)
+text-there not-utf8 e = absurd (clash e refl)
+
+tree-there : (p : Parsed) → not (isTree p) ≡ false → (g : Grammar) × (p ≡ parsed g)
+tree-there (parsed g) e = (g, refl)
+tree-there no-parse e = absurd (clash e refl)
+
+choice-there : (c : Choice) → not (isFound c) ≡ false → (t : Row) × (c ≡ found t)
+choice-there (found t) e = (t, refl)
+choice-there no-choice e = absurd (clash e refl)
+
+-- Reading and converting.
+module _ (j : Job) (F : Shown) where
+  -- whatever is a result is the computed one
+  result-is : (xs : List ℕ) (m : Bool) → ResultOf j F xs m → result xs m ≡ resultOf j (resultBy F)
+  result-is xs m x =
+      let g = x .0 in
+      let r = x .1 in
+      let t = x .3 .0 in
+      let w = x .3 .2 in
+      let em : m ≡ ambiguousOf g r t = same-mark m (ambiguousOf g r t) (Second g r (x .3 .1)) (x .3 .3 .0) (ambiguous-second g r w) in
+      let ex : xs ≡ F (ambiguousOf g r t) g r t (leftParse t) = x .3 .3 .1 ∙ (λ ι. F (em ι) g r t (w .parse ι)) in
+      let ec : result xs m ≡ result (F (ambiguousOf g r t) g r t (leftParse t)) (ambiguousOf g r t) = λ ι. result (ex ι) (em ι) in
+      rw (tree-complete (j .grammar) g (x .2 .tree), decode-complete (j .input) r (x .2 .text), chosen-found g r (w .chosen)) ec
+
+  one-result : (xs ys : List ℕ) (m n : Bool) → ResultOf j F xs m → ResultOf j F ys n → (xs ≡ ys) × (m ≡ n)
+  one-result xs ys m n x y = let e = result-is xs m x ∙ sym (result-is ys n y) in (ap (λ (z : Result). z .cells) e, ap (λ (z : Result). z .ambiguous) e)
+
+  by-reading : (g : Grammar) (r : Text) (t : Row) → Given j g r → Chosen g r t (root g ∷ []) 0 (length r) → ResultOf j F (resultBy F g r t .cells) (resultBy F g r t .ambiguous)
+  by-reading g r t v c = let w : Reading g r t (leftParse t) = record { chosen = c; parse = refl } in (g, r, v, (t, leftParse t, w, (ambiguous-second g r w, refl)))
+
+  long-known : Tests (onReading j (λ g r t. ltb (j .room) (length (resultBy F g r t .cells)))) ((xs : List ℕ) × (m : Bool) × ResultOf j F xs m × (j .room < length xs))
+  long-known =
+      let w = reading-known j (λ g r t. ltb (j .room) (length (resultBy F g r t .cells))) (λ g r t p. j .room < length (resultBy F g r t .cells)) (λ g r t. less (j .room) (length (resultBy F g r t .cells))) in (
+        λ h. let x = w .0 h in (resultBy F (x .0) (x .1) (x .3 .0) .cells, resultBy F (x .0) (x .1) (x .3 .0) .ambiguous, by-reading (x .0) (x .1) (x .3 .0) (x .2) (x .3 .2 .chosen), x .3 .3),
+        λ x. w .1 (x .2 .0, x .2 .1, x .2 .2, (x .2 .3 .0, x .2 .3 .1, x .2 .3 .2, longer (x .0) (x .1) (x .2) (x .3))),
+      )
+    where
+      longer : (xs : List ℕ) (m : Bool) (x : ResultOf j F xs m) → j .room < length xs → j .room < length (resultBy F (x .0) (x .1) (x .3 .0) .cells)
+      longer xs m x h = subst (λ (ys : List ℕ). j .room < length ys) (one-result xs (resultBy F (x .0) (x .1) (x .3 .0) .cells) m (resultBy F (x .0) (x .1) (x .3 .0) .ambiguous) x (by-reading (x .0) (x .1) (x .3 .0) (x .2) (x .3 .2 .chosen)) .0) h
+
+  -- where no line applies there is a result
+  there-tree : (cs : Text) → decode (j .grammar) ≡ text cs → onText (decode (j .grammar)) (λ cs. not (isTree (parse (unmarked cs)))) ≡ false → (g : Grammar) × (treeOf (j .grammar) ≡ parsed g)
+  unfolding treeOf
+  there-tree cs e f = let p = tree-there (parse (unmarked cs)) (rw e at f) in (p .0, ap afterMark e ∙ p .1)
+
+  there-result : (g : Grammar) (r : Text) (t : Row) → treeOf (j .grammar) ≡ parsed g → decode (j .input) ≡ text r → chosenOf g r ≡ found t
+      → ResultOf j F (resultOf j (resultBy F) .cells) (resultOf j (resultBy F) .ambiguous)
+  there-result g r t et er ec = rw (et, er, ec) (by-reading g r t (record { tree = tree-sound (j .grammar) g et; text = decode-sound (j .input) r er }) (found-chosen g r ec))
+
+  there-choice : (g : Grammar) (r : Text) → treeOf (j .grammar) ≡ parsed g → decode (j .input) ≡ text r → onJob j (λ g r. not (isFound (chosenOf g r))) ≡ false → (t : Row) × (chosenOf g r ≡ found t)
+  there-choice g r et er f = choice-there (chosenOf g r) (rw (et, er) at f)
+
+  there : (ts : List Test) → Fail (grammarTests (j .grammar) (recordTests j ts)) → ResultOf j F (resultOf j (resultBy F) .cells) (resultOf j (resultBy F) .ambiguous)
+  there ts w =
+      let records = w .1 .1 .1 .1 .1 .1 .1 .1 .1 .1 .1 in
+      let d = text-there (decode (j .grammar)) (w .1 .0) in
+      let e = text-there (decode (j .input)) (records .0) in
+      let p = there-tree (d .0) (d .1) (w .1 .1 .1 .0) in
+      let c = there-choice (p .0) (e .0) (p .1) (e .1) (records .1 .1 .1 .1 .0) in
+      there-result (p .0) (e .0) (c .0) (p .1) (e .1) (c .1)
+
+  -- the lines of a call, and its tests
+  module _ (old : List ℕ) (ls : List Line) (ts : List Test) (k : T (numbered (grammarTests (j .grammar) (recordTests j ts)))) (a : Agree ls ts) where
+    lines : List Line
+    lines = grammarLines (j .grammar) (recordLines j ls)
+
+    made : Outcome
+    made = outcome old (mismatch (j .grammar)) (firstOf (grammarTests (j .grammar) (recordTests j ts))) (resultOf j (resultBy F))
+
+    call-answers : Answers lines (ResultOf j F) (j .grammar) old (made .answer) (made .buffer)
+    unfolding lines made
+    call-answers =
+        computed (grammarLines (j .grammar) (recordLines j ls)) (grammarTests (j .grammar) (recordTests j ts)) (ResultOf j F) (j .grammar) old (resultOf j (resultBy F)) (mismatch (j .grammar))
+        (grammar-agrees (j .grammar) (recordLines j ls) (recordTests j ts) (record-agrees j ls ts a)) (mismatch-known (j .grammar))
+        (λ z. there ts (none-pass (grammarTests (j .grammar) (recordTests j ts)) k z))
+
+    call-settled : (b : Answer) (new : List ℕ) → Answers lines (ResultOf j F) (j .grammar) old b new → (b ≡ made .answer) × (new ≡ made .buffer)
+    call-settled b new p = one-answer lines (ResultOf j F) (j .grammar) old one-result b (made .answer) new (made .buffer) p call-answers
+
+-- the computed answer is an answer, and the only one
+pub read-answers : (j : Job) (old : List ℕ) → Reads j old (readOf j old .answer) (readOf j old .buffer)
+unfolding readOf lines made
+read-answers j old = call-answers j asNumbers old (tooLong j asNumbers ∷ []) (longTest asNumbers j ∷ []) tt (refl, long-known j asNumbers, tt)
+
+pub read-settled : (j : Job) (old : List ℕ) (a : Answer) (new : List ℕ) → Reads j old a new → (a ≡ readOf j old .answer) × (new ≡ readOf j old .buffer)
+unfolding readOf lines made
+read-settled j old a new p = call-settled j asNumbers old (tooLong j asNumbers ∷ []) (longTest asNumbers j ∷ []) tt (refl, long-known j asNumbers, tt) a new p
+
+pub convert-answers : (j : Job) (old : List ℕ) → Converts j old (convertOf j old .answer) (convertOf j old .buffer)
+unfolding convertOf lines made
+convert-answers j old = call-answers j asXml old (documentLines j (tooLong j asXml ∷ [])) (documentTests j (longTest asXml j ∷ [])) tt (document-agrees j (tooLong j asXml ∷ []) (longTest asXml j ∷ []) (refl, long-known j asXml, tt))
+
+pub convert-settled : (j : Job) (old : List ℕ) (a : Answer) (new : List ℕ) → Converts j old a new → (a ≡ convertOf j old .answer) × (new ≡ convertOf j old .buffer)
+unfolding convertOf lines made
+convert-settled j old a new p = call-settled j asXml old (documentLines j (tooLong j asXml ∷ [])) (documentTests j (longTest asXml j ∷ [])) tt (document-agrees j (tooLong j asXml ∷ []) (longTest asXml j ∷ []) (refl, long-known j asXml, tt)) a new p

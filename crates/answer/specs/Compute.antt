@@ -1,0 +1,161 @@
+-- The answers computed: a test for each line, in the same order, and the first that passes.
+use mathlib.Core.Bool.{Bool, true, false, not, _&&_, _||_}
+use mathlib.Core.List.{List, [], _∷_, _++_}
+use Prim.Native.Nat.{ℕ}
+use lib.Dec.{ltb, eqb}
+use lib.ListN.{length, drop}
+use Rattle.text.specs.Limits.{grammarBytes, mostSize, recordChars, grammarTable, readingNumbers}
+use Rattle.text.specs.Lists.{Text, all}
+use Rattle.text.specs.Utf8.{unmarked, known}
+use Rattle.text.specs.Decode.{Decoded, text, not-utf8, decode}
+use Rattle.tree.specs.Tree.{Grammar}
+use Rattle.syntax.specs.Parser.{Parsed, parsed, no-parse, parse}
+use Rattle.plain.specs.Static.{undefined, duplicate, beyond, banned, backwards, unclassed}
+use Rattle.plain.specs.Plain.{size}
+use Rattle.derive.specs.Derive.{Row, root, leftParse}
+use Rattle.derive.specs.Pick.{Choice, found, no-choice, chosenOf}
+use Rattle.derive.specs.Another.{ambiguousOf}
+use Rattle.xml.specs.Document.{document, markOf, twice, misnamed, unwritable, isAttribute, notOne, namespaced}
+use Rattle.answer.specs.Answer.{Job, tableNeed, mismatched, Shown, asNumbers, asXml, Answer}
+
+-- a line's number, and a test that waits until it is asked
+pub record Test : Type 0 where
+  pub number : ℕ
+  pub passes : Unit {0} → Bool
+
+abbrev pub test : ℕ → (Unit {0} → Bool) → Test
+test n f = record { number = n; passes = f }
+
+abbrev pub firstOf : List Test → ℕ
+firstOf [] = 0
+firstOf (t ∷ ts) = elim (t .passes tt) [ true ↦ t .number | false ↦ firstOf ts ]
+
+-- tests on what there is
+abbrev pub onText : Decoded → (Text → Bool) → Bool
+onText (text cs) f = f cs
+onText not-utf8 f = false
+
+abbrev pub onTree : Parsed → (Grammar → Bool) → Bool
+onTree (parsed g) f = f g
+onTree no-parse f = false
+
+abbrev pub onChoice : Choice → (Row → Bool) → Bool
+onChoice (found t) f = f t
+onChoice no-choice f = false
+
+abbrev pub isText : Decoded → Bool
+isText (text cs) = true
+isText not-utf8 = false
+
+abbrev pub isTree : Parsed → Bool
+isTree (parsed g) = true
+isTree no-parse = false
+
+abbrev pub isFound : Choice → Bool
+isFound (found t) = true
+isFound no-choice = false
+
+-- the tree of a grammar's bytes
+abbrev pub afterMark : Decoded → Parsed
+afterMark (text cs) = parse (unmarked cs)
+afterMark not-utf8 = no-parse
+
+unfoldable pub treeOf : List ℕ → Parsed
+treeOf bs = afterMark (decode bs)
+
+abbrev pub grammarTests : List ℕ → List Test → List Test
+grammarTests bs ts =
+    test 1 (λ _. ltb grammarBytes (length bs))
+    ∷ test 2 (λ _. not (isText (decode bs)))
+    ∷ test 3 (λ _. onText (decode bs) (λ cs. not (all known (unmarked cs))))
+    ∷ test 4 (λ _. onText (decode bs) (λ cs. not (isTree (parse (unmarked cs)))))
+    ∷ test 5 (λ _. onTree (treeOf bs) undefined)
+    ∷ test 6 (λ _. onTree (treeOf bs) duplicate)
+    ∷ test 7 (λ _. onTree (treeOf bs) beyond)
+    ∷ test 8 (λ _. onTree (treeOf bs) banned)
+    ∷ test 9 (λ _. onTree (treeOf bs) backwards)
+    ∷ test 10 (λ _. onTree (treeOf bs) unclassed)
+    ∷ test 11 (λ _. onTree (treeOf bs) (λ g. ltb mostSize (size g)))
+    ∷ ts
+
+abbrev pub onJob : Job → (Grammar → Text → Bool) → Bool
+onJob j f = onTree (treeOf (j .grammar)) (λ g. onText (decode (j .input)) (f g))
+
+abbrev pub onReading : Job → (Grammar → Text → Row → Bool) → Bool
+onReading j f = onJob j (λ g r. onChoice (chosenOf g r) (f g r))
+
+abbrev pub recordTests : Job → List Test → List Test
+recordTests j ts =
+    test 12 (λ _. not (isText (decode (j .input))))
+    ∷ test 13 (λ _. onText (decode (j .input)) (λ cs. not (all known cs)))
+    ∷ test 14 (λ _. onText (decode (j .input)) (λ cs. ltb recordChars (length cs)))
+    ∷ test 15 (λ _. onJob j (λ g r. ltb (j .mainTable) (tableNeed (size g) (length r)) || ltb (j .secondTable) grammarTable))
+    ∷ test 16 (λ _. onJob j (λ g r. not (isFound (chosenOf g r))))
+    ∷ test 29 (λ _. onReading j (λ g r t. ltb readingNumbers (length (leftParse t))))
+    ∷ ts
+
+abbrev pub documentTests : Job → List Test → List Test
+documentTests j ts =
+    test 17 (λ _. onReading j (λ g r t. twice (document g r t)))
+    ∷ test 18 (λ _. onReading j (λ g r t. misnamed (document g r t)))
+    ∷ test 19 (λ _. onReading j (λ g r t. unwritable (document g r t)))
+    ∷ test 20 (λ _. onReading j (λ g r t. isAttribute (markOf g (root g))))
+    ∷ test 21 (λ _. onReading j (λ g r t. notOne (document g r t)))
+    ∷ test 22 (λ _. onReading j (λ g r t. namespaced (document g r t)))
+    ∷ ts
+
+-- a result with its ambiguous mark; none where there is no reading
+pub record Result : Type 0 where
+  pub cells : List ℕ
+  pub ambiguous : Bool
+
+abbrev pub result : List ℕ → Bool → Result
+result xs m = record { cells = xs; ambiguous = m }
+
+abbrev pub onResult : Choice → (Row → Result) → Result
+onResult (found t) f = f t
+onResult no-choice f = result [] false
+
+abbrev pub resultText : Decoded → (Text → Result) → Result
+resultText (text cs) f = f cs
+resultText not-utf8 f = result [] false
+
+abbrev pub resultTree : Parsed → (Grammar → Result) → Result
+resultTree (parsed g) f = f g
+resultTree no-parse f = result [] false
+
+abbrev pub resultOf : Job → (Grammar → Text → Row → Result) → Result
+resultOf j f = resultTree (treeOf (j .grammar)) (λ g. resultText (decode (j .input)) (λ r. onResult (chosenOf g r) (f g r)))
+
+abbrev pub resultBy : Shown → Grammar → Text → Row → Result
+resultBy F g r t = let m = ambiguousOf g r t in result (F m g r t (leftParse t)) m
+
+-- an answer and its buffer, from the number and the result
+pub record Outcome : Type 0 where
+  pub answer : Answer
+  pub buffer : List ℕ
+
+abbrev pub outcome : List ℕ → Bool → ℕ → Result → Outcome
+outcome old mismatch n x = elim (eqb n 0) [
+  | true ↦ record { answer = record { number = n; length = length (x .cells); ambiguous = x .ambiguous; version = mismatch }; buffer = x .cells ++ drop (length (x .cells)) old }
+  | false ↦ record { answer = record { number = n; length = 0; ambiguous = false; version = eqb n 16 && mismatch }; buffer = old }
+]
+
+abbrev pub mismatch : List ℕ → Bool
+mismatch bs = onTree (treeOf bs) mismatched
+
+unfoldable pub checkOf : List ℕ → Answer
+checkOf bs = outcome [] (mismatch bs) (firstOf (grammarTests bs [])) (result [] false) .answer
+
+abbrev pub longTest : Shown → Job → Test
+longTest F j = test 23 (λ _. onReading j (λ g r t. ltb (j .room) (length (resultBy F g r t .cells))))
+
+-- a call, by the tests after 29 and the way its result is shown
+abbrev pub callOf : List Test → Shown → Job → List ℕ → Outcome
+callOf ts F j old = outcome old (mismatch (j .grammar)) (firstOf (grammarTests (j .grammar) (recordTests j ts))) (resultOf j (resultBy F))
+
+unfoldable pub readOf : Job → List ℕ → Outcome
+readOf j old = callOf (longTest asNumbers j ∷ []) asNumbers j old
+
+unfoldable pub convertOf : Job → List ℕ → Outcome
+convertOf j old = callOf (documentTests j (longTest asXml j ∷ [])) asXml j old

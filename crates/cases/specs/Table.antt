@@ -1,0 +1,61 @@
+-- The starred cases of document 01, in one table.
+use mathlib.Core.Bool.{Bool, true, false}
+use mathlib.Core.Path.{_≡_}
+use mathlib.Core.List.{List, [], _∷_, _++_}
+use Prim.Native.Nat.{ℕ}
+use Prim.Native.String.{String}
+use lib.ListN.{length, drop, replicate}
+use Rattle.text.specs.Limits.{programTable, grammarTable}
+use Rattle.text.specs.Lists.{chars}
+use Rattle.answer.specs.Answer.{Job, Answer, Checks, Reads, Converts}
+
+-- a grammar and a record that are answered: the reading, whether it is ambiguous, and the XML; or refused by reading and
+-- converting; or a grammar's number from checking
+pub data Case : Type 0 where
+  answered : String → String → List ℕ → Bool → String → Case
+  refused : String → String → ℕ → Case
+  checked : String → ℕ → Case
+
+unfoldable pub table : List Case
+table =
+    answered "a: \"x\"." "x" (0 ∷ []) false "<a>x</a>"
+    ∷ refused "a: \"x\"." "" 16
+    ∷ answered "a: \"x\"*." "" (0 ∷ 1 ∷ []) false "<a/>"
+    ∷ answered "a: \"x\"*." "xx" (0 ∷ 0 ∷ 0 ∷ 1 ∷ []) false "<a>xx</a>"
+    ∷ answered "a: \"x\"; \"x\"." "x" (0 ∷ []) true "<a xmlns:ixml='http://invisiblexml.org/NS' ixml:state='ambiguous'>x</a>"
+    ∷ answered "a: a; \"x\"." "x" (1 ∷ []) true "<a xmlns:ixml='http://invisiblexml.org/NS' ixml:state='ambiguous'>x</a>"
+    ∷ answered "a: (\"x\"?)*." "" (0 ∷ 1 ∷ []) true "<a xmlns:ixml='http://invisiblexml.org/NS' ixml:state='ambiguous'/>"
+    ∷ answered "a: +\"z\"." "" (0 ∷ []) false "<a>z</a>"
+    ∷ checked "a: \"\"." 4
+    ∷ checked "a: \"x\".b: \"y\"." 4
+    ∷ checked "a: b." 5
+    ∷ checked "a: \"x\". a: \"y\"." 6
+    ∷ checked "a: #110000." 7
+    ∷ checked "a: #10ffff." 8
+    ∷ checked "a: [\"b\"-\"a\"]." 9
+    ∷ checked "a: [Xx]." 10
+    ∷ checked "a: #10fffd." 0
+    ∷ []
+
+-- the tables that the program lends, and a buffer of a hundred cells that hold 7
+unfoldable pub buffer : List ℕ
+buffer = replicate 100 7
+
+unfoldable pub job : String → String → Job
+job g r = record { grammar = chars g; input = chars r; mainTable = programTable; secondTable = grammarTable; room = length buffer }
+
+unfoldable pub answer : ℕ → ℕ → Bool → Answer
+answer n k m = record { number = n; length = k; ambiguous = m; version = false }
+
+unfoldable pub filled : List ℕ → List ℕ
+filled xs = xs ++ drop (length xs) buffer
+
+-- what the table says, against the definitions of the calls
+abbrev pub Holds : Case → Type 0
+Holds (answered g r p m x) = Reads (job g r) buffer (answer 0 (length p) m) (filled p) × Converts (job g r) buffer (answer 0 (length (chars x)) m) (filled (chars x))
+Holds (refused g r n) = Reads (job g r) buffer (answer n 0 false) buffer × Converts (job g r) buffer (answer n 0 false) buffer
+Holds (checked g n) = Checks (chars g) (answer n 0 false)
+
+pub data Every (P : Case → Type 0) : List Case → Type 0 where
+  every-none : Every P []
+  every-more : {c : Case} {cs : List Case} → P c → Every P cs → Every P (c ∷ cs)

@@ -1,0 +1,1 @@
+// Worked examples only: see specs/ and proofs/.
