@@ -1,16 +1,18 @@
 -- The table agrees with the range list at all of its 256 entries, and the list knows nothing above them.
-use mathlib.Core.Path.{_≡_, refl, sym, ap, _∙_}
-use mathlib.Core.Bool.{Bool, true, false, _&&_, _||_, and-false}
+use mathlib.Core.Path.{_≡_, refl, sym, subst}
+use mathlib.Core.Bool.{Bool, true, false, not, _&&_, _||_, and-false}
 use mathlib.Core.List.{List, [], _∷_}
-use Prim.Native.Nat.{ℕ, _<_, _≤_}
+use Prim.Native.Nat.{ℕ, zero, suc, _<_, _≤_}
+use native.Mathlib.Nat.{not-suc-le-zero}
+use native.Mathlib.Decide.{decLt, ℕ-discrete}
 use native.Mathlib.Omega.{arith}
-use lib.Dec.{T, leb, ltb, eqb, eqb→eq}
+use lib.Dec.{T, leb, ltb, eqb, eqb→eq, ltb→lt}
 use lib.ListN.{length, getD}
-use borrow.Author.Tests.{lt-leb, ltb-true}
-use Rattle.text.specs.Lists.{Text, pick, any, all, same, Span, inside, chars, span}
+use borrow.Author.Tests.{lt-leb, le-leb, ltb-true}
+use Rattle.text.specs.Lists.{Text, chars, pick, any, all, same, begins, Span, inside}
 use Rattle.text.proofs.Tests.{T-true}
 use Rattle.text.proofs.Table.{at, and-left, and-right}
-use Rattle.category.specs.Category.{Row, ranges, look, categories, categoryOf, place, categoryNumber}
+use Rattle.category.specs.Category.{Row, ranges, look, categories, classes, categoryOf, inClass, place, categoryNumber}
 
 unfoldable pub table : List ℕ
 table =
@@ -54,18 +56,104 @@ in-none : (ss : List Span) (c : ℕ) → T (all ends-below ss) → 256 ≤ c →
 in-none [] c t h = refl
 in-none (s ∷ ss) c t h = rw (outside s c (and-left (ends-below s) (all ends-below ss) t) h, in-none ss c (and-right (ends-below s) (all ends-below ss) t) h)
 
-below : Row → Bool
-below r = all ends-below (r .spans)
+row-below : Row → Bool
+row-below r = all ends-below (r .spans)
 
-look-above : (rs : List Row) (c : ℕ) → T (all below rs) → 256 ≤ c → look rs c ≡ []
-unfolding look below
+look-above : (rs : List Row) (c : ℕ) → T (all row-below rs) → 256 ≤ c → look rs c ≡ []
+unfolding look row-below
 look-above [] c t h = refl
-look-above (r ∷ rs) c t h = rw (in-none (r .spans) c (and-left (below r) (all below rs) t) h) (look-above rs c (and-right (below r) (all below rs) t) h)
+look-above (r ∷ rs) c t h = rw (in-none (r .spans) c (and-left (row-below r) (all row-below rs) t) h) (look-above rs c (and-right (row-below r) (all row-below rs) t) h)
 
 pub unknown : (c : ℕ) → 256 ≤ c → categoryOf c ≡ []
-unfolding categoryOf ranges below ends-below
+unfolding categoryOf ranges row-below ends-below
 unknown c h = look-above ranges c tt h
 
 pub not-known : (c : ℕ) → 256 ≤ c → categoryNumber c ≡ 30
 unfolding categoryNumber place categories
 not-known c h = rw (unknown c h)
+
+-- a test of every number below m
+abbrev below : ℕ → (ℕ → Bool) → Bool
+below zero p = true
+below (suc m) p = p m && below m p
+
+below-at : (m : ℕ) (p : ℕ → Bool) → T (below m p) → (n : ℕ) → n < m → T (p n)
+below-at zero p t n h = absurd (not-suc-le-zero h)
+below-at (suc m) p t n h = elim (ℕ-discrete n m) as (λ _. T (p n)) [
+  | yes e ↦ subst (λ (k : ℕ). T (p k)) (sym e) (and-left (p m) (below m p) t)
+  | no e ↦ below-at m p (and-right (p m) (below m p) t) n (omega arith)
+]
+
+-- a category is known by its number
+named : ℕ → Bool
+named c = same (getD categories (categoryNumber c) []) (categoryOf c)
+
+same-is : (xs ys : Text) → T (same xs ys) → xs ≡ ys
+same-is [] [] h = refl
+same-is [] (y ∷ ys) h = absurd h
+same-is (x ∷ xs) [] h = absurd h
+same-is (x ∷ xs) (y ∷ ys) h = λ ι. eqb→eq x y (and-left (eqb x y) (same xs ys) h) ι ∷ same-is xs ys (and-right (eqb x y) (same xs ys) h) ι
+
+by-number : (c : ℕ) → getD categories (categoryNumber c) [] ≡ categoryOf c
+unfolding named categoryNumber place categories categoryOf look ranges
+by-number c = elim (decLt c 256) as (λ _. getD categories (categoryNumber c) [] ≡ categoryOf c) [
+  | yes h ↦ same-is (getD categories (categoryNumber c) []) (categoryOf c) (below-at 256 named tt c h)
+  | no h ↦ (let e = unknown c (omega arith) in let f = not-known c (omega arith) in rw (f, e))
+]
+
+-- the classes' first and last categories
+unfoldable pub firsts : List ℕ
+firsts = 0 ∷ 1 ∷ 2 ∷ 3 ∷ 4 ∷ 5 ∷ 6 ∷ 7 ∷ 8 ∷ 9 ∷ 10 ∷ 11 ∷ 12 ∷ 13 ∷ 14 ∷ 15 ∷ 16 ∷ 17 ∷ 18 ∷ 19 ∷ 20 ∷ 21 ∷ 22 ∷ 23 ∷ 24 ∷ 25 ∷ 26 ∷ 27 ∷ 28 ∷ 29 ∷ 0 ∷ 5 ∷ 8 ∷ 11 ∷ 18 ∷ 22 ∷ 25 ∷ 0 ∷ []
+
+unfoldable pub lasts : List ℕ
+lasts = 0 ∷ 1 ∷ 2 ∷ 3 ∷ 4 ∷ 5 ∷ 6 ∷ 7 ∷ 8 ∷ 9 ∷ 10 ∷ 11 ∷ 12 ∷ 13 ∷ 14 ∷ 15 ∷ 16 ∷ 17 ∷ 18 ∷ 19 ∷ 20 ∷ 21 ∷ 22 ∷ 23 ∷ 24 ∷ 25 ∷ 26 ∷ 27 ∷ 28 ∷ 29 ∷ 4 ∷ 7 ∷ 10 ∷ 17 ∷ 21 ∷ 24 ∷ 29 ∷ 2 ∷ []
+
+-- what a class says of a category
+holds : Text → Text → Bool
+holds k cat = pick (same k (chars "LC")) (any (same cat) (chars "Lu" ∷ chars "Ll" ∷ chars "Lt" ∷ [])) (begins k cat)
+
+agree : Bool → Bool → Bool
+agree true b = b
+agree false b = not b
+
+agree-is : (a b : Bool) → T (agree a b) → a ≡ b
+unfolding agree
+agree-is true true h = refl
+agree-is true false h = absurd h
+agree-is false true h = absurd h
+agree-is false false h = refl
+
+spanned : ℕ → ℕ → Bool
+spanned k n = agree (holds (getD classes k []) (getD categories n [])) (leb (getD firsts k 0) n && leb n (getD lasts k 0))
+
+small : ℕ → Bool
+small c = ltb (categoryNumber c) 31
+
+number-below : (c : ℕ) → categoryNumber c < 31
+unfolding small categoryNumber place categories categoryOf look ranges
+number-below c = elim (decLt c 256) as (λ _. categoryNumber c < 31) [
+  | yes h ↦ ltb→lt (categoryNumber c) 31 (below-at 256 small tt c h)
+  | no h ↦ (let f = not-known c (omega arith) in omega arith)
+]
+
+row : ℕ → Bool
+row k = below 31 (spanned k)
+
+-- a class is the span of its categories: one test over all classes and categories
+pub class-spans : (k c : ℕ) → k < 38 → inClass (getD classes k []) c ≡ (leb (getD firsts k 0) (categoryNumber c) && leb (categoryNumber c) (getD lasts k 0))
+unfolding inClass holds spanned row agree firsts lasts classes categories
+class-spans k c h =
+    let n = categoryNumber c in
+    let t = below-at 31 (spanned k) (below-at 38 row tt k h) n (number-below c) in
+    let e = agree-is (holds (getD classes k []) (getD categories n [])) (leb (getD firsts k 0) n && leb n (getD lasts k 0)) t in
+    subst (λ (x : Text). holds (getD classes k []) x ≡ (leb (getD firsts k 0) n && leb n (getD lasts k 0))) (by-number c) e
+
+pub before-first : (k c n : ℕ) → k < 38 → n ≡ categoryNumber c → n < getD firsts k 0 → false ≡ inClass (getD classes k []) c
+before-first k c n h e l =
+    let f : leb (getD firsts k 0) (categoryNumber c) ≡ false = lt-leb (getD firsts k 0) (categoryNumber c) (subst (λ (m : ℕ). m < getD firsts k 0) e l) in
+    rw (class-spans k c h, f)
+
+pub from-first : (k c n : ℕ) → k < 38 → n ≡ categoryNumber c → getD firsts k 0 ≤ n → leb n (getD lasts k 0) ≡ inClass (getD classes k []) c
+from-first k c n h e l =
+    let f : leb (getD firsts k 0) (categoryNumber c) ≡ true = le-leb (getD firsts k 0) (categoryNumber c) (subst (λ (m : ℕ). getD firsts k 0 ≤ m) e l) in
+    rw (class-spans k c h, f, e)

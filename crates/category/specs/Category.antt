@@ -1,6 +1,6 @@
 -- Categories of code points, and classes.
-use mathlib.Core.Bool.{Bool, true, false, _&&_, _||_}
-use mathlib.Core.List.{List, [], _∷_}
+use mathlib.Core.Bool.{Bool, true, false}
+use mathlib.Core.List.{List, [], _∷_, _++_}
 use Prim.Native.Nat.{ℕ, _+_}
 use Prim.Native.String.{String}
 use Rattle.text.specs.Lists.{Text, chars, pick, any, same, begins, among, Span, span, inside}
@@ -55,8 +55,11 @@ unfoldable pub categoryOf : ℕ → Text
 categoryOf c = look ranges c
 
 -- "A class is one of L M N P S Z C, or LC (Lu, Ll, Lt), or one of the thirty two-letter Unicode categories."
+unfoldable pub classes : List Text
+classes = categories ++ (chars "L" ∷ chars "M" ∷ chars "N" ∷ chars "P" ∷ chars "S" ∷ chars "Z" ∷ chars "C" ∷ chars "LC" ∷ [])
+
 unfoldable pub isClass : Text → Bool
-isClass k = any (same k) (chars "L" ∷ chars "M" ∷ chars "N" ∷ chars "P" ∷ chars "S" ∷ chars "Z" ∷ chars "C" ∷ chars "LC" ∷ []) || any (same k) categories
+isClass k = any (same k) classes
 
 -- the code point is of the class: its category is one of LC's three, or begins with the class
 unfoldable pub inClass : Text → ℕ → Bool
