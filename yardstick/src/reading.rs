@@ -3,6 +3,7 @@
 use std::ops::Range;
 
 use crate::engine::dots::Dot;
+use crate::engine::heights::{least_heights, Heights};
 use crate::engine::places::Places;
 use crate::engine::Forest;
 use crate::limits;
@@ -15,6 +16,44 @@ pub struct Reading {
     pub ambiguous: bool,
 }
 
+/// Walks the chosen derivation, with a stack instead of recursion. Each node
+/// on the stack will give at least one number, so a reading that is too long
+/// is noticed after at most as many steps as a reading may have numbers.
+///
+/// A record has a second derivation exactly when some node of one derivation
+/// has a second way. Up to the first such node nothing is to be chosen; from
+/// there on the least heights decide.
+pub fn choose(forest: &Forest) -> Result<Reading, Refusal> {
+    let mut numbers = Vec::new();
+    let mut heights = None;
+    let mut stack = vec![Node {
+        rule: 0,
+        start: 0,
+        end: forest.length,
+    }];
+    let mut ways = Ways {
+        forest,
+        kept: Vec::new(),
+    };
+    while let Some(node) = stack.pop() {
+        if heights.is_none() && ways.has_second(node) {
+            heights = Some(least_heights(forest));
+        }
+        let limit = heights.as_ref().map(|heights| Limit {
+            heights,
+            height: heights.height(node.rule, node.start, node.end),
+        });
+        numbers.push(ways.choose(node, limit, &mut stack));
+        if numbers.len() + stack.len() > limits::READING_NUMBERS {
+            return Err(Refusal::ReadingTooLong);
+        }
+    }
+    Ok(Reading {
+        numbers,
+        ambiguous: heights.is_some(),
+    })
+}
+
 /// A nonterminal of the chosen derivation.
 #[derive(Clone, Copy)]
 struct Node {
@@ -23,117 +62,118 @@ struct Node {
     end: usize,
 }
 
-/// Walks the chosen derivation with a stack of its own. Each node on the stack
-/// will give at least one number, so a reading that is too long is noticed
-/// after at most as many steps as a reading may have numbers.
-pub fn choose(forest: &Forest) -> Result<Reading, Refusal> {
-    let mut numbers = Vec::new();
-    let mut ambiguous = false;
-    let mut stack = vec![Node {
-        rule: 0,
-        start: 0,
-        end: forest.length,
-    }];
-    let mut kept = Vec::new();
-    while let Some(node) = stack.pop() {
-        let Node { rule, start, end } = node;
-        let number = forest.heights.alternative(rule, start, end);
-        numbers.push(number as u32);
-        let dots = forest.dots.alternatives[rule][number].clone();
-        ambiguous = ambiguous || has_second_way(forest, node, dots.clone());
-        let height = forest.heights.height(rule, start, end);
-        retrace(forest, start, end, dots.clone(), Some(height), &mut kept);
-        push_children(forest, start, dots, height, &kept, &mut stack);
-        if numbers.len() + stack.len() > limits::READING_NUMBERS {
-            return Err(Refusal::ReadingTooLong);
-        }
-    }
-    Ok(Reading { numbers, ambiguous })
-}
-
-/// Whether a node of the chosen derivation has a way besides the chosen one:
-/// by another alternative, or by other ends of the children. A record has a
-/// second derivation exactly when some node of one derivation has a second way.
-fn has_second_way(forest: &Forest, node: Node, chosen: Range<usize>) -> bool {
-    let Node { rule, start, end } = node;
-    let alternatives = forest.dots.alternatives[rule].iter();
-    let complete = alternatives
-        .filter(|dots| forest.useful.reached[(dots.end, start)].contains(end))
-        .count();
-    let mut kept = Vec::new();
-    complete > 1 || {
-        retrace(forest, start, end, chosen, None, &mut kept);
-        kept.iter().any(|places| places.count() > 1)
-    }
-}
-
-/// For each dot of an alternative the places on a way from `start` to `end`,
-/// into `kept`. With a height, only children of smaller least height count.
-fn retrace(
-    forest: &Forest,
-    start: usize,
-    end: usize,
-    dots: Range<usize>,
-    height: Option<u32>,
-    kept: &mut Vec<Places>,
-) {
-    kept.clear();
-    kept.resize(dots.len() + 1, Places::NONE);
-    let mut later = Places::one(end);
-    kept[dots.len()] = later;
-    for dot in dots.clone().rev() {
-        let reached = forest.useful.reached[(dot, start)];
-        later = match forest.dots.all[dot] {
-            Dot::Terminal { matches, length } => later.earlier(length) & matches & reached,
-            Dot::Nonterminal(rule) => {
-                let mut places = Places::NONE;
-                for place in reached.iter() {
-                    let mut ends = (forest.useful.derived[(rule, place)] & later).iter();
-                    if ends.any(|end| is_below(forest, rule, place, end, height)) {
-                        places.insert(place);
-                    }
-                }
-                places
-            }
-            Dot::Insertion | Dot::End { .. } => later & reached,
-        };
-        kept[dot - dots.start] = later;
-    }
-}
-
-fn is_below(forest: &Forest, rule: usize, start: usize, end: usize, height: Option<u32>) -> bool {
-    height.is_none_or(|height| forest.heights.height(rule, start, end) < height)
-}
-
-/// Pushes the nonterminal children, the leftmost on top. Each child ends at
-/// the first place from which the rest of the alternative can be completed.
-fn push_children(
-    forest: &Forest,
-    start: usize,
-    dots: Range<usize>,
+/// Admits children whose least height is below the node's.
+#[derive(Clone, Copy)]
+struct Limit<'a> {
+    heights: &'a Heights,
     height: u32,
-    kept: &[Places],
-    stack: &mut Vec<Node>,
-) {
-    let below = stack.len();
-    let mut place = start;
-    for (dot, &later) in dots.zip(&kept[1..]) {
-        match forest.dots.all[dot] {
-            Dot::Terminal { length, .. } => place += length,
-            Dot::Nonterminal(rule) => {
-                let end = (forest.useful.derived[(rule, place)] & later)
-                    .iter()
-                    .find(|&end| is_below(forest, rule, place, end, Some(height)))
-                    .expect("a kept place leads on to a kept place");
-                stack.push(Node {
-                    rule,
-                    start: place,
-                    end,
-                });
-                place = end;
+}
+
+impl Limit<'_> {
+    fn admits(self, rule: usize, start: usize, end: usize) -> bool {
+        self.heights.height(rule, start, end) < self.height
+    }
+}
+
+/// The ways of a node.
+struct Ways<'a> {
+    forest: &'a Forest,
+    /// For each dot of the alternative last retraced, the places on its ways.
+    kept: Vec<Places>,
+}
+
+impl<'a> Ways<'a> {
+    /// The alternatives with any way at a node, with their numbers.
+    fn alternatives(&self, node: Node) -> impl Iterator<Item = (u32, Range<usize>)> + 'a {
+        let forest = self.forest;
+        let complete = move |(_, dots): &(u32, Range<usize>)| {
+            forest.useful.reached[(dots.end, node.start)].contains(node.end)
+        };
+        let alternatives = forest.dots.alternatives[node.rule].iter().cloned();
+        (0..).zip(alternatives).filter(complete)
+    }
+
+    /// Whether a node has two ways: by two alternatives, or by different ends
+    /// of the children of one.
+    fn has_second(&mut self, node: Node) -> bool {
+        let mut alternatives = self.alternatives(node);
+        let Some((_, first)) = alternatives.next() else {
+            return false;
+        };
+        self.retrace(node, first, None);
+        alternatives.next().is_some() || self.kept.iter().any(|places| places.count() > 1)
+    }
+
+    /// Chooses the first alternative that has an admitted way, and of its ways
+    /// the one with the smallest ends. Gives the alternative's number and
+    /// pushes the nonterminal children, the leftmost on top.
+    fn choose(&mut self, node: Node, limit: Option<Limit>, stack: &mut Vec<Node>) -> u32 {
+        let (number, dots) = self
+            .alternatives(node)
+            .find(|(_, dots)| {
+                self.retrace(node, dots.clone(), limit);
+                self.kept[0].contains(node.start)
+            })
+            .expect("a useful node has a way of its least height");
+        let below = stack.len();
+        let mut place = node.start;
+        for (dot, &later) in dots.zip(&self.kept[1..]) {
+            match self.forest.dots.all[dot] {
+                Dot::Terminal { length, .. } => place += length,
+                Dot::Nonterminal(rule) => {
+                    let start = place;
+                    place = self
+                        .ends(rule, start, later, limit)
+                        .next()
+                        .expect("a kept place leads on to a kept place");
+                    stack.push(Node {
+                        rule,
+                        start,
+                        end: place,
+                    });
+                }
+                Dot::Insertion | Dot::End(_) => {}
             }
-            Dot::Insertion | Dot::End { .. } => {}
+        }
+        stack[below..].reverse();
+        number
+    }
+
+    /// Finds for each dot of an alternative the places on a way over the
+    /// node's stretch that the limit admits.
+    fn retrace(&mut self, node: Node, dots: Range<usize>, limit: Option<Limit>) {
+        let mut later = Places::one(node.end);
+        self.kept.clear();
+        self.kept.resize(dots.len() + 1, later);
+        for (index, dot) in dots.enumerate().rev() {
+            let reached = self.forest.useful.reached[(dot, node.start)];
+            later = match self.forest.dots.all[dot] {
+                Dot::Terminal { matches, length } => later.earlier(length) & matches & reached,
+                Dot::Nonterminal(rule) => {
+                    let mut places = Places::NONE;
+                    for place in reached.iter() {
+                        if self.ends(rule, place, later, limit).next().is_some() {
+                            places.insert(place);
+                        }
+                    }
+                    places
+                }
+                Dot::Insertion | Dot::End(_) => later & reached,
+            };
+            self.kept[index] = later;
         }
     }
-    stack[below..].reverse();
+
+    /// The admitted ends, among some places, of a rule from a start.
+    fn ends<'s>(
+        &'s self,
+        rule: usize,
+        start: usize,
+        among: Places,
+        limit: Option<Limit<'s>>,
+    ) -> impl Iterator<Item = usize> + 's {
+        let ends = self.forest.useful.derived[(rule, start)] & among;
+        ends.iter()
+            .filter(move |&end| limit.is_none_or(|limit| limit.admits(rule, start, end)))
+    }
 }

@@ -109,7 +109,7 @@ impl Recogniser<'_> {
                     }
                     places = ends;
                 }
-                Dot::End { rule, .. } => {
+                Dot::End(rule) => {
                     let ends = places & !self.derived[(rule, start)];
                     if ends.is_empty() {
                         return;
@@ -204,7 +204,7 @@ impl Pruner<'_> {
                     }
                     places
                 }
-                Dot::Insertion | Dot::End { .. } => kept & reached,
+                Dot::Insertion | Dot::End(_) => kept & reached,
             };
             self.reached[(dot, start)] = kept;
         }

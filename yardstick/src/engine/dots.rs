@@ -15,11 +15,8 @@ pub enum Dot {
     },
     Insertion,
     Nonterminal(usize),
-    /// The end of an alternative.
-    End {
-        rule: usize,
-        alternative: u16,
-    },
+    /// The end of an alternative of this rule.
+    End(usize),
 }
 
 /// The dot positions of a grammar, numbered through; an alternative's dots
@@ -27,7 +24,8 @@ pub enum Dot {
 #[derive(Debug)]
 pub struct Dots {
     pub all: Vec<Dot>,
-    /// For each rule the dots of its alternatives, from first symbol to end.
+    /// For each rule and alternative the dots before its symbols; the range
+    /// ends at the dot that stands at the alternative's end.
     pub alternatives: Vec<Vec<Range<usize>>>,
     /// For each rule the dots in front of its uses.
     pub uses: Vec<Vec<usize>>,
@@ -49,8 +47,8 @@ impl Dots {
             uses: vec![Vec::new(); plain.rules.len()],
         };
         for (number, rule) in plain.rules.iter().enumerate() {
-            let alternatives = rule.alternatives.iter().zip(0..);
-            let ranges = alternatives.map(|(symbols, alternative)| {
+            let mut ranges = Vec::with_capacity(rule.alternatives.len());
+            for symbols in &rule.alternatives {
                 let first = dots.all.len();
                 for symbol in symbols {
                     dots.all.push(match *symbol {
@@ -62,11 +60,9 @@ impl Dots {
                         }
                     });
                 }
-                let rule = number;
-                dots.all.push(Dot::End { rule, alternative });
-                first..dots.all.len() - 1
-            });
-            let ranges = ranges.collect();
+                ranges.push(first..dots.all.len());
+                dots.all.push(Dot::End(number));
+            }
             dots.alternatives.push(ranges);
         }
         dots

@@ -1,60 +1,51 @@
 //! Least heights, in rounds.
 //!
 //! Round h completes exactly the rules over stretches whose least height is
-//! h, since it uses only what earlier rounds completed. Alternatives that
-//! complete the same stretch in the same round compete, and the first wins.
+//! h, since it uses only what earlier rounds completed.
 
-use super::chart::Chart;
-use super::dots::{Dot, Dots};
+use super::dots::Dot;
 use super::places::{Grid, Places};
+use super::Forest;
 
-/// For each rule, start and end the least height, or 0 where there is no
-/// useful derivation, and the first alternative that gives that height.
+/// For each rule, start and end the least height among its derivations.
 pub struct Heights {
     places: usize,
     heights: Vec<u32>,
-    alternatives: Vec<u16>,
 }
 
 impl Heights {
-    fn new(rules: usize, places: usize) -> Heights {
-        Heights {
-            places,
-            heights: vec![0; rules * places * places],
-            alternatives: vec![0; rules * places * places],
-        }
-    }
-
     fn index(&self, rule: usize, start: usize, end: usize) -> usize {
         (rule * self.places + start) * self.places + end
     }
 
+    /// The least height of a rule over a stretch, which must be among the
+    /// useful ones.
     pub fn height(&self, rule: usize, start: usize, end: usize) -> u32 {
         self.heights[self.index(rule, start, end)]
     }
-
-    pub fn alternative(&self, rule: usize, start: usize, end: usize) -> usize {
-        usize::from(self.alternatives[self.index(rule, start, end)])
-    }
 }
 
-/// The heights over the useful part of a chart.
-pub fn least_heights(dots: &Dots, useful: &Chart, places: usize) -> Heights {
-    let rules = dots.uses.len();
+/// The least heights of everything in a forest.
+pub fn least_heights(forest: &Forest) -> Heights {
+    let dots = forest.dots.all.len();
+    let rules = forest.dots.uses.len();
+    let places = forest.length + 1;
     let mut rounds = Rounds {
-        dots,
-        useful,
+        forest,
         round: 1,
-        reached: Grid::new(dots.all.len(), places),
-        waiting: Grid::new(dots.all.len(), places),
+        reached: Grid::new(dots, places),
+        waiting: Grid::new(dots, places),
         derived: Grid::new(rules, places),
         fresh: Grid::new(rules, places),
         completed: Vec::new(),
         news: Grid::new(rules, places),
         changed: vec![Places::NONE; rules],
-        heights: Heights::new(rules, places),
+        heights: Heights {
+            places,
+            heights: vec![0; rules * places * places],
+        },
     };
-    rounds.start(places);
+    rounds.start();
     while !rounds.completed.is_empty() {
         rounds.step();
     }
@@ -62,8 +53,7 @@ pub fn least_heights(dots: &Dots, useful: &Chart, places: usize) -> Heights {
 }
 
 struct Rounds<'a> {
-    dots: &'a Dots,
-    useful: &'a Chart,
+    forest: &'a Forest,
     round: u32,
     /// The part of the useful `reached` that heights below this round give.
     reached: Grid,
@@ -83,11 +73,16 @@ struct Rounds<'a> {
 }
 
 impl Rounds<'_> {
-    /// The first round: every alternative, up to its first nonterminal.
-    fn start(&mut self, places: usize) {
-        for alternative in self.dots.alternatives.iter().flatten() {
-            for start in 0..places {
-                self.advance(alternative.start, start, Places::one(start));
+    /// The first round: every useful alternative, up to its first nonterminal.
+    fn start(&mut self) {
+        for (rule, alternatives) in self.forest.dots.alternatives.iter().enumerate() {
+            for start in 0..self.heights.places {
+                if self.forest.useful.derived[(rule, start)].is_empty() {
+                    continue;
+                }
+                for dots in alternatives {
+                    self.advance(dots.start, start, Places::one(start));
+                }
             }
         }
     }
@@ -107,7 +102,7 @@ impl Rounds<'_> {
             self.news[(rule, start)] = ends;
         }
         for &rule in &rules {
-            for &dot in &self.dots.uses[rule] {
+            for &dot in &self.forest.dots.uses[rule] {
                 self.take_up(dot, rule);
             }
         }
@@ -138,12 +133,12 @@ impl Rounds<'_> {
     fn advance(&mut self, mut dot: usize, start: usize, mut places: Places) {
         loop {
             let reached = &mut self.reached[(dot, start)];
-            places = places & self.useful.reached[(dot, start)] & !*reached;
+            places = places & self.forest.useful.reached[(dot, start)] & !*reached;
             if places.is_empty() {
                 return;
             }
             *reached |= places;
-            match self.dots.all[dot] {
+            match self.forest.dots.all[dot] {
                 Dot::Terminal { matches, length } => places = (places & matches).later(length),
                 Dot::Insertion => {}
                 Dot::Nonterminal(rule) => {
@@ -154,8 +149,8 @@ impl Rounds<'_> {
                     }
                     places = ends;
                 }
-                Dot::End { rule, alternative } => {
-                    self.complete(rule, alternative, start, places);
+                Dot::End(rule) => {
+                    self.complete(rule, start, places);
                     return;
                 }
             }
@@ -163,26 +158,19 @@ impl Rounds<'_> {
         }
     }
 
-    fn complete(&mut self, rule: usize, alternative: u16, start: usize, ends: Places) {
-        let ends = ends & !self.derived[(rule, start)];
+    fn complete(&mut self, rule: usize, start: usize, ends: Places) {
+        let fresh = &mut self.fresh[(rule, start)];
+        let ends = ends & !self.derived[(rule, start)] & !*fresh;
         if ends.is_empty() {
             return;
         }
-        let fresh = &mut self.fresh[(rule, start)];
         if fresh.is_empty() {
             self.completed.push((rule, start));
         }
-        let rivals = *fresh & ends;
         *fresh |= ends;
         for end in ends.iter() {
             let index = self.heights.index(rule, start, end);
-            let chosen = &mut self.heights.alternatives[index];
-            if !rivals.contains(end) {
-                self.heights.heights[index] = self.round;
-                *chosen = alternative;
-            } else if alternative < *chosen {
-                *chosen = alternative;
-            }
+            self.heights.heights[index] = self.round;
         }
     }
 }

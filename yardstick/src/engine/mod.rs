@@ -1,8 +1,9 @@
-//! The parser: all derivations of a record, with least heights.
+//! The parser: all derivations of a record, and their least heights.
 //!
-//! Three steps: recognise the record, keep what its derivations use, and find
-//! the least heights of what is kept. Each step repeats only what has news,
-//! so cycles, empty rules and left recursion end by themselves.
+//! Recognise the record, then keep what its derivations use. Heights are a
+//! step of their own, since only a record with several derivations needs
+//! them. Each step repeats only what has news, so cycles, empty rules and left
+//! recursion end by themselves.
 
 pub mod chart;
 pub mod dots;
@@ -12,31 +13,28 @@ pub mod places;
 use crate::plain::Plain;
 use chart::Chart;
 use dots::Dots;
-use heights::Heights;
 
 /// Every derivation of a record, shared.
 pub struct Forest {
     pub dots: Dots,
+    /// The part of the chart that derivations of the record use.
     pub useful: Chart,
-    pub heights: Heights,
     /// The record's number of characters.
     pub length: usize,
 }
 
 /// The derivations of the record from the root, or `None` if there are none.
 pub fn parse(plain: &Plain, record: &[char]) -> Option<Forest> {
-    let places = record.len() + 1;
+    let length = record.len();
     let dots = Dots::new(plain, record);
-    let chart = chart::recognise(&dots, places);
-    if !chart.derived[(0, 0)].contains(record.len()) {
+    let chart = chart::recognise(&dots, length + 1);
+    if !chart.derived[(0, 0)].contains(length) {
         return None;
     }
-    let useful = chart::prune(&dots, &chart, places);
-    let heights = heights::least_heights(&dots, &useful, places);
+    let useful = chart::prune(&dots, &chart, length + 1);
     Some(Forest {
         dots,
         useful,
-        heights,
-        length: record.len(),
+        length,
     })
 }
