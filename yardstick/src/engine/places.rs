@@ -75,12 +75,33 @@ impl Places {
     }
 
     /// The places in ascending order.
-    pub fn iter(self) -> impl Iterator<Item = usize> {
-        self.0.into_iter().enumerate().flat_map(|(index, word)| {
-            std::iter::successors(Some(word), |word| Some(word & word.wrapping_sub(1)))
-                .take_while(|&word| word != 0)
-                .map(move |word| index * 64 + word.trailing_zeros() as usize)
-        })
+    pub fn iter(self) -> Iter {
+        Iter {
+            words: self.0,
+            index: 0,
+        }
+    }
+}
+
+/// Takes the lowest bit again and again.
+pub struct Iter {
+    words: [u64; WORDS],
+    index: usize,
+}
+
+impl Iterator for Iter {
+    type Item = usize;
+
+    fn next(&mut self) -> Option<usize> {
+        while let Some(word) = self.words.get_mut(self.index) {
+            if *word != 0 {
+                let bit = word.trailing_zeros() as usize;
+                *word &= *word - 1;
+                return Some(self.index * 64 + bit);
+            }
+            self.index += 1;
+        }
+        None
     }
 }
 
