@@ -4,6 +4,7 @@
 mod common;
 
 use common::{assert_reading, check_number, reading, xml};
+use ixml_yardstick::program;
 
 const URL: &str = "http://www.w3.org/TR/1999/xhtml.html";
 
@@ -38,6 +39,13 @@ fn url() {
     let expected =
         format!("<url><scheme>http</scheme>:<authority>//{HOST}</authority>{PATH}</url>");
     assert_eq!(xml(url_grammar(&[]), URL), expected);
+}
+
+/// The example needs a longer table than the program lends.
+#[test]
+fn url_in_the_program() {
+    let output = program(Some(url_grammar(&[]).as_bytes()), Some(URL.as_bytes()));
+    assert_eq!(output, b"refused 15\n");
 }
 
 #[test]
