@@ -13,7 +13,7 @@ impl Random {
         Random(seed)
     }
 
-    pub fn next(&mut self) -> u64 {
+    pub fn number(&mut self) -> u64 {
         self.0 = self.0.wrapping_add(0x9E37_79B9_7F4A_7C15);
         let mut mixed = self.0;
         mixed = (mixed ^ (mixed >> 30)).wrapping_mul(0xBF58_476D_1CE4_E5B9);
@@ -23,7 +23,7 @@ impl Random {
 
     /// A number below `bound`, which is not 0.
     pub fn below(&mut self, bound: usize) -> usize {
-        (self.next() % bound as u64) as usize
+        (self.number() % bound as u64) as usize
     }
 
     pub fn chance(&mut self, percent: usize) -> bool {
@@ -120,7 +120,7 @@ impl Writer<'_> {
             let version = *self.random.pick(&["1.0", "2", "1.0 "]);
             self.text.push_str(&format!("ixml version \"{version}\". "));
         }
-        for name in self.names.to_vec() {
+        for &name in self.names {
             if self.random.chance(30) {
                 let mark = *self.random.pick(&["-", "@", "^", "- "]);
                 self.text.push_str(mark);
@@ -233,8 +233,9 @@ fn name_end(character: char) -> bool {
     character.is_alphanumeric() || character == '.'
 }
 
-/// One character taken out, put in, doubled or exchanged.
-fn damage(random: &mut Random, text: &str) -> String {
+/// A text, not empty, with one character taken out, put in, doubled or
+/// exchanged.
+pub fn damage(random: &mut Random, text: &str) -> String {
     const CHARACTERS: [char; 24] = [
         '.', ',', ';', ':', '(', ')', '[', ']', '{', '}', '"', '\'', '#', '+', '*', '-', '@', '~',
         'a', 'q', 'F', '0', ' ', '\u{AD}',
@@ -427,6 +428,15 @@ pub fn copies(size: usize) -> String {
 pub fn stars(size: usize) -> String {
     of_size(size, |count| {
         format!("a: {}.\n", vec!["['xy']*"; count].join(", "))
+    })
+}
+
+/// A family of grammars with one long alternative of a repeated symbol, tried
+/// at every place: the slowest kind found so far. At least of size 11.
+pub fn runs(size: usize) -> String {
+    of_size(size, |count| {
+        let uses = vec!["s"; count].join(", ");
+        format!("a: {uses}; ['xy'], a. s: ['xy'], s; .\n")
     })
 }
 

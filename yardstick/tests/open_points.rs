@@ -6,7 +6,7 @@ use common::{
     ample, assert_check, assert_reading, assert_xml, check_number, convert_answer, doublings,
     read_answer, reading, xml, STATE,
 };
-use ixml_yardstick::limits::{GRAMMAR_TABLE, PROGRAM_MAIN_TABLE};
+use ixml_yardstick::limits::GRAMMAR_TABLE;
 use ixml_yardstick::{category, check, convert, program, read, statics, syntax};
 
 fn size(grammar: &str) -> usize {
@@ -564,7 +564,6 @@ fn a35_the_program_lends_a_short_table() {
         read(b"a: ~[]*.", &record, table, GRAMMAR_TABLE, &mut result).number
     };
     assert_eq!((needed(44_285), needed(44_286)), (15, 0));
-    assert!(PROGRAM_MAIN_TABLE < 44_286);
 }
 
 #[test]

@@ -35,6 +35,7 @@ pub fn least_heights(forest: &Forest) -> Heights {
         round: 1,
         reached: Grid::new(dots, places),
         waiting: Grid::new(dots, places),
+        unfinished: vec![!Places::NONE; dots],
         derived: Grid::new(rules, places),
         fresh: Grid::new(rules, places),
         completed: Vec::new(),
@@ -59,6 +60,9 @@ struct Rounds<'a> {
     reached: Grid,
     /// For a dot before a nonterminal and a place, the starts that reached it.
     waiting: Grid,
+    /// For each dot before a nonterminal, the starts for which the next dot
+    /// may still reach more.
+    unfinished: Vec<Places>,
     /// The part of the useful `derived` completed before this round.
     derived: Grid,
     /// The ends completed in this round.
@@ -112,14 +116,23 @@ impl Rounds<'_> {
         }
     }
 
-    /// Moves the dot over `rule` wherever the last round completed it.
+    /// Moves the dot over `rule` wherever the last round completed it, unless
+    /// the next dot has already reached all that is useful.
     fn take_up(&mut self, dot: usize, rule: usize) {
+        if self.unfinished[dot].is_empty() {
+            return;
+        }
         let changed = self.changed[rule];
         let mut starts = Places::NONE;
         for place in changed.iter() {
             starts |= self.waiting[(dot, place)];
         }
-        for start in starts.iter() {
+        for start in (starts & self.unfinished[dot]).iter() {
+            let next = (dot + 1, start);
+            if self.reached[next] == self.forest.useful.reached[next] {
+                self.unfinished[dot].remove(start);
+                continue;
+            }
             let mut ends = Places::NONE;
             for place in (self.reached[(dot, start)] & changed).iter() {
                 ends |= self.news[(rule, place)];
