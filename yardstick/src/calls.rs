@@ -94,7 +94,7 @@ fn accept(grammar: &[u8]) -> Result<Accepted<'_>, Refusal> {
     Ok(Accepted { syntax, version })
 }
 
-/// The lengths of the lent work tables.
+/// The lengths of the work tables that the caller provides.
 struct Tables {
     main: usize,
     grammar: usize,

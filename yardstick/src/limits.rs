@@ -15,20 +15,20 @@ pub const NESTING: usize = 16;
 /// Most numbers in a reading.
 pub const READING_NUMBERS: usize = 4096;
 
-/// Length of the grammar table that a caller lends.
+/// Length of the grammar table that a caller must provide.
 pub const GRAMMAR_TABLE: usize = 16_384;
 
 /// Longest record file that the program looks into, in bytes.
 pub const PROGRAM_RECORD_BYTES: usize = 4096;
 
-/// Length of the main table that the program lends.
+/// Length of the main table that the program provides.
 pub const PROGRAM_MAIN_TABLE: usize = 16_384;
 
-/// Bytes that the program lends for a result.
+/// Bytes that the program provides for a result.
 pub const PROGRAM_RESULT_BYTES: usize = 65_536;
 
 /// Length of the main table that a job needs: one number for each dot
-/// position and stretch. Only meant for sizes and records within the limits,
+/// position and span. Only meant for sizes and records within the limits,
 /// where the product cannot overflow.
 pub const fn main_table(size: usize, characters: usize) -> usize {
     size * (characters + 1) * (characters + 2) / 2

@@ -140,7 +140,7 @@ impl<'a> Ways<'a> {
     }
 
     /// Finds for each dot of an alternative the places on a way over the
-    /// node's stretch that the limit admits.
+    /// node's span that the limit admits.
     fn retrace(&mut self, node: Node, dots: Range<usize>, limit: Option<Limit>) {
         let mut later = Places::one(node.end);
         self.kept.clear();

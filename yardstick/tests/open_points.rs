@@ -556,7 +556,7 @@ fn a34_what_the_program_reads() {
 }
 
 #[test]
-fn a35_the_program_lends_a_short_table() {
+fn a35_the_program_provides_a_short_table() {
     let record = [b'x'; 120];
     assert_eq!(program(Some(b"a: ~[]*."), Some(&record)), b"refused 15\n");
     let needed = |table: usize| {

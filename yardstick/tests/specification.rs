@@ -41,7 +41,7 @@ fn url() {
     assert_eq!(xml(url_grammar(&[]), URL), expected);
 }
 
-/// The example needs a longer table than the program lends.
+/// The example needs a longer table than the program provides.
 #[test]
 fn url_in_the_program() {
     let output = program(Some(url_grammar(&[]).as_bytes()), Some(URL.as_bytes()));

@@ -73,7 +73,7 @@ fn b07_demands_a_square_table() {
     assert_eq!(answer.number, 0);
 }
 
-/// The tables are lent by length alone; answers cannot depend on what an
+/// Only the lengths of tables are passed; answers cannot depend on what an
 /// earlier job left behind.
 #[test]
 fn b08_trusts_what_a_table_held() {

@@ -1,4 +1,4 @@
-//! Recognition: which rules derive which stretches.
+//! Recognition: which rules derive which spans.
 //!
 //! Earley's method with sets of places as bits: a rule is tried at a place
 //! only if some alternative tried further left has come to it there. Work on
@@ -45,7 +45,7 @@ struct Recogniser<'a> {
     /// For a dot before a nonterminal and a place, the starts of the
     /// alternatives that wait there for the nonterminal.
     waiting: Grid,
-    /// What `derived` holds and the waiting alternatives have not heard of.
+    /// The part of `derived` not yet passed on to the waiting alternatives.
     fresh: Grid,
     /// For each rule the places at which it is or will be tried.
     predicted: Vec<Places>,

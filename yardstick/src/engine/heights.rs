@@ -1,6 +1,6 @@
 //! Least heights, in rounds.
 //!
-//! Round h completes exactly the rules over stretches whose least height is
+//! Round h completes exactly the rules over spans whose least height is
 //! h, since it uses only what earlier rounds completed.
 
 use super::dots::Dot;
@@ -18,7 +18,7 @@ impl Heights {
         (rule * self.places + start) * self.places + end
     }
 
-    /// The least height of a rule over a stretch, which must be among the
+    /// The least height of a rule over a span, which must be among the
     /// useful ones.
     pub fn height(&self, rule: usize, start: usize, end: usize) -> u32 {
         self.heights[self.index(rule, start, end)]

@@ -142,7 +142,7 @@ impl Not for Places {
 }
 
 /// A set of places for each row and place: row `r` of a grid often answers,
-/// for a stretch that starts at `i`, where it may end.
+/// for a span that starts at `i`, where it may end.
 #[derive(Clone, Debug)]
 pub struct Grid {
     width: usize,

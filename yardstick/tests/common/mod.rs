@@ -99,7 +99,7 @@ pub fn assert_check(cases: &[(&str, u32)]) {
 }
 
 /// Rules `n0` to `n<last>`, each but the last deriving the next twice, behind
-/// a chain of `unary` rules. The last derives nothing but the empty stretch.
+/// a chain of `unary` rules. The last derives nothing but the empty span.
 pub fn doublings(mark: &str, unary: usize, last: usize) -> String {
     let mut grammar = String::new();
     for rule in 0..unary {

@@ -164,7 +164,7 @@ impl Oracle {
         }
     }
 
-    /// Whether a symbol derives a stretch, with a rule's answer given.
+    /// Whether a symbol derives a span, with a rule's answer given.
     fn derives(
         &self,
         symbol: &Symbol,
@@ -172,16 +172,16 @@ impl Oracle {
         end: usize,
         rule_derives: &dyn Fn(usize, usize, usize) -> bool,
     ) -> bool {
-        let stretch = &self.record[start..end];
+        let span = &self.record[start..end];
         match symbol {
-            Symbol::Literal(string, _) => stretch == string,
-            Symbol::Set(members, _) => stretch.len() == 1 && members.contains(&stretch[0]),
-            Symbol::Insertion(_) => stretch.is_empty(),
+            Symbol::Literal(string, _) => span == string,
+            Symbol::Set(members, _) => span.len() == 1 && members.contains(&span[0]),
+            Symbol::Insertion(_) => span.is_empty(),
             Symbol::Rule(rule, _) => rule_derives(*rule, start, end),
         }
     }
 
-    /// Every list of end places by which the symbols make up a stretch.
+    /// Every list of end places by which the symbols make up a span.
     fn splits(
         &self,
         symbols: &[Symbol],
@@ -255,14 +255,14 @@ impl Oracle {
         ways
     }
 
-    /// The children of a way that are rules, with their stretches.
+    /// The children of a way that are rules, with their spans.
     fn children(&self, rule: usize, start: usize, way: &Way) -> Vec<(usize, usize, usize)> {
         let symbols = &self.rules[rule].alternatives[way.0];
         let starts = std::iter::once(&start).chain(&way.1);
-        let stretches = starts.zip(&way.1);
+        let spans = starts.zip(&way.1);
         symbols
             .iter()
-            .zip(stretches)
+            .zip(spans)
             .filter_map(|(symbol, (&from, &to))| match symbol {
                 Symbol::Rule(child, _) => Some((*child, from, to)),
                 _ => None,
