@@ -102,3 +102,27 @@ fn quick_answers_agree_with_the_definitions() {
     }
     assert!(ambiguous > JOBS / 20);
 }
+
+/// Records that are longer than one word of bits. Two symbols at most in each
+/// alternative keep the oracle's lists of ways short.
+#[test]
+fn longer_records_agree_with_the_definitions() {
+    let x = "x".repeat(66);
+    let xy = "xy".repeat(33);
+    let cases = [
+        ("a: a, a; 'x'.", &x),
+        ("a: a, b; b. b: 'x'; 'xx'.", &x),
+        ("a: b, 'x'; 'x'. b: 'x', a.", &x),
+        ("a: (['xy']; 'yx')*.", &xy),
+        ("a: b, c. b: 'xy'*. c: ['xy']*.", &xy),
+    ];
+    for (grammar, record) in cases {
+        for record in [&record[..], &record[1..]] {
+            let number = compare(&Job {
+                grammar: grammar.to_string(),
+                record: record.to_string(),
+            });
+            assert!([0, 16].contains(&number));
+        }
+    }
+}
