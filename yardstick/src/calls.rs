@@ -1,0 +1,156 @@
+//! The public calls on a grammar and a record.
+
+use crate::engine;
+use crate::limits;
+use crate::plain::{plain, Plain};
+use crate::reading::{self, Reading};
+use crate::refusal::Refusal;
+use crate::statics;
+use crate::syntax;
+use crate::text;
+use crate::xml::{self, State};
+
+/// The answer of a call.
+#[derive(Clone, Copy, Debug, Default, PartialEq, Eq)]
+pub struct Answer {
+    /// 0, or the number of a refusal.
+    pub number: u32,
+    /// How many cells of the result buffer are filled.
+    pub length: usize,
+    /// The record has more than one derivation.
+    pub ambiguous: bool,
+    /// The prolog names another version than 1.0.
+    pub version: bool,
+}
+
+impl From<Refusal> for Answer {
+    fn from(refusal: Refusal) -> Answer {
+        Answer {
+            number: refusal.number(),
+            ..Answer::default()
+        }
+    }
+}
+
+/// Checks a grammar: 0 to 11.
+pub fn check(grammar: &[u8]) -> Answer {
+    match accept(grammar) {
+        Ok(Accepted { version, .. }) => Answer {
+            version,
+            ..Answer::default()
+        },
+        Err(refusal) => refusal.into(),
+    }
+}
+
+/// Reads a record: 0 to 16, 29 and 23. Of the work tables only the lengths
+/// matter. The reading's numbers fill the start of `result`.
+pub fn read(
+    grammar: &[u8],
+    record: &[u8],
+    main_table: usize,
+    grammar_table: usize,
+    result: &mut [u32],
+) -> Answer {
+    let tables = Tables {
+        main: main_table,
+        grammar: grammar_table,
+    };
+    derive(grammar, record, tables, |_, _, reading, _| {
+        fill(result, &reading.numbers)
+    })
+}
+
+/// Converts a record: all refusals. The XML's bytes fill the start of `result`.
+pub fn convert(
+    grammar: &[u8],
+    record: &[u8],
+    main_table: usize,
+    grammar_table: usize,
+    result: &mut [u8],
+) -> Answer {
+    let tables = Tables {
+        main: main_table,
+        grammar: grammar_table,
+    };
+    derive(grammar, record, tables, |plain, record, reading, state| {
+        let xml = xml::convert(plain, record, &reading.numbers, state)?;
+        fill(result, xml.as_bytes())
+    })
+}
+
+/// A grammar that passed 1 to 11.
+struct Accepted<'t> {
+    syntax: syntax::Grammar<'t>,
+    version: bool,
+}
+
+fn accept(grammar: &[u8]) -> Result<Accepted<'_>, Refusal> {
+    let text = text::grammar(grammar)?;
+    let syntax = syntax::read(text).map_err(|_| Refusal::NotIxml)?;
+    statics::check(&syntax)?;
+    let known = |version: &Vec<char>| version[..] == ['1', '.', '0'];
+    let version = syntax.version.as_ref().is_some_and(|v| !known(v));
+    Ok(Accepted { syntax, version })
+}
+
+/// The lengths of the work tables that the caller provides.
+struct Tables {
+    main: usize,
+    grammar: usize,
+}
+
+impl Tables {
+    fn suffice(&self, plain: &Plain, record: &[char]) -> bool {
+        self.main >= limits::main_table(plain.size(), record.len())
+            && self.grammar >= limits::GRAMMAR_TABLE
+    }
+}
+
+/// The stages that reading and converting share; `finish` does the rest and
+/// gives the length of the result.
+fn derive(
+    grammar: &[u8],
+    record: &[u8],
+    tables: Tables,
+    finish: impl FnOnce(&Plain, &[char], &Reading, State) -> Result<usize, Refusal>,
+) -> Answer {
+    let mut version = false;
+    let mut ambiguous = false;
+    let outcome = accept(grammar).and_then(|accepted| {
+        let record = text::record(record)?;
+        let plain = plain(&accepted.syntax);
+        if !tables.suffice(&plain, &record) {
+            return Err(Refusal::TableTooShort);
+        }
+        version = accepted.version;
+        let forest = engine::parse(&plain, &record).ok_or(Refusal::NoReading)?;
+        let reading = reading::choose(&forest)?;
+        ambiguous = reading.ambiguous;
+        let state = State {
+            ambiguous,
+            version_mismatch: version,
+        };
+        finish(&plain, &record, &reading, state)
+    });
+    match outcome {
+        Ok(length) => Answer {
+            number: 0,
+            length,
+            ambiguous,
+            version,
+        },
+        Err(Refusal::NoReading) => Answer {
+            version,
+            ..Refusal::NoReading.into()
+        },
+        Err(refusal) => refusal.into(),
+    }
+}
+
+/// Copies a result that fits; refusal 23 otherwise, with nothing copied.
+fn fill<T: Copy>(buffer: &mut [T], result: &[T]) -> Result<usize, Refusal> {
+    let room = buffer.get_mut(..result.len());
+    room.ok_or(Refusal::ResultTooLong)?.copy_from_slice(result);
+    Ok(result.len())
+}

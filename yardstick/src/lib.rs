@@ -1,0 +1,27 @@
+//! Invisible XML for short records.
+//!
+//! A grammar text and a record, both as bytes, give a reading (the left parse
+//! of one derivation) and its XML. The modules follow the order of a job:
+//! decode the texts, read the grammar, check it, reduce it to plain rules,
+//! parse the record, choose a reading, write the XML.
+
+pub mod category;
+pub mod charset;
+pub mod engine;
+pub mod gen;
+pub mod limits;
+pub mod plain;
+pub mod reading;
+pub mod refusal;
+pub mod statics;
+pub mod syntax;
+pub mod text;
+pub mod xml;
+
+mod calls;
+mod program;
+
+pub use calls::{check, convert, read, Answer};
+pub use category::{category, Category};
+pub use program::program;
+pub use refusal::Refusal;

@@ -1,0 +1,87 @@
+//! Every line of the shared test vectors.
+
+use ixml_yardstick::limits::GRAMMAR_TABLE;
+use ixml_yardstick::{check, convert, program, read, Answer};
+
+fn table(name: &str) -> Vec<Vec<String>> {
+    let path = format!("{}/../tests/vectors/{name}", env!("CARGO_MANIFEST_DIR"));
+    let text = std::fs::read_to_string(&path).expect(&path);
+    text.lines()
+        .map(|line| line.split('\t').map(str::to_string).collect())
+        .collect()
+}
+
+fn bytes(hex: &str) -> Vec<u8> {
+    if hex == "-" {
+        return Vec::new();
+    }
+    (0..hex.len())
+        .step_by(2)
+        .map(|at| u8::from_str_radix(&hex[at..at + 2], 16).unwrap())
+        .collect()
+}
+
+/// The expected buffer: the result, and behind it the filling.
+fn expected<T: Copy>(result: &[T], filling: &[T]) -> Vec<T> {
+    let mut buffer = filling.to_vec();
+    buffer[..result.len()].copy_from_slice(result);
+    buffer
+}
+
+#[test]
+fn calls() {
+    let lines = table("calls.tsv");
+    assert!(lines.len() > 3000);
+    for (number, line) in (1..).zip(&lines) {
+        let grammar = bytes(&line[1]);
+        let record = bytes(&line[2]);
+        let main_table: usize = line[3].parse().unwrap();
+        let less: isize = line[4].parse().unwrap();
+        let grammar_table = GRAMMAR_TABLE.checked_add_signed(less).unwrap();
+        let room: usize = line[5].parse().unwrap();
+        let answer = Answer {
+            number: line[6].parse().unwrap(),
+            length: line[7].parse().unwrap(),
+            ambiguous: line[8] == "1",
+            version: line[9] == "1",
+        };
+        let result = &line[10];
+        match line[0].as_str() {
+            "check" => assert_eq!(check(&grammar), answer, "line {number}"),
+            "read" => {
+                let filling: Vec<u32> = (0..room as u32).map(|cell| cell ^ 0xA5A5_5A5A).collect();
+                let result: Vec<u32> = match result.as_str() {
+                    "-" => Vec::new(),
+                    numbers => numbers.split(',').map(|n| n.parse().unwrap()).collect(),
+                };
+                let mut buffer = filling.clone();
+                let got = read(&grammar, &record, main_table, grammar_table, &mut buffer);
+                assert_eq!(got, answer, "line {number}");
+                assert_eq!(buffer, expected(&result, &filling), "line {number}");
+            }
+            "convert" => {
+                let filling: Vec<u8> = (0..room).map(|cell| (cell % 251) as u8 ^ 0xA5).collect();
+                let mut buffer = filling.clone();
+                let got = convert(&grammar, &record, main_table, grammar_table, &mut buffer);
+                assert_eq!(got, answer, "line {number}");
+                assert_eq!(buffer, expected(&bytes(result), &filling), "line {number}");
+            }
+            call => panic!("line {number}: no call {call}"),
+        }
+    }
+}
+
+#[test]
+fn programs() {
+    let lines = table("program.tsv");
+    assert!(lines.len() > 2000);
+    for (number, line) in (1..).zip(&lines) {
+        let (grammar, record) = (bytes(&line[0]), bytes(&line[1]));
+        let output = program(Some(&grammar), Some(&record));
+        assert_eq!(
+            String::from_utf8_lossy(&output),
+            String::from_utf8_lossy(&bytes(&line[2])),
+            "line {number}"
+        );
+    }
+}
