@@ -1,3 +1,4 @@
 pub mod Lines
 pub mod Agree
 pub mod Settled
+pub mod Stages
