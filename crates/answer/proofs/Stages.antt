@@ -57,3 +57,39 @@ module _ (bs : List ℕ) (ts : List Test) where
 
           pub mismatch-is : mismatch bs ≡ mismatched g
           mismatch-is = rw tree-is
+
+-- behind the static rules: the size, and on
+module _ (g : Grammar) (ts : List Test) where
+  pub stage-11 : mostSize < size g → firstOf (test 11 (λ _. ltb mostSize (size g)) ∷ ts) ≡ 11
+  stage-11 l = rw (lt-ltb mostSize (size g) l)
+
+  pub stage-sized : size g ≤ mostSize → firstOf (test 11 (λ _. ltb mostSize (size g)) ∷ ts) ≡ firstOf ts
+  stage-sized l = rw (le-ltb mostSize (size g) l)
+
+-- a record's bytes
+module _ (j : Job) (ts : List Test) where
+  pub stage-12 : decode (j .input) ≡ not-utf8 → firstOf (recordTests j ts) ≡ 12
+  stage-12 e = rw e
+
+  module _ (r : Text) (e : decode (j .input) ≡ text r) where
+    pub stage-13 : all known r ≡ false → firstOf (recordTests j ts) ≡ 13
+    stage-13 k = rw (e, k)
+
+    module _ (k : all known r ≡ true) where
+      pub stage-14 : recordChars < length r → firstOf (recordTests j ts) ≡ 14
+      stage-14 l = rw (e, k, lt-ltb recordChars (length r) l)
+
+      module _ (l : length r ≤ recordChars) (g : Grammar) (t : treeOf (j .grammar) ≡ parsed g) where
+        pub stage-15 : (ltb (j .mainTable) (tableNeed (size g) (length r)) || ltb (j .secondTable) grammarTable) ≡ true → firstOf (recordTests j ts) ≡ 15
+        stage-15 w = rw (e, k, le-ltb recordChars (length r) l, t, w)
+
+        module _ (w : (ltb (j .mainTable) (tableNeed (size g) (length r)) || ltb (j .secondTable) grammarTable) ≡ false) where
+          pub stage-16 : chosenOf g r ≡ no-choice → firstOf (recordTests j ts) ≡ 16
+          stage-16 c = rw (e, k, le-ltb recordChars (length r) l, t, w, c)
+
+          module _ (row : Row) (c : chosenOf g r ≡ found row) where
+            pub stage-29 : readingNumbers < length (leftParse row) → firstOf (recordTests j ts) ≡ 29
+            stage-29 q = rw (e, k, le-ltb recordChars (length r) l, t, w, c, lt-ltb readingNumbers (length (leftParse row)) q)
+
+            pub stage-read : length (leftParse row) ≤ readingNumbers → firstOf (recordTests j ts) ≡ firstOf ts
+            stage-read q = rw (e, k, le-ltb recordChars (length r) l, t, w, c, le-ltb readingNumbers (length (leftParse row)) q)
