@@ -7,7 +7,7 @@ use native.Mathlib.Omega.{arith}
 use lib.ListN.{length, length-append}
 use Rattle.text.specs.Lists.{Text}
 use Rattle.text.specs.Utf8.{Scalar, utf8, utf8s, All, none, more, Utf8}
-use Rattle.text.specs.Decode.{Taken, got, cut, bad, charOf, Decoded, text, not-utf8, push, after, decodeIn, decode}
+use Rattle.text.specs.Decode.{Taken, got, cut, bad, secondLow, secondHigh, restOf, charOf, Decoded, text, not-utf8, push, after, decodeIn, decode}
 use Rattle.text.proofs.Tests.{split}
 use Rattle.text.proofs.Step.{utf8-1, utf8-2, utf8-3, utf8-4, step-complete, step-sound, nothing-cut, Spells}
 
@@ -73,3 +73,49 @@ sound-in (suc f) (b ∷ bs) cs e = after-sound f (b ∷ bs) cs (sound-in f) (cha
 pub decode-sound : (bs : List ℕ) (cs : Text) → decode bs ≡ text cs → Utf8 bs cs
 unfolding decode
 decode-sound bs cs e = sound-in (suc (length bs)) bs cs e
+
+-- what follows a character is shorter
+pub shorter : (bs : List ℕ) (c n : ℕ) (t : List ℕ) → charOf bs ≡ got c n t → length t < length bs
+shorter bs c n t e =
+    let s = step-sound bs c n t e in
+    omega (arith, ap length (s .spelt), length-append (utf8 c) t, some-bytes c)
+
+after-same : (f g : ℕ) (bs : List ℕ) → ((t : List ℕ) → length t < length bs → decodeIn f t ≡ decodeIn g t) → (o : Taken) → charOf bs ≡ o → after (decodeIn f) o ≡ after (decodeIn g) o
+after-same f g bs ih (got c n t) e = ap (push c) (ih t (shorter bs c n t e))
+after-same f g bs ih cut e = refl
+after-same f g bs ih bad e = refl
+
+-- every bound above the count of bytes gives the same
+in-enough : (f g : ℕ) (bs : List ℕ) → length bs < f → length bs < g → decodeIn f bs ≡ decodeIn g bs
+unfolding decodeIn
+in-enough zero g bs p q = absurd (omega arith)
+in-enough (suc f) zero bs p q = absurd (omega arith)
+in-enough (suc f) (suc g) [] p q = refl
+in-enough (suc f) (suc g) (b ∷ bs) p q = after-same f g (b ∷ bs) (λ t l. in-enough f g t (omega arith) (omega arith)) (charOf (b ∷ bs)) refl
+
+after-whole : (bs : List ℕ) (o : Taken) → charOf bs ≡ o → after (decodeIn (length bs)) o ≡ after decode o
+unfolding decode
+after-whole bs (got c n t) e = let l = shorter bs c n t e in ap (push c) (in-enough (length bs) (suc (length t)) t l (omega arith))
+after-whole bs cut e = refl
+after-whole bs bad e = refl
+
+-- a text is its first character and the rest
+pub decode-nil : decode [] ≡ text []
+unfolding decode decodeIn
+decode-nil = refl
+
+pub decode-step : (bs : List ℕ) → 0 < length bs → decode bs ≡ after decode (charOf bs)
+unfolding decode
+decode-step bs p = in-some (length bs) bs p ∙ after-whole bs (charOf bs) refl
+
+mark-char : (bs : List ℕ) → charOf (0xef ∷ 0xbb ∷ 0xbf ∷ bs) ≡ got 0xfeff 3 bs
+unfolding charOf restOf secondLow secondHigh
+mark-char bs = refl
+
+-- a byte order mark is U+FEFF
+pub decode-mark : (bs : List ℕ) → decode (0xef ∷ 0xbb ∷ 0xbf ∷ bs) ≡ push 0xfeff (decode bs)
+decode-mark bs = decode-step (0xef ∷ 0xbb ∷ 0xbf ∷ bs) (omega arith) ∙ ap (after decode) (mark-char bs)
+
+pub mark-bytes : (bs : List ℕ) (cs : Text) → decode bs ≡ text (0xfeff ∷ cs) → bs ≡ 0xef ∷ 0xbb ∷ 0xbf ∷ utf8s cs
+unfolding utf8s utf8
+mark-bytes bs cs e = decode-sound bs (0xfeff ∷ cs) e .spelt
