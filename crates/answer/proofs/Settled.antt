@@ -11,8 +11,7 @@ use lib.ListN.{length, drop}
 use borrow.Author.Tests.{eqb-true, eqb-false, eq-eqb, ne-eqb}
 use Rattle.text.specs.Lists.{Text, all}
 use Rattle.text.specs.Utf8.{unmarked}
-use Rattle.text.proofs.Table.{and-left, and-right}
-use Rattle.text.proofs.Tests.{look, isT, notT, T-true, T-false, clash}
+use Rattle.text.proofs.Tests.{look, isT, notT, T-true, T-false, clash, and-left, and-right}
 use Rattle.text.specs.Decode.{Decoded, text, not-utf8, decode}
 use Rattle.text.proofs.Decode.{decode-sound, decode-complete}
 use Rattle.tree.specs.Tree.{Grammar}

@@ -7,7 +7,7 @@ use Prim.Native.String.{String}
 use lib.Dec.{T, eqb, eqb→eq}
 use lib.ListN.{length, drop}
 use Rattle.text.specs.Lists.{Text, chars, all, same}
-use Rattle.text.proofs.Table.{and-left, and-right}
+use Rattle.text.proofs.Tests.{and-left, and-right, same-is}
 use Rattle.answer.specs.Answer.{Job, Answer, Checks, Reads, Converts}
 use Rattle.answer.specs.Compute.{Outcome, checkOf, readOf, convertOf}
 use Rattle.text.specs.Utf8 as utf8
@@ -35,12 +35,6 @@ bool-is true true h = refl
 bool-is true false h = absurd h
 bool-is false true h = absurd h
 bool-is false false h = refl
-
-same-is : (xs ys : Text) → T (same xs ys) → xs ≡ ys
-same-is [] [] h = refl
-same-is [] (y ∷ ys) h = absurd h
-same-is (x ∷ xs) [] h = absurd h
-same-is (x ∷ xs) (y ∷ ys) h = λ ι. eqb→eq x y (and-left (eqb x y) (same xs ys) h) ι ∷ same-is xs ys (and-right (eqb x y) (same xs ys) h) ι
 
 same-answer : Answer → Answer → Bool
 same-answer a b = eqb (a .number) (b .number) && (eqb (a .length) (b .length) && (same-bool (a .ambiguous) (b .ambiguous) && same-bool (a .version) (b .version)))

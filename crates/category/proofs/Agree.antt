@@ -10,8 +10,8 @@ use lib.Dec.{T, leb, ltb, eqb, eqb→eq, ltb→lt}
 use lib.ListN.{length, getD}
 use borrow.Author.Tests.{lt-leb, le-leb, ltb-true}
 use Rattle.text.specs.Lists.{Text, chars, pick, any, all, same, begins, Span, inside}
-use Rattle.text.proofs.Tests.{T-true}
-use Rattle.text.proofs.Table.{at, and-left, and-right}
+use Rattle.text.proofs.Tests.{T-true, and-left, and-right, same-is}
+use Rattle.text.proofs.Table.{at}
 use Rattle.category.specs.Category.{Row, ranges, look, categories, classes, categoryOf, inClass, place, categoryNumber}
 
 unfoldable pub table : List ℕ
@@ -87,12 +87,6 @@ below-at (suc m) p t n h = elim (ℕ-discrete n m) as (λ _. T (p n)) [
 -- a category is known by its number
 named : ℕ → Bool
 named c = same (getD categories (categoryNumber c) []) (categoryOf c)
-
-same-is : (xs ys : Text) → T (same xs ys) → xs ≡ ys
-same-is [] [] h = refl
-same-is [] (y ∷ ys) h = absurd h
-same-is (x ∷ xs) [] h = absurd h
-same-is (x ∷ xs) (y ∷ ys) h = λ ι. eqb→eq x y (and-left (eqb x y) (same xs ys) h) ι ∷ same-is xs ys (and-right (eqb x y) (same xs ys) h) ι
 
 by-number : (c : ℕ) → getD categories (categoryNumber c) [] ≡ categoryOf c
 unfolding named categoryNumber place categories categoryOf look ranges

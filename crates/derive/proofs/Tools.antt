@@ -6,38 +6,12 @@ use Prim.Native.Nat.{ℕ, zero, suc, _+_, _<_, _≤_}
 use native.Mathlib.Decide.{ℕ-discrete}
 use native.Mathlib.Omega.{arith}
 use lib.Dec.{T, ltb→lt, lt→ltb}
+use Rattle.text.proofs.Tests.{and-left, and-right}
+pub use Rattle.text.proofs.Tests.{both-and, or-case, or-left, or-right, look, isT, notT}
 use Rattle.derive.specs.Level.{first, somewhere}
 
 pub and-both : (a b : Bool) → T (a && b) → T a × T b
-and-both true b h = (tt, h)
-and-both false b h = absurd h
-
-pub both-and : (a b : Bool) → T a → T b → T (a && b)
-both-and true b h k = k
-both-and false b h k = h
-
-pub or-case : (a b : Bool) → T (a || b) → T a ⊎ T b
-or-case true b h = inl tt
-or-case false b h = inr h
-
-pub or-left : (a b : Bool) → T a → T (a || b)
-or-left true b h = tt
-or-left false b h = absurd h
-
-pub or-right : (a b : Bool) → T b → T (a || b)
-or-right true b h = tt
-or-right false b h = h
-
--- a test's two answers
-pub look : (b : Bool) → (b ≡ true) ⊎ (b ≡ false)
-look true = inl refl
-look false = inr refl
-
-pub isT : {b : Bool} → b ≡ true → T b
-isT e = subst T (sym e) tt
-
-pub notT : {b : Bool} → b ≡ false → T b → ⊥
-notT e h = subst T e h
+and-both a b h = (and-left a b h, and-right a b h)
 
 -- what `first p i c` is
 pub record Search (p : ℕ → Bool) (i c : ℕ) : Type 0 where

@@ -7,8 +7,7 @@ use Prim.Native.Nat.{ℕ}
 use lib.Dec.{T, eqb}
 use borrow.Author.Tests.{eqb-true}
 use Rattle.text.specs.Lists.{Text, chars, pick, same, all, among}
-use Rattle.text.proofs.Tests.{clash, look}
-use Rattle.text.proofs.Table.{and-left, and-right}
+use Rattle.text.proofs.Tests.{clash, look, and-left, and-right}
 use Rattle.xml.specs.Bytes.{escape}
 
 -- the character that a reference names, after its `&`
