@@ -25,7 +25,7 @@ use Rattle.derive.specs.Pick.{Choice, found, no-choice, chosenOf}
 use Rattle.derive.proofs.Chosen.{chosen-derives}
 use Rattle.derive.proofs.Choose.{found-chosen, none-derives, chosen-found}
 use Rattle.xml.specs.Document.{document, markOf, twice, misnamed, unwritable, isAttribute, notOne, namespaced}
-use Rattle.answer.specs.Answer.{Line, GrammarText, GrammarTree, ofText, ofTree, grammarLines, Job, Given, ofJob, ofReading, tableNeed, recordLines, documentLines}
+use Rattle.answer.specs.Answer.{Line, GrammarText, GrammarTree, ofText, ofTree, grammarLines, Job, ofJob, ofReading, tableNeed, recordLines, documentLines}
 use Rattle.answer.specs.Compute.{Test, onText, onTree, onChoice, isText, isTree, isFound, afterMark, treeOf, grammarTests, onJob, onReading, recordTests, documentTests}
 use Rattle.answer.proofs.Lines.{Agree}
 
@@ -135,7 +135,7 @@ grammar-agrees bs ls ts a = (
 pub job-known : (j : Job) (f : Grammar → Text → Bool) (P : Grammar → Text → Type 0) → ((g : Grammar) (r : Text) → Tests (f g r) (P g r)) → Tests (onJob j f) (ofJob j P)
 job-known j f P h =
     let w = tree-known (j .grammar) (λ g. onText (decode (j .input)) (f g)) (λ g. ofText Utf8 (j .input) (P g)) (λ g. text-known (j .input) (f g) (P g) (h g)) in
-    (λ t. let x = w .0 t in (x .0, x .2 .0, record { tree = x .1; text = x .2 .1 }, x .2 .2), λ x. w .1 (x .0, x .2 .tree, (x .1, x .2 .text, x .3)))
+    (λ t. let x = w .0 t in (x .0, x .2 .0, (x .1, x .2 .1), x .2 .2), λ x. w .1 (x .0, x .2 .0, (x .1, x .2 .1, x .3)))
 
 reading-of : (g : Grammar) (r : Text) (t : Row) → Chosen g r t (root g ∷ []) 0 (length r) → Reading g r t (leftParse t)
 reading-of g r t c = record { chosen = c; parse = refl }

@@ -10,7 +10,7 @@ use lib.Dec.{T, ltb, eqb, ltb→lt}
 use lib.ListN.{length, drop}
 use borrow.Author.Tests.{eqb-true, eqb-false, eq-eqb, ne-eqb}
 use Rattle.text.specs.Lists.{Text, all}
-use Rattle.text.specs.Utf8.{unmarked}
+use Rattle.text.specs.Utf8.{Utf8, unmarked}
 use Rattle.text.proofs.Tests.{look, isT, notT, T-true, T-false, clash, and-left, and-right}
 use Rattle.text.specs.Decode.{Decoded, text, not-utf8, decode}
 use Rattle.text.proofs.Decode.{decode-sound, decode-complete}
@@ -22,7 +22,7 @@ use Rattle.derive.specs.Pick.{Choice, found, no-choice, chosenOf}
 use Rattle.derive.specs.Another.{ambiguousOf}
 use Rattle.derive.proofs.Choose.{found-chosen, chosen-found}
 use Rattle.derive.proofs.Ambiguous.{ambiguous-second}
-use Rattle.answer.specs.Answer.{Line, line, Topmost, ofTree, grammarLines, recordLines, documentLines, Job, mismatched, Given, ofReading, Shown, asNumbers, asXml, ResultOf, tooLong, Answer, Answers, Checks, Reads, Converts}
+use Rattle.answer.specs.Answer.{Line, line, Topmost, ofTree, grammarLines, recordLines, documentLines, Job, mismatched, GrammarTree, ofReading, Shown, asNumbers, asXml, ResultOf, tooLong, Answer, Answers, Checks, Reads, Converts}
 use Rattle.answer.specs.Compute.{Test, test, firstOf, onReading, grammarTests, recordTests, documentTests, isText, isTree, isFound, onText, onJob, treeOf, afterMark, Result, result, resultOf, resultBy, Outcome, outcome, mismatch, checkOf, longTest, callOf, readOf, convertOf}
 use Rattle.answer.proofs.Lines.{one-topmost, Agree, first-topmost}
 use Rattle.answer.proofs.Agree.{Tests, grammar-agrees, record-agrees, document-agrees, tree-known, reading-known, same-test, less, tree-sound, tree-complete}
@@ -149,23 +149,23 @@ module _ (j : Job) (F : Shown) where
       let em : m ≡ ambiguousOf g r t = same-mark m (ambiguousOf g r t) (Second g r (x .3 .1)) (x .3 .3 .0) (ambiguous-second g r w) in
       let ex : xs ≡ F (ambiguousOf g r t) g r t (leftParse t) = x .3 .3 .1 ∙ (λ ι. F (em ι) g r t (w .parse ι)) in
       let ec : result xs m ≡ result (F (ambiguousOf g r t) g r t (leftParse t)) (ambiguousOf g r t) = λ ι. result (ex ι) (em ι) in
-      rw (tree-complete (j .grammar) g (x .2 .tree), decode-complete (j .input) r (x .2 .text), chosen-found g r (w .chosen)) ec
+      rw (tree-complete (j .grammar) g (x .2 .0), decode-complete (j .input) r (x .2 .1), chosen-found g r (w .chosen)) ec
 
   one-result : (xs ys : List ℕ) (m n : Bool) → ResultOf j F xs m → ResultOf j F ys n → (xs ≡ ys) × (m ≡ n)
   one-result xs ys m n x y = let e = result-is xs m x ∙ sym (result-is ys n y) in (ap (λ (z : Result). z .cells) e, ap (λ (z : Result). z .ambiguous) e)
 
-  by-reading : (g : Grammar) (r : Text) (t : Row) → Given j g r → Chosen g r t (root g ∷ []) 0 (length r) → ResultOf j F (resultBy F g r t .cells) (resultBy F g r t .ambiguous)
+  by-reading : (g : Grammar) (r : Text) (t : Row) → GrammarTree (j .grammar) g × Utf8 (j .input) r → Chosen g r t (root g ∷ []) 0 (length r) → ResultOf j F (resultBy F g r t .cells) (resultBy F g r t .ambiguous)
   by-reading g r t v c = let w : Reading g r t (leftParse t) = record { chosen = c; parse = refl } in (g, r, v, (t, leftParse t, w, (ambiguous-second g r w, refl)))
 
-  long-known : Tests (onReading j (λ g r t. ltb (j .room) (length (resultBy F g r t .cells)))) ((xs : List ℕ) × (m : Bool) × ResultOf j F xs m × (j .room < length xs))
-  long-known =
-      let w = reading-known j (λ g r t. ltb (j .room) (length (resultBy F g r t .cells))) (λ g r t p. j .room < length (resultBy F g r t .cells)) (λ g r t. less (j .room) (length (resultBy F g r t .cells))) in (
+  long-known : (old : List ℕ) → Tests (onReading j (λ g r t. ltb (length old) (length (resultBy F g r t .cells)))) ((xs : List ℕ) × (m : Bool) × ResultOf j F xs m × (length old < length xs))
+  long-known old =
+      let w = reading-known j (λ g r t. ltb (length old) (length (resultBy F g r t .cells))) (λ g r t p. length old < length (resultBy F g r t .cells)) (λ g r t. less (length old) (length (resultBy F g r t .cells))) in (
         λ h. let x = w .0 h in (resultBy F (x .0) (x .1) (x .3 .0) .cells, resultBy F (x .0) (x .1) (x .3 .0) .ambiguous, by-reading (x .0) (x .1) (x .3 .0) (x .2) (x .3 .2 .chosen), x .3 .3),
         λ x. w .1 (x .2 .0, x .2 .1, x .2 .2, (x .2 .3 .0, x .2 .3 .1, x .2 .3 .2, longer (x .0) (x .1) (x .2) (x .3))),
       )
     where
-      longer : (xs : List ℕ) (m : Bool) (x : ResultOf j F xs m) → j .room < length xs → j .room < length (resultBy F (x .0) (x .1) (x .3 .0) .cells)
-      longer xs m x h = subst (λ (ys : List ℕ). j .room < length ys) (one-result xs (resultBy F (x .0) (x .1) (x .3 .0) .cells) m (resultBy F (x .0) (x .1) (x .3 .0) .ambiguous) x (by-reading (x .0) (x .1) (x .3 .0) (x .2) (x .3 .2 .chosen)) .0) h
+      longer : (xs : List ℕ) (m : Bool) (x : ResultOf j F xs m) → length old < length xs → length old < length (resultBy F (x .0) (x .1) (x .3 .0) .cells)
+      longer xs m x h = subst (λ (ys : List ℕ). length old < length ys) (one-result xs (resultBy F (x .0) (x .1) (x .3 .0) .cells) m (resultBy F (x .0) (x .1) (x .3 .0) .ambiguous) x (by-reading (x .0) (x .1) (x .3 .0) (x .2) (x .3 .2 .chosen)) .0) h
 
   -- where no line applies there is a result
   there-tree : (cs : Text) → decode (j .grammar) ≡ text cs → onText (decode (j .grammar)) (λ cs. not (isTree (parse (unmarked cs)))) ≡ false → (g : Grammar) × (treeOf (j .grammar) ≡ parsed g)
@@ -174,7 +174,7 @@ module _ (j : Job) (F : Shown) where
 
   there-result : (g : Grammar) (r : Text) (t : Row) → treeOf (j .grammar) ≡ parsed g → decode (j .input) ≡ text r → chosenOf g r ≡ found t
       → ResultOf j F (resultOf j (resultBy F) .cells) (resultOf j (resultBy F) .ambiguous)
-  there-result g r t et er ec = rw (et, er, ec) (by-reading g r t (record { tree = tree-sound (j .grammar) g et; text = decode-sound (j .input) r er }) (found-chosen g r ec))
+  there-result g r t et er ec = rw (et, er, ec) (by-reading g r t (tree-sound (j .grammar) g et, decode-sound (j .input) r er) (found-chosen g r ec))
 
   there-choice : (g : Grammar) (r : Text) → treeOf (j .grammar) ≡ parsed g → decode (j .input) ≡ text r → onJob j (λ g r. not (isFound (chosenOf g r))) ≡ false → (t : Row) × (chosenOf g r ≡ found t)
   there-choice g r et er f = choice-there (chosenOf g r) (rw (et, er) at f)
@@ -209,16 +209,16 @@ module _ (j : Job) (F : Shown) where
 -- the computed answer is an answer, and the only one
 pub read-answers : (j : Job) (old : List ℕ) → Reads j old (readOf j old .answer) (readOf j old .buffer)
 unfolding readOf lines made
-read-answers j old = call-answers j asNumbers old (tooLong j asNumbers ∷ []) (longTest asNumbers j ∷ []) tt (refl, long-known j asNumbers, tt)
+read-answers j old = call-answers j asNumbers old (tooLong j asNumbers old ∷ []) (longTest asNumbers j old ∷ []) tt (refl, long-known j asNumbers old, tt)
 
 pub read-settled : (j : Job) (old : List ℕ) (a : Answer) (new : List ℕ) → Reads j old a new → (a ≡ readOf j old .answer) × (new ≡ readOf j old .buffer)
 unfolding readOf lines made
-read-settled j old a new p = call-settled j asNumbers old (tooLong j asNumbers ∷ []) (longTest asNumbers j ∷ []) tt (refl, long-known j asNumbers, tt) a new p
+read-settled j old a new p = call-settled j asNumbers old (tooLong j asNumbers old ∷ []) (longTest asNumbers j old ∷ []) tt (refl, long-known j asNumbers old, tt) a new p
 
 pub convert-answers : (j : Job) (old : List ℕ) → Converts j old (convertOf j old .answer) (convertOf j old .buffer)
 unfolding convertOf lines made
-convert-answers j old = call-answers j asXml old (documentLines j (tooLong j asXml ∷ [])) (documentTests j (longTest asXml j ∷ [])) tt (document-agrees j (tooLong j asXml ∷ []) (longTest asXml j ∷ []) (refl, long-known j asXml, tt))
+convert-answers j old = call-answers j asXml old (documentLines j (tooLong j asXml old ∷ [])) (documentTests j (longTest asXml j old ∷ [])) tt (document-agrees j (tooLong j asXml old ∷ []) (longTest asXml j old ∷ []) (refl, long-known j asXml old, tt))
 
 pub convert-settled : (j : Job) (old : List ℕ) (a : Answer) (new : List ℕ) → Converts j old a new → (a ≡ convertOf j old .answer) × (new ≡ convertOf j old .buffer)
 unfolding convertOf lines made
-convert-settled j old a new p = call-settled j asXml old (documentLines j (tooLong j asXml ∷ [])) (documentTests j (longTest asXml j ∷ [])) tt (document-agrees j (tooLong j asXml ∷ []) (longTest asXml j ∷ []) (refl, long-known j asXml, tt)) a new p
+convert-settled j old a new p = call-settled j asXml old (documentLines j (tooLong j asXml old ∷ [])) (documentTests j (longTest asXml j old ∷ [])) tt (document-agrees j (tooLong j asXml old ∷ []) (longTest asXml j old ∷ []) (refl, long-known j asXml old, tt)) a new p

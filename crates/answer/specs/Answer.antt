@@ -9,6 +9,7 @@ use lib.ListN.{length, drop}
 use Rattle.text.specs.Limits.{grammarBytes, mostSize, recordChars, grammarTable, readingNumbers}
 use Rattle.text.specs.Lists.{Text, chars, all, same}
 use Rattle.text.specs.Utf8.{Utf8, unmarked, known}
+use Rattle.category.specs.Category.{categoryNumber}
 use Rattle.tree.specs.Tree.{Prolog, no-prolog, version, Grammar}
 use Rattle.syntax.specs.Syntax.{Ixml}
 use Rattle.plain.specs.Static.{undefined, duplicate, beyond, banned, backwards, unclassed}
@@ -38,13 +39,14 @@ GrammarText bs cs = (ds : Text) × Utf8 bs ds × (cs ≡ unmarked ds)
 abbrev pub GrammarTree : List ℕ → Grammar → Type 0
 GrammarTree bs g = (cs : Text) × GrammarText bs cs × Ixml cs g
 
--- the lines that checking may give
+-- of a text that the bytes have; of the tree
 abbrev pub ofText : (List ℕ → Text → Type 0) → List ℕ → (Text → Type 0) → Type 0
 ofText R bs P = (cs : Text) × R bs cs × P cs
 
 abbrev pub ofTree : List ℕ → (Grammar → Type 0) → Type 0
 ofTree bs P = (g : Grammar) × GrammarTree bs g × P g
 
+-- the lines that checking may give
 abbrev pub grammarLines : List ℕ → List Line → List Line
 grammarLines bs ls =
     line 1 (grammarBytes < length bs)
@@ -60,21 +62,16 @@ grammarLines bs ls =
     ∷ line 11 (ofTree bs (λ g. mostSize < size g))
     ∷ ls
 
--- what reading and converting are given: bytes of the grammar and the record, lengths of the two tables and of the buffer
+-- what reading and converting are given beside the result buffer: bytes of the grammar and the record, lengths of the two tables
 pub record Job : Type 0 where
   pub grammar : List ℕ
   pub input : List ℕ
   pub mainTable : ℕ
   pub secondTable : ℕ
-  pub room : ℕ
 
--- the job's grammar and record; with the derivation and the numbers of the chosen reading
-pub record Given (j : Job) (g : Grammar) (r : Text) : Type 0 where
-  pub tree : GrammarTree (j .grammar) g
-  pub text : Utf8 (j .input) r
-
+-- of the job's grammar and record; of these, the chosen derivation and its numbers
 abbrev pub ofJob : Job → (Grammar → Text → Type 0) → Type 0
-ofJob j P = (g : Grammar) × (r : Text) × Given j g r × P g r
+ofJob j P = (g : Grammar) × (r : Text) × (GrammarTree (j .grammar) g × Utf8 (j .input) r) × P g r
 
 abbrev pub ofReading : Job → (Grammar → Text → Row → List ℕ → Type 0) → Type 0
 ofReading j P = ofJob j (λ g r. (t : Row) × (p : List ℕ) × Reading g r t p × P g r t p)
@@ -120,8 +117,8 @@ asXml m g r t p = bytes m (mismatched g) (document g r t)
 abbrev pub ResultOf : Job → Shown → List ℕ → Bool → Type 0
 ResultOf j F xs m = ofReading j (λ g r t p. (T m ↔ Second g r p) × (xs ≡ F m g r t p))
 
-abbrev pub tooLong : Job → Shown → Line
-tooLong j F = line 23 ((xs : List ℕ) × (m : Bool) × ResultOf j F xs m × (j .room < length xs))
+abbrev pub tooLong : Job → Shown → List ℕ → Line
+tooLong j F old = line 23 ((xs : List ℕ) × (m : Bool) × ResultOf j F xs m × (length old < length xs))
 
 -- "An answer holds the number, a length, an ambiguous mark and a version mark."
 pub record Answer : Type 0 where
@@ -143,9 +140,10 @@ abbrev pub Checks : List ℕ → Answer → Type 0
 Checks bs a = Answers (grammarLines bs []) (λ xs m. (xs ≡ []) × (m ≡ false)) bs [] a []
 
 abbrev pub Reads : Job → List ℕ → Answer → List ℕ → Type 0
-Reads j = Answers (grammarLines (j .grammar) (recordLines j (tooLong j asNumbers ∷ []))) (ResultOf j asNumbers) (j .grammar)
+Reads j old = Answers (grammarLines (j .grammar) (recordLines j (tooLong j asNumbers old ∷ []))) (ResultOf j asNumbers) (j .grammar) old
 
 abbrev pub Converts : Job → List ℕ → Answer → List ℕ → Type 0
-Converts j = Answers (grammarLines (j .grammar) (recordLines j (documentLines j (tooLong j asXml ∷ [])))) (ResultOf j asXml) (j .grammar)
+Converts j old = Answers (grammarLines (j .grammar) (recordLines j (documentLines j (tooLong j asXml old ∷ [])))) (ResultOf j asXml) (j .grammar) old
 
--- the category call answers `categoryNumber` for every number
+abbrev pub Categorizes : ℕ → ℕ → Type 0
+Categorizes code n = n ≡ categoryNumber code

@@ -147,15 +147,15 @@ mismatch bs = onTree (treeOf bs) mismatched
 unfoldable pub checkOf : List ℕ → Answer
 checkOf bs = outcome [] (mismatch bs) (firstOf (grammarTests bs [])) (result [] false) .answer
 
-abbrev pub longTest : Shown → Job → Test
-longTest F j = test 23 (λ _. onReading j (λ g r t. ltb (j .room) (length (resultBy F g r t .cells))))
+abbrev pub longTest : Shown → Job → List ℕ → Test
+longTest F j old = test 23 (λ _. onReading j (λ g r t. ltb (length old) (length (resultBy F g r t .cells))))
 
 -- a call, by the tests after 29 and the way its result is shown
 abbrev pub callOf : List Test → Shown → Job → List ℕ → Outcome
 callOf ts F j old = outcome old (mismatch (j .grammar)) (firstOf (grammarTests (j .grammar) (recordTests j ts))) (resultOf j (resultBy F))
 
 unfoldable pub readOf : Job → List ℕ → Outcome
-readOf j old = callOf (longTest asNumbers j ∷ []) asNumbers j old
+readOf j old = callOf (longTest asNumbers j old ∷ []) asNumbers j old
 
 unfoldable pub convertOf : Job → List ℕ → Outcome
-convertOf j old = callOf (documentTests j (longTest asXml j ∷ [])) asXml j old
+convertOf j old = callOf (documentTests j (longTest asXml j old ∷ [])) asXml j old

@@ -42,7 +42,7 @@ unfoldable pub buffer : List ℕ
 buffer = replicate 100 7
 
 unfoldable pub job : String → String → Job
-job g r = record { grammar = chars g; input = chars r; mainTable = programTable; secondTable = grammarTable; room = length buffer }
+job g r = record { grammar = chars g; input = chars r; mainTable = programTable; secondTable = grammarTable }
 
 unfoldable pub answer : ℕ → ℕ → Bool → Answer
 answer n k m = record { number = n; length = k; ambiguous = m; version = false }

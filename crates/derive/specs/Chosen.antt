@@ -55,7 +55,7 @@ pub record Reading (g : Grammar) (r : Text) (t : Row) (p : List ℕ) : Type 0 wh
   pub chosen : Chosen g r t (root g ∷ []) 0 (length r)
   pub parse : p ≡ leftParse t
 
--- "the ambiguous mark is set exactly when a second derivation exists"; "Two derivations differ exactly when these lists differ."
+-- a second derivation of the record: "Two derivations differ exactly when these lists differ."
 pub record Second (g : Grammar) (r : Text) (p : List ℕ) : Type 0 where
   pub tree : Row
   pub derives : Derivation g r tree

@@ -24,7 +24,7 @@ abbrev pub ruleFor : List Rule → Text → List (List Symbol)
 ruleFor [] n = []
 ruleFor (r ∷ rs) n = pick (same n (r .name)) (alternatives (r .body)) (ruleFor rs n)
 
--- "Repetitions and brackets become extra rules, alternatives numbered from 0": a rule for each symbol that is no terminal
+-- "Repetitions and brackets become extra rules, …, alternatives numbered from 0": a rule for each symbol that is no terminal
 abbrev pub alts : Grammar → Symbol → List (List Symbol)
 alts g (terminal x) = []
 alts g (nonterminal m n) = ruleFor (rules g) n
