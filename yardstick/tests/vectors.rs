@@ -30,7 +30,8 @@ fn expected<T: Copy>(result: &[T], filling: &[T]) -> Vec<T> {
 
 #[test]
 fn calls() {
-    let lines = table("calls.tsv");
+    let mut lines = table("calls.tsv");
+    lines.extend(table("edges.tsv"));
     assert!(lines.len() > 3000);
     for (number, line) in (1..).zip(&lines) {
         let grammar = bytes(&line[1]);
