@@ -31,7 +31,7 @@ kind-white : (c : ℕ) → whitespace c ≡ true → kind c ≡ white
 unfolding kind
 kind-white c e = rw (white-not c 0x7b (brace-not-white .0) e, white-not c 0x7d (brace-not-white .1) e, e)
 
-kind-open : (c : ℕ) → ch 0x7b c ≡ true → kind c ≡ opening
+pub kind-open : (c : ℕ) → ch 0x7b c ≡ true → kind c ≡ opening
 unfolding kind ch
 kind-open c e = rw e
 
@@ -149,14 +149,14 @@ into-open : {k d c : ℕ} {t u : Text} → ch 0x7b c ≡ true → k + suc d ≡ 
 into-open {d = d} {c = c} {t = t} p h (deep b s (out {t = v} r e)) = out (s-comment (subst (λ (n : ℕ). Comment n (c ∷ t) v) (all-levels d h) (comment (is p) b s)) r) e
 into-open p h (deep b s (deep b' s' w)) = deep (in-comment (comment (is p) b s) b') s' w
 
-still : (c : ℕ) → eqb c 0x7b ≡ false → whitespace c ≡ false → spacing c ≡ false
+pub still : (c : ℕ) → eqb c 0x7b ≡ false → whitespace c ≡ false → spacing c ≡ false
 unfolding spacing
 still c p q = rw (p, q)
 
 shut-not-white : (c : ℕ) → eqb c 0x7d ≡ true → whitespace c ≡ false
 shut-not-white c q = rw (eqb-true c 0x7d q) (brace-not-white .1)
 
-cchar-at : (c : ℕ) → eqb c 0x7b ≡ false → eqb c 0x7d ≡ false → cchar c ≡ true
+pub cchar-at : (c : ℕ) → eqb c 0x7b ≡ false → eqb c 0x7d ≡ false → cchar c ≡ true
 unfolding cchar
 cchar-at c p q = rw (p, q)
 
