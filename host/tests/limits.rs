@@ -2,10 +2,13 @@
 
 mod common;
 
-use common::{jobs, on_small_stack, Call, Converting, Job, Lender, Reading};
+use std::time::Duration;
 
-/// How long a job may take at most.
-const LONGEST: std::time::Duration = std::time::Duration::from_secs(3);
+use common::{jobs, on_small_stack, processor_time, Call, Converting, Job, Lender, Reading};
+
+/// What a full-size grammar may take on 120 characters, the yardstick's turn
+/// and slow computers allowed for. docs/BENCH.md has the times themselves.
+const LONGEST: Duration = Duration::from_secs(10);
 
 fn run_all<C: Call>(jobs: Vec<Job>) {
     on_small_stack(|| {
@@ -16,16 +19,16 @@ fn run_all<C: Call>(jobs: Vec<Job>) {
     });
 }
 
-/// Runs each job once and looks at the clock.
+/// Runs each job once and measures it.
 fn run_timed<C: Call>(jobs: Vec<Job>) {
     on_small_stack(|| {
         let mut lender: Lender<C> = Lender::new(1 << 17);
         for job in jobs {
-            let start = std::time::Instant::now();
+            let start = processor_time();
             let (answer, _) = lender.agree(&job, 3);
-            let time = start.elapsed();
+            let time = processor_time() - start;
             assert_eq!(answer.number, 0, "{job:?}");
-            assert!(time < 2 * LONGEST, "{time:?} for {job:?}");
+            assert!(time < LONGEST, "{time:?} for {job:?}");
         }
     });
 }

@@ -8,6 +8,7 @@ pub mod lent;
 pub mod vectors;
 pub mod xml;
 
+use std::time::Duration;
 use std::{fmt, thread};
 
 use ixml::limits::{main_table, GRAMMAR_TABLE};
@@ -26,6 +27,28 @@ pub fn on_small_stack<T: Send + 'static>(test: impl FnOnce() -> T + Send + 'stat
         Ok(value) => value,
         Err(panic) => std::panic::resume_unwind(panic),
     }
+}
+
+/// The processor's time that this thread has used. Unlike the clock's it does
+/// not depend much on what else the computer does.
+pub fn processor_time() -> Duration {
+    #[repr(C)]
+    struct Timespec {
+        seconds: i64,
+        nanoseconds: i64,
+    }
+    const CLOCK_THREAD_CPUTIME_ID: i32 = 3;
+    extern "C" {
+        fn clock_gettime(clock: i32, time: *mut Timespec) -> i32;
+    }
+    let mut time = Timespec {
+        seconds: 0,
+        nanoseconds: 0,
+    };
+    // SAFETY: the layout is that of x86-64 Linux, for which the library is.
+    let status = unsafe { clock_gettime(CLOCK_THREAD_CPUTIME_ID, &mut time) };
+    assert_eq!(status, 0);
+    Duration::new(time.seconds as u64, time.nanoseconds as u32)
 }
 
 /// An answer of the yardstick as one of the library.
