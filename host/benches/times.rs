@@ -1,0 +1,301 @@
+//! Times of the library's calls beside the yardstick's, as Markdown tables.
+//!
+//! Arguments choose among the tables: `check`, `read`, `convert`, `write`.
+
+#[path = "../tests/common/mod.rs"]
+mod common;
+
+use std::hint::black_box;
+use std::time::Duration;
+
+use common::{grammars, jobs, processor_time, Call, Converting, Job, Reading, Room};
+use ixml::limits::{GRAMMAR_TABLE, MAIN_TABLE, READING_NUMBERS};
+use ixml::Answer;
+use ixml_yardstick::gen;
+
+const TABLES: [(&str, bool, fn()); 4] = [
+    ("check", true, check_table),
+    ("read", ixml::HAS_READ, read_table),
+    ("convert", ixml::HAS_CONVERT, convert_table),
+    ("write", ixml::HAS_READ && ixml::HAS_CONVERT, write_table),
+];
+
+fn main() {
+    // Cargo adds an argument of its own.
+    let chosen: Vec<String> = std::env::args()
+        .skip(1)
+        .filter(|a| a != "--bench")
+        .collect();
+    for (name, present, table) in TABLES {
+        if !chosen.is_empty() && !chosen.iter().any(|choice| choice == name) {
+            continue;
+        }
+        if present {
+            table();
+            println!();
+        } else {
+            println!(
+                "The library was built without a call that table `{name}` is about: skipped.\n"
+            );
+        }
+    }
+}
+
+/// Median times of the library and of the yardstick.
+#[derive(Clone, Copy)]
+struct Times {
+    library: Duration,
+    yardstick: Duration,
+}
+
+impl Times {
+    /// Measures two jobs by turns, so that what else the computer does falls
+    /// on both. A run repeats a quick job for about four milliseconds.
+    fn measure(mut library: impl FnMut(), mut yardstick: impl FnMut()) -> Times {
+        let longer = once(&mut library).max(once(&mut yardstick));
+        let runs = if longer > Duration::from_millis(100) {
+            3
+        } else {
+            11
+        };
+        let (mut first, mut second) = (Vec::new(), Vec::new());
+        for _ in 0..runs {
+            first.push(run(&mut library));
+            second.push(run(&mut yardstick));
+        }
+        Times {
+            library: median(first),
+            yardstick: median(second),
+        }
+    }
+
+    fn ratio(self) -> f64 {
+        self.library.as_secs_f64() / self.yardstick.as_secs_f64()
+    }
+}
+
+fn once(job: &mut impl FnMut()) -> Duration {
+    let start = processor_time();
+    job();
+    (processor_time() - start).max(Duration::from_nanos(100))
+}
+
+fn run(job: &mut impl FnMut()) -> Duration {
+    let repeats = Duration::from_millis(4).as_nanos() / once(job).as_nanos();
+    let repeats = repeats.max(1) as u32;
+    let start = processor_time();
+    for _ in 0..repeats {
+        job();
+    }
+    (processor_time() - start) / repeats
+}
+
+fn median(mut times: Vec<Duration>) -> Duration {
+    times.sort();
+    times[times.len() / 2]
+}
+
+fn milliseconds(time: Duration) -> String {
+    format!("{:.3}", time.as_secs_f64() * 1000.0)
+}
+
+/// A row: what was measured, then for each time the library's, the yardstick's
+/// and how many times as long the library took.
+fn row(what: &str, times: &[Times]) {
+    print!("| {what} |");
+    for times in times {
+        print!(
+            " {} | {} | {:.1} |",
+            milliseconds(times.library),
+            milliseconds(times.yardstick),
+            times.ratio()
+        );
+    }
+    println!();
+}
+
+fn check_table() {
+    const KINDS: [&str; 16] = [
+        "rules",
+        "rules that use the next",
+        "rules that use the first",
+        "rules with long names",
+        "rules with sets",
+        "one rule again and again",
+        "uses of one undefined name",
+        "one long string",
+        "one long name",
+        "one long hex number",
+        "one set of classes",
+        "short literals",
+        "repetitions",
+        "brackets 16 deep",
+        "comments 16 deep",
+        "empty alternatives",
+    ];
+    println!("| checking 4,096 bytes | library ms | yardstick ms | times |");
+    println!("|---|---:|---:|---:|");
+    let check = |kind: &str, grammar: &[u8]| {
+        let number = ixml::check(grammar).number;
+        let times = Times::measure(
+            || {
+                black_box(ixml::check(black_box(grammar)));
+            },
+            || {
+                black_box(ixml_yardstick::check(black_box(grammar)));
+            },
+        );
+        row(&format!("{kind} (answer {number})"), &[times]);
+        times
+    };
+    let mut fields = gen::fields(512);
+    fields.push_str(&" ".repeat(4096 - fields.len()));
+    check("fields of size 512", fields.as_bytes());
+    let grammars = grammars::awkward();
+    for kind in KINDS {
+        let (_, grammar) = grammars
+            .iter()
+            .find(|(name, grammar)| *name == kind && grammar.len() <= 4096)
+            .expect("a kind of grammar");
+        check(kind, grammar.as_bytes());
+    }
+}
+
+/// Memory that is ample for every job.
+struct Memory<C: Call> {
+    main_table: Vec<u32>,
+    grammar_table: Vec<u32>,
+    result: Vec<C::Cell>,
+    other_result: Vec<C::Cell>,
+}
+
+impl<C: Call> Memory<C>
+where
+    C::Cell: Default,
+{
+    fn new(room: usize) -> Memory<C> {
+        Memory {
+            main_table: vec![0; MAIN_TABLE],
+            grammar_table: vec![0; GRAMMAR_TABLE],
+            result: vec![C::Cell::default(); room],
+            other_result: vec![C::Cell::default(); room],
+        }
+    }
+
+    fn measure(&mut self, job: &Job) -> (Answer, Times) {
+        let room = Room {
+            main_table: self.main_table.len(),
+            grammar_table: self.grammar_table.len(),
+            result: self.result.len(),
+        };
+        let mut library = || {
+            C::library(
+                black_box(job),
+                &mut self.main_table,
+                &mut self.grammar_table,
+                &mut self.result,
+            )
+        };
+        let mut yardstick = || C::yardstick(black_box(job), room, &mut self.other_result);
+        let answer = library();
+        assert_eq!(answer, yardstick(), "{job:?}");
+        assert_eq!(answer.number, 0, "{job:?}");
+        let times = Times::measure(
+            || {
+                black_box(library());
+            },
+            || {
+                black_box(yardstick());
+            },
+        );
+        (answer, times)
+    }
+}
+
+const LENGTHS: [usize; 3] = [20, 80, 120];
+
+/// A name, the grammar of each size, the record of each length, the sizes.
+type Family = (
+    &'static str,
+    fn(usize) -> String,
+    fn(usize) -> String,
+    [usize; 3],
+);
+
+const FAMILIES: [Family; 5] = [
+    (
+        "fields, plain",
+        gen::fields,
+        gen::fields_record,
+        [48, 192, 512],
+    ),
+    ("pairs, ambiguous", gen::pairs, gen::letters, [30, 192, 512]),
+    (
+        "copies, ambiguous",
+        gen::copies,
+        gen::letters,
+        [30, 192, 512],
+    ),
+    ("stars, ambiguous", gen::stars, gen::letters, [30, 192, 512]),
+    ("runs, ambiguous", gen::runs, gen::letters, [30, 192, 512]),
+];
+
+fn families_table<C: Call>(title: &str, mut memory: Memory<C>)
+where
+    C::Cell: Default,
+{
+    print!("| {title} |");
+    for length in LENGTHS {
+        print!(" {length}: library ms | yardstick ms | times |");
+    }
+    println!("\n|---|{}", "---:|---:|---:|".repeat(LENGTHS.len()));
+    for (name, grammar, record, sizes) in FAMILIES {
+        for size in sizes {
+            let grammar = grammar(size);
+            let times = LENGTHS.map(|length| {
+                let job = Job::new(&grammar, record(length));
+                memory.measure(&job).1
+            });
+            row(&format!("{name}, size {size}"), &times);
+        }
+    }
+}
+
+fn read_table() {
+    families_table::<Reading>("reading, by characters", Memory::new(READING_NUMBERS));
+}
+
+fn convert_table() {
+    families_table::<Converting>("converting, by characters", Memory::new(1 << 16));
+}
+
+/// Long readings: what is left of converting without reading is writing.
+fn write_table() {
+    let name = "n".repeat(500);
+    let long = jobs::wide();
+    let long = String::from_utf8(long.grammar).expect("text");
+    let long = long.replace("d: .", &format!("d: {name} . {name}: ."));
+    let long = long.replacen("b,", "", 8);
+    let rows = [
+        ("elements 4,096 deep", jobs::deep("", 4096)),
+        ("deleted nodes 4,096 deep", jobs::deep("-", 4096)),
+        ("attributes 4,096 deep", jobs::deep("@", 4096)),
+        ("elements 4 deep, 4,096 in all", jobs::wide()),
+        ("names of 500 letters", Job::new(long, "")),
+        ("4,095 elements 12 deep", jobs::doublings("", 11)),
+        ("60 attributes of one element", jobs::attributes(60)),
+    ];
+    let mut reading: Memory<Reading> = Memory::new(READING_NUMBERS);
+    let mut converting: Memory<Converting> = Memory::new(1 << 23);
+    println!(
+        "| long readings | numbers | bytes | reading: library ms | yardstick ms | times \
+         | converting: library ms | yardstick ms | times |"
+    );
+    println!("|---|---:|---:|---:|---:|---:|---:|---:|---:|");
+    for (what, job) in rows {
+        let (read, reading) = reading.measure(&job);
+        let (converted, converting) = converting.measure(&job);
+        let what = format!("{what} | {} | {}", read.length, converted.length);
+        row(&what, &[reading, converting]);
+    }
+}

@@ -1,0 +1,35 @@
+use crate::Error;
+
+/// The answer of a call.
+#[repr(C)]
+#[derive(Clone, Copy, Debug, Default, PartialEq, Eq)]
+pub struct Answer {
+    /// 0, or the number of a refusal.
+    pub number: u32,
+    /// How many cells of the result are filled. 0 with every refusal, and
+    /// always 0 from checking.
+    pub length: usize,
+    /// The record has more than one derivation. Never with a refusal, and
+    /// never from checking.
+    pub ambiguous: bool,
+    /// The grammar's prolog names another version than 1.0; it is read as 1.0
+    /// all the same. Only with the numbers 0 and 16.
+    pub version: bool,
+}
+
+impl Answer {
+    /// The answer itself if its number is 0, and the refusal otherwise.
+    ///
+    /// ```
+    /// use ixml::{check, Error};
+    ///
+    /// assert!(check(b"a: 'x'.").ok().is_ok());
+    /// assert_eq!(check(b"a: b.").ok(), Err(Error::UndefinedName));
+    /// ```
+    pub fn ok(self) -> Result<Answer, Error> {
+        match self.number {
+            0 => Ok(self),
+            _ => Err(Error::from(self)),
+        }
+    }
+}

@@ -1,0 +1,207 @@
+//! Runs calls that are given as lines of text.
+//!
+//! A line of standard input has the first six columns of
+//! `tests/vectors/calls.tsv`, and may have more; a line of standard output has
+//! the last five, and a sixth with the word `touched` if the call changed a
+//! cell that is not its result's. For a call that the library was built
+//! without the line is the word `skipped`.
+
+mod lent;
+
+use std::fmt::Write as _;
+use std::io::{self, BufRead, Write as _};
+use std::process::ExitCode;
+use std::thread;
+
+use ixml::limits::GRAMMAR_TABLE;
+use ixml::Answer;
+use lent::Lent;
+
+/// The stack that every call must do with.
+const STACK: usize = 1 << 20;
+
+/// The seed of the pattern that fills what is lent.
+const SEED: u32 = 0xA5A5_5A5A;
+
+fn main() -> ExitCode {
+    let run = thread::Builder::new().stack_size(STACK).spawn(run);
+    let outcome = match run.map(thread::JoinHandle::join) {
+        Ok(Ok(outcome)) => outcome,
+        Ok(Err(_)) => return ExitCode::FAILURE,
+        Err(error) => Err(format!("cannot start a thread: {error}")),
+    };
+    match outcome {
+        Ok(()) => ExitCode::SUCCESS,
+        Err(error) => {
+            eprintln!("calls: {error}");
+            ExitCode::from(2)
+        }
+    }
+}
+
+fn run() -> Result<(), String> {
+    let mut output = io::stdout().lock();
+    let mut skipped = 0;
+    for (number, line) in (1..).zip(io::stdin().lock().lines()) {
+        let at_line = |error: String| format!("line {number}: {error}");
+        let line = line.map_err(|error| at_line(error.to_string()))?;
+        let job = Job::parse(&line).map_err(at_line)?;
+        let outcome = if job.call.is_present() {
+            job.run()
+        } else {
+            skipped += 1;
+            "skipped".to_string()
+        };
+        writeln!(output, "{outcome}").map_err(|error| at_line(error.to_string()))?;
+    }
+    if skipped > 0 {
+        eprintln!("calls: skipped {skipped} lines whose call the library was built without");
+    }
+    Ok(())
+}
+
+#[derive(Clone, Copy)]
+enum Call {
+    Check,
+    Read,
+    Convert,
+}
+
+impl Call {
+    fn is_present(self) -> bool {
+        match self {
+            Call::Check => true,
+            Call::Read => ixml::HAS_READ,
+            Call::Convert => ixml::HAS_CONVERT,
+        }
+    }
+}
+
+/// A line of input.
+struct Job {
+    call: Call,
+    grammar: Vec<u8>,
+    record: Vec<u8>,
+    main_table: usize,
+    grammar_table: usize,
+    result: usize,
+}
+
+impl Job {
+    fn parse(line: &str) -> Result<Job, String> {
+        let mut fields = line.split('\t');
+        let mut field = |name: &str| fields.next().ok_or_else(|| format!("no {name}"));
+        let call = match field("call")? {
+            "check" => Call::Check,
+            "read" => Call::Read,
+            "convert" => Call::Convert,
+            other => return Err(format!("there is no call {other:?}")),
+        };
+        let grammar = bytes(field("grammar")?)?;
+        let record = bytes(field("record")?)?;
+        let main_table = number(field("main table length")?)?;
+        let surplus: isize = number(field("grammar table length")?)?;
+        let result = number(field("result length")?)?;
+        let grammar_table = GRAMMAR_TABLE
+            .checked_add_signed(surplus)
+            .ok_or_else(|| format!("a grammar table of {surplus} more than {GRAMMAR_TABLE}"))?;
+        Ok(Job {
+            call,
+            grammar,
+            record,
+            main_table,
+            grammar_table,
+            result,
+        })
+    }
+
+    /// The line of output.
+    fn run(&self) -> String {
+        let mut main_table = Lent::new(self.main_table, SEED);
+        let mut grammar_table = Lent::new(self.grammar_table, SEED);
+        let (answer, result, mut touched) = match self.call {
+            Call::Check => (ixml::check(&self.grammar), "-".to_string(), false),
+            Call::Read => {
+                let mut result = Lent::new(self.result, SEED);
+                let answer = ixml::read(
+                    &self.grammar,
+                    &self.record,
+                    main_table.lend(),
+                    grammar_table.lend(),
+                    result.lend(),
+                );
+                let filled = filled(answer, self.result);
+                let touched = result.touched_behind(filled);
+                (answer, decimal(&result.cells()[..filled]), touched)
+            }
+            Call::Convert => {
+                let mut result = Lent::new(self.result, SEED);
+                let answer = ixml::convert(
+                    &self.grammar,
+                    &self.record,
+                    main_table.lend(),
+                    grammar_table.lend(),
+                    result.lend(),
+                );
+                let filled = filled(answer, self.result);
+                let touched = result.touched_behind(filled);
+                (answer, hex(&result.cells()[..filled]), touched)
+            }
+        };
+        touched |= main_table.guards_touched() || grammar_table.guards_touched();
+        format!(
+            "{}\t{}\t{}\t{}\t{result}{}",
+            answer.number,
+            answer.length,
+            u8::from(answer.ambiguous),
+            u8::from(answer.version),
+            if touched { "\ttouched" } else { "" },
+        )
+    }
+}
+
+/// How many cells are the result.
+fn filled(answer: Answer, room: usize) -> usize {
+    match answer.number {
+        0 => answer.length.min(room),
+        _ => 0,
+    }
+}
+
+fn number<T: std::str::FromStr>(text: &str) -> Result<T, String> {
+    text.parse().map_err(|_| format!("{text:?} is no length"))
+}
+
+/// The bytes of a hex column.
+fn bytes(text: &str) -> Result<Vec<u8>, String> {
+    let digit = |&byte: &u8| char::from(byte).to_digit(16).map(|digit| digit as u8);
+    if text == "-" {
+        return Ok(Vec::new());
+    }
+    let pairs = text.as_bytes().chunks(2);
+    pairs
+        .map(|pair| match pair {
+            [high, low] => Some(digit(high)? << 4 | digit(low)?),
+            _ => None,
+        })
+        .collect::<Option<Vec<u8>>>()
+        .ok_or_else(|| format!("{text:?} is no hex column"))
+}
+
+fn hex(bytes: &[u8]) -> String {
+    if bytes.is_empty() {
+        return "-".to_string();
+    }
+    bytes.iter().fold(String::new(), |mut text, byte| {
+        let _ = write!(text, "{byte:02x}");
+        text
+    })
+}
+
+fn decimal(numbers: &[u32]) -> String {
+    if numbers.is_empty() {
+        return "-".to_string();
+    }
+    let numbers: Vec<String> = numbers.iter().map(u32::to_string).collect();
+    numbers.join(",")
+}

@@ -1,0 +1,130 @@
+//! The library's calls on slices.
+
+use crate::{ffi, Answer};
+
+/// Whether the library was built with [`read`].
+pub const HAS_READ: bool = cfg!(ixml_read);
+
+/// Whether the library was built with [`convert`].
+pub const HAS_CONVERT: bool = cfg!(ixml_convert);
+
+/// Checks a grammar: the numbers 0 to 11.
+///
+/// ```
+/// assert_eq!(ixml::check(b"a: 'x'*.").number, 0);
+/// assert_eq!(ixml::check(b"a: ['b'-'a'].").number, 9);
+/// ```
+pub fn check(grammar: &[u8]) -> Answer {
+    // SAFETY: the pointer and the length are those of a slice.
+    unsafe { ffi::ixml_check(grammar.as_ptr(), grammar.len()) }
+}
+
+/// Reads a record: the numbers 0 to 16, 29 and 23.
+///
+/// With 0 the first numbers of `result`, as many as the answer's length, are
+/// the chosen reading: the left parse of a derivation. All other cells of
+/// `result`, and with a refusal all of them, are as they were. A reading has
+/// at most [`READING_NUMBERS`](crate::limits::READING_NUMBERS).
+///
+/// The tables are scratch: what they hold before a call sways nothing. The
+/// lengths that they need are [`main_table`](crate::limits::main_table) and
+/// [`GRAMMAR_TABLE`](crate::limits::GRAMMAR_TABLE).
+#[cfg_attr(ixml_read, doc = "\n```")]
+#[cfg_attr(not(ixml_read), doc = "\n```ignore")]
+/// use ixml::limits::{main_table_for, GRAMMAR_TABLE, READING_NUMBERS};
+///
+/// let record = b"xx";
+/// let mut main_table = vec![0; main_table_for(record)];
+/// let mut grammar_table = vec![0; GRAMMAR_TABLE];
+/// let mut result = vec![0; READING_NUMBERS];
+/// let answer = ixml::read(
+///     b"a: 'x'*.",
+///     record,
+///     &mut main_table,
+///     &mut grammar_table,
+///     &mut result,
+/// );
+/// assert_eq!(answer.number, 0);
+/// assert_eq!(result[..answer.length], [0, 0, 0, 1]);
+/// ```
+///
+/// # Panics
+///
+/// If the library was built without the call; see [`HAS_READ`].
+pub fn read(
+    grammar: &[u8],
+    record: &[u8],
+    main_table: &mut [u32],
+    grammar_table: &mut [u32],
+    result: &mut [u32],
+) -> Answer {
+    // SAFETY: pointers and lengths are those of slices, of which the mutable
+    // ones overlap nothing.
+    unsafe {
+        ffi::ixml_read(
+            grammar.as_ptr(),
+            grammar.len(),
+            record.as_ptr(),
+            record.len(),
+            main_table.as_mut_ptr(),
+            main_table.len(),
+            grammar_table.as_mut_ptr(),
+            grammar_table.len(),
+            result.as_mut_ptr(),
+            result.len(),
+        )
+    }
+}
+
+/// Converts a record to XML: all numbers.
+///
+/// With 0 the first bytes of `result`, as many as the answer's length, are the
+/// XML of the chosen reading, in UTF-8. All other bytes of `result`, and with a
+/// refusal all of them, are as they were.
+///
+/// The tables are scratch, as for [`read`].
+#[cfg_attr(ixml_convert, doc = "\n```")]
+#[cfg_attr(not(ixml_convert), doc = "\n```ignore")]
+/// use ixml::limits::{main_table, GRAMMAR_TABLE};
+///
+/// // The grammar is of size 2, the record has one character.
+/// let mut main_table = vec![0; main_table(2, 1)];
+/// let mut grammar_table = vec![0; GRAMMAR_TABLE];
+/// let mut result = *b"..........";
+/// let answer = ixml::convert(
+///     b"a: 'x'.",
+///     b"x",
+///     &mut main_table,
+///     &mut grammar_table,
+///     &mut result,
+/// );
+/// assert_eq!((answer.number, answer.length), (0, 8));
+/// assert_eq!(&result, b"<a>x</a>..");
+/// ```
+///
+/// # Panics
+///
+/// If the library was built without the call; see [`HAS_CONVERT`].
+pub fn convert(
+    grammar: &[u8],
+    record: &[u8],
+    main_table: &mut [u32],
+    grammar_table: &mut [u32],
+    result: &mut [u8],
+) -> Answer {
+    // SAFETY: as in `read`.
+    unsafe {
+        ffi::ixml_convert(
+            grammar.as_ptr(),
+            grammar.len(),
+            record.as_ptr(),
+            record.len(),
+            main_table.as_mut_ptr(),
+            main_table.len(),
+            grammar_table.as_mut_ptr(),
+            grammar_table.len(),
+            result.as_mut_ptr(),
+            result.len(),
+        )
+    }
+}

@@ -1,0 +1,34 @@
+//! Invisible XML 1.0 for short records, by the proved library.
+//!
+//! A grammar and a record, both as bytes, give a reading and its XML. Every
+//! input has an answer; nothing is required of a caller.
+//!
+//! [`Reader`] is the short way: it provides all the memory that a job needs.
+#![cfg_attr(ixml_convert, doc = "```")]
+#![cfg_attr(not(ixml_convert), doc = "```ignore")]
+//! let grammar = "p: @lat, -' ', @lon. lat: d+. lon: d+. -d: ['0'-'9'].";
+//! let converted = ixml::Reader::new().convert(grammar, "45 12")?;
+//! assert_eq!(converted.xml, "<p lat='45' lon='12'/>");
+//! assert!(!converted.ambiguous);
+//! # Ok::<(), ixml::Error>(())
+//! ```
+//! [`check`], [`read`], [`convert`] and [`category`] are the library's calls
+//! themselves, for a caller who provides tables and buffers: see [`limits`]
+//! for their lengths. An [`Answer`] tells how a call went; [`Answer::ok`] turns
+//! it into a `Result` whose [`Error`] has a sentence for each refusal.
+//!
+//! A call allocates nothing and needs no more than 1 MB of stack.
+
+mod answer;
+mod calls;
+mod category;
+mod error;
+pub mod ffi;
+pub mod limits;
+mod reader;
+
+pub use answer::Answer;
+pub use calls::{check, convert, read, HAS_CONVERT, HAS_READ};
+pub use category::{category, Category};
+pub use error::Error;
+pub use reader::{Converted, Reader, Reading};

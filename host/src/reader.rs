@@ -1,0 +1,152 @@
+use crate::limits::{main_table_for, GRAMMAR_TABLE, READING_NUMBERS};
+use crate::{convert, read, Error};
+
+/// Reads and converts records in memory of its own, which it keeps from one
+/// job to the next.
+///
+/// A job at the limits takes a main table of 15 MB, short ones far less.
+#[derive(Clone, Debug, Default)]
+pub struct Reader {
+    main_table: Vec<u32>,
+    grammar_table: Vec<u32>,
+    numbers: Vec<u32>,
+    xml: Vec<u8>,
+}
+
+/// The chosen reading of a record.
+#[derive(Clone, Debug, PartialEq, Eq)]
+pub struct Reading {
+    /// The left parse: the alternative of each node, top first.
+    pub numbers: Vec<u32>,
+    /// The record has more than one derivation.
+    pub ambiguous: bool,
+    /// The grammar's prolog names another version than 1.0.
+    pub version_mismatch: bool,
+}
+
+/// A record as XML.
+#[derive(Clone, Debug, PartialEq, Eq)]
+pub struct Converted {
+    /// The XML, without a declaration or a final line end.
+    pub xml: String,
+    /// The record has more than one derivation. The XML says so too.
+    pub ambiguous: bool,
+    /// The grammar's prolog names another version than 1.0. The XML says so
+    /// too.
+    pub version_mismatch: bool,
+}
+
+impl Reader {
+    /// Bytes that the first attempt provides for the XML. Where they are too
+    /// few the job is repeated with more.
+    const XML_BYTES: usize = 1 << 16;
+
+    /// A reader with no memory yet.
+    pub fn new() -> Reader {
+        Reader::default()
+    }
+
+    /// Reads a record. The error is none of 15 and 17 to 23.
+    #[cfg_attr(ixml_read, doc = "\n```")]
+    #[cfg_attr(not(ixml_read), doc = "\n```ignore")]
+    /// use ixml::{Error, Reader};
+    ///
+    /// let mut reader = Reader::new();
+    /// let reading = reader.read("a: a; 'x'.", "x")?;
+    /// assert_eq!(reading.numbers, [1]);
+    /// assert!(reading.ambiguous);
+    ///
+    /// let refusal = reader.read("a: 'x'.", "y").unwrap_err();
+    /// assert!(matches!(refusal, Error::NoReading { .. }));
+    /// # Ok::<(), Error>(())
+    /// ```
+    ///
+    /// # Panics
+    ///
+    /// If the library was built without the call; see
+    /// [`HAS_READ`](crate::HAS_READ).
+    pub fn read(
+        &mut self,
+        grammar: impl AsRef<[u8]>,
+        record: impl AsRef<[u8]>,
+    ) -> Result<Reading, Error> {
+        let (grammar, record) = (grammar.as_ref(), record.as_ref());
+        self.provide_tables(record);
+        provide(&mut self.numbers, READING_NUMBERS);
+        let answer = read(
+            grammar,
+            record,
+            &mut self.main_table,
+            &mut self.grammar_table,
+            &mut self.numbers,
+        )
+        .ok()?;
+        Ok(Reading {
+            numbers: self.numbers[..answer.length].to_vec(),
+            ambiguous: answer.ambiguous,
+            version_mismatch: answer.version,
+        })
+    }
+
+    /// Converts a record to XML. The error is neither 15 nor 23.
+    #[cfg_attr(ixml_convert, doc = "\n```")]
+    #[cfg_attr(not(ixml_convert), doc = "\n```ignore")]
+    /// use ixml::{Error, Reader};
+    ///
+    /// let mut reader = Reader::new();
+    /// let grammar = "a: ~[]*.";
+    /// assert_eq!(reader.convert(grammar, "<&>")?.xml, "<a>&lt;&amp;&gt;</a>");
+    ///
+    /// let refusal = reader.convert("@a: 'x'.", "x").unwrap_err();
+    /// assert_eq!(refusal, Error::AttributeRoot);
+    /// # Ok::<(), Error>(())
+    /// ```
+    ///
+    /// # Panics
+    ///
+    /// If the library was built without the call; see
+    /// [`HAS_CONVERT`](crate::HAS_CONVERT).
+    pub fn convert(
+        &mut self,
+        grammar: impl AsRef<[u8]>,
+        record: impl AsRef<[u8]>,
+    ) -> Result<Converted, Error> {
+        let (grammar, record) = (grammar.as_ref(), record.as_ref());
+        self.provide_tables(record);
+        provide(&mut self.xml, Self::XML_BYTES);
+        let answer = loop {
+            let answer = convert(
+                grammar,
+                record,
+                &mut self.main_table,
+                &mut self.grammar_table,
+                &mut self.xml,
+            );
+            match answer.ok() {
+                Err(Error::ResultTooLong) => {
+                    let more = 8 * self.xml.len();
+                    provide(&mut self.xml, more);
+                }
+                settled => break settled?,
+            }
+        };
+        let xml = self.xml[..answer.length].to_vec();
+        Ok(Converted {
+            xml: String::from_utf8(xml).expect("the library writes UTF-8"),
+            ambiguous: answer.ambiguous,
+            version_mismatch: answer.version,
+        })
+    }
+
+    fn provide_tables(&mut self, record: &[u8]) {
+        provide(&mut self.main_table, main_table_for(record));
+        provide(&mut self.grammar_table, GRAMMAR_TABLE);
+    }
+}
+
+/// Makes a buffer at least so long. What it held is of no use.
+fn provide<T: Clone + Default>(buffer: &mut Vec<T>, length: usize) {
+    if buffer.len() < length {
+        *buffer = vec![T::default(); length];
+    }
+}

@@ -1,0 +1,142 @@
+//! The header and the example, by the C compiler.
+
+use std::path::{Path, PathBuf};
+use std::process::{Command, Output};
+
+use ixml::{limits, Answer, Error};
+
+const HOST: &str = env!("CARGO_MANIFEST_DIR");
+
+fn temporary(name: &str) -> PathBuf {
+    Path::new(env!("CARGO_TARGET_TMPDIR")).join(name)
+}
+
+fn run(command: &mut Command) -> Output {
+    command
+        .output()
+        .unwrap_or_else(|error| panic!("{command:?}: {error}"))
+}
+
+/// Compiles a program, to which no compiler may have an objection.
+fn compile(compiler: &[&str], source: &Path, program: &Path) {
+    let output = run(Command::new(compiler[0])
+        .args(&compiler[1..])
+        .args(["-Wall", "-Wextra", "-Wpedantic", "-Werror", "-I"])
+        .arg(Path::new(HOST).join("../include"))
+        .arg(source)
+        .args(["-x", "none", env!("IXML_ARCHIVE"), "-o"])
+        .arg(program));
+    let complaints = String::from_utf8_lossy(&output.stderr);
+    assert!(output.status.success(), "{complaints}");
+}
+
+/// The header's name of a refusal, from the wrapper's.
+fn name(number: u32) -> String {
+    let answer = Answer {
+        number,
+        ..Answer::default()
+    };
+    let debug = format!("{:?}", Error::from(answer));
+    let words = debug.split(' ').next().expect("a word");
+    let mut name = String::new();
+    for character in words.chars() {
+        if character.is_ascii_uppercase() && !name.is_empty() {
+            name.push('_');
+        }
+        name.push(character.to_ascii_uppercase());
+    }
+    name
+}
+
+/// A program that holds the header's numbers to the wrapper's as it is
+/// compiled, and makes the two calls that every library has.
+fn program(assert: &str) -> String {
+    let mut facts = vec![
+        format!("IXML_GRAMMAR_BYTES == {}", limits::GRAMMAR_BYTES),
+        format!("IXML_GRAMMAR_SIZE == {}", limits::GRAMMAR_SIZE),
+        format!("IXML_RECORD_CHARACTERS == {}", limits::RECORD_CHARACTERS),
+        format!("IXML_READING_NUMBERS == {}", limits::READING_NUMBERS),
+        format!("IXML_GRAMMAR_TABLE == {}", limits::GRAMMAR_TABLE),
+        format!("IXML_MAIN_TABLE == {}", limits::MAIN_TABLE),
+        format!("IXML_MAIN_TABLE_LENGTH(512, 120) == {}", limits::MAIN_TABLE),
+        "IXML_MAIN_TABLE_LENGTH(2, 1) == 6".to_string(),
+        format!("IXML_CATEGORY_NOT_KNOWN == {}", ixml::Category::ALL.len()),
+        format!("sizeof(ixml_answer) == {}", size_of::<Answer>()),
+        "IXML_ANSWERED == 0".to_string(),
+    ];
+    let fields = [
+        ("number", std::mem::offset_of!(Answer, number)),
+        ("length", std::mem::offset_of!(Answer, length)),
+        ("ambiguous", std::mem::offset_of!(Answer, ambiguous)),
+        ("version", std::mem::offset_of!(Answer, version)),
+    ];
+    facts.extend(fields.map(|(name, place)| format!("offsetof(ixml_answer, {name}) == {place}")));
+    for number in (1..=23).chain([29]) {
+        facts.push(format!("IXML_{} == {number}", name(number)));
+    }
+    let facts: String = facts
+        .iter()
+        .map(|fact| format!("{assert}({fact}, \"{fact}\");\n"))
+        .collect();
+    format!(
+        "#include <ixml.h>\n{facts}\
+         int main(void) {{\n\
+             const uint8_t grammar[4] = {{'a', ':', '.', '?'}};\n\
+             const ixml_answer right = ixml_check(grammar, 3);\n\
+             const ixml_answer wrong = ixml_check(grammar, 4);\n\
+             const bool known = ixml_category('A') == 0;\n\
+             const bool unknown = ixml_category(256) == IXML_CATEGORY_NOT_KNOWN;\n\
+             return right.number == IXML_ANSWERED && wrong.number == IXML_NOT_IXML\n\
+                 && right.length == 0 && !right.ambiguous && !right.version\n\
+                 && known && unknown ? 0 : 1;\n\
+         }}\n"
+    )
+}
+
+#[test]
+fn the_header_agrees_with_the_wrapper() {
+    let languages: [(&str, &[&str], &str); 2] = [
+        ("header.c", &["cc", "-std=c11"], "_Static_assert"),
+        ("header.cc", &["c++", "-std=c++11"], "static_assert"),
+    ];
+    for (file, compiler, assert) in languages {
+        let source = temporary(file);
+        std::fs::write(&source, program(assert)).expect("a file");
+        let compiled = temporary(&format!("{file}.out"));
+        compile(compiler, &source, &compiled);
+        assert!(run(&mut Command::new(compiled)).status.success(), "{file}");
+    }
+}
+
+#[test]
+#[cfg_attr(
+    not(ixml_convert),
+    ignore = "the library was built without ixml_convert"
+)]
+fn the_example_converts_records() {
+    let compiled = temporary("example");
+    let source = Path::new(HOST).join("example.c");
+    compile(&["cc", "-std=c99"], &source, &compiled);
+    let long = "x".repeat(200);
+    let cases: [(&[&str], &str, i32); 6] = [
+        (&[], "<p lat='45' lon='12'/>\n", 0),
+        (&["a: 'x'*.", "xx"], "<a>xx</a>\n", 0),
+        (
+            &["a: 'x'; 'x'.", "x"],
+            "<a xmlns:ixml='http://invisiblexml.org/NS' ixml:state='ambiguous'>x</a> (ambiguous)\n",
+            0,
+        ),
+        (
+            &["a: 'x'.", "y"],
+            "the grammar does not derive the record\n",
+            1,
+        ),
+        (&["a: b.", ""], "refused 5\n", 1),
+        (&["a: 'x'.", &long], "refused 14\n", 1),
+    ];
+    for (arguments, expected, status) in cases {
+        let output = run(Command::new(&compiled).args(arguments));
+        let text = String::from_utf8(output.stdout).expect("text");
+        assert_eq!((&*text, output.status.code()), (expected, Some(status)));
+    }
+}

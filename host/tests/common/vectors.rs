@@ -1,0 +1,49 @@
+//! The shared test vectors.
+
+use super::Job;
+
+/// A line of `tests/vectors/calls.tsv`.
+pub struct Vector {
+    /// From 1.
+    pub line: usize,
+    pub call: String,
+    pub job: Job,
+    /// What the tool that runs calls reads.
+    pub input: String,
+    /// What it must write.
+    pub output: String,
+}
+
+fn all() -> Vec<Vector> {
+    let path = concat!(env!("CARGO_MANIFEST_DIR"), "/../tests/vectors/calls.tsv");
+    let text = std::fs::read_to_string(path).expect(path);
+    let vector = |(line, text): (usize, &str)| {
+        let fields: Vec<&str> = text.split('\t').collect();
+        assert_eq!(fields.len(), 11, "line {line}");
+        Vector {
+            line,
+            call: fields[0].to_string(),
+            job: Job::new(bytes(fields[1]), bytes(fields[2])),
+            input: fields[..6].join("\t"),
+            output: fields[6..].join("\t"),
+        }
+    };
+    (1..).zip(text.lines()).map(vector).collect()
+}
+
+/// The vectors of a call.
+pub fn of(call: &str) -> Vec<Vector> {
+    let vectors = all().into_iter();
+    vectors.filter(|vector| vector.call == call).collect()
+}
+
+fn bytes(hex: &str) -> Vec<u8> {
+    if hex == "-" {
+        return Vec::new();
+    }
+    let digits = hex.as_bytes().chunks(2);
+    let pairs = digits.map(|pair| std::str::from_utf8(pair).expect("hex digits"));
+    pairs
+        .map(|pair| u8::from_str_radix(pair, 16).expect("hex digits"))
+        .collect()
+}

@@ -1,0 +1,118 @@
+//! What the crate adds to the library's calls.
+
+mod common;
+
+use common::jobs;
+use ixml::limits::{main_table, main_table_for, MAIN_TABLE};
+use ixml::{check, Answer, Error, Reader};
+
+#[test]
+fn every_refusal_has_its_number_and_a_sentence_of_its_own() {
+    let mut sentences = std::collections::BTreeSet::new();
+    for number in (1..=23).chain([29]) {
+        let answer = Answer {
+            number,
+            ..Answer::default()
+        };
+        let error = answer.ok().expect_err("a refusal");
+        assert_eq!(error.number(), number);
+        assert!(sentences.insert(error.sentence()));
+        assert_eq!(
+            error.to_string(),
+            format!("refused {number}: {}", error.sentence())
+        );
+    }
+    assert_eq!(sentences.len(), 24);
+    assert_eq!(Answer::default().ok(), Ok(Answer::default()));
+}
+
+#[test]
+fn no_reading_tells_of_another_version() {
+    for version in [false, true] {
+        let answer = Answer {
+            number: 16,
+            version,
+            ..Answer::default()
+        };
+        let version_mismatch = version;
+        assert_eq!(answer.ok(), Err(Error::NoReading { version_mismatch }));
+    }
+}
+
+#[test]
+fn table_lengths() {
+    assert_eq!(MAIN_TABLE, 3_779_072);
+    assert_eq!(main_table(6, 0), 6);
+    assert_eq!(main_table(2, 1), 6);
+    assert_eq!(main_table(usize::MAX, usize::MAX), MAIN_TABLE);
+    assert_eq!(main_table_for(b""), 512);
+    assert_eq!(main_table_for("é".repeat(120).as_bytes()), MAIN_TABLE);
+    assert_eq!(main_table_for(&[b'x'; 100_000]), MAIN_TABLE);
+    assert_eq!(main_table_for(&[0x80; 100_000]), 512);
+}
+
+#[test]
+fn checking_marks_another_version() {
+    assert_eq!(
+        check(b"ixml version \"1.0\". a: .").ok(),
+        Ok(Answer::default())
+    );
+    assert!(check(b"ixml version \"1.1\". a: .").version);
+}
+
+#[test]
+#[cfg_attr(not(ixml_read), ignore = "the library was built without ixml_read")]
+fn a_reader_reads_jobs_of_all_lengths() {
+    let mut reader = Reader::new();
+    for record in ["xx", "", &"x".repeat(120), "x"] {
+        let reading = reader.read("a: 'x'*.", record).expect("a reading");
+        assert_eq!(reading.numbers.len(), record.len() + 2);
+        assert!(!reading.ambiguous && !reading.version_mismatch);
+    }
+    let refusals = [
+        ("a: b.", "", Error::UndefinedName),
+        ("a: 'x'.", "\u{100}", Error::RecordCharacter),
+        ("a: 'x'.", &"x".repeat(121), Error::RecordTooLong),
+    ];
+    for (grammar, record, refusal) in refusals {
+        assert_eq!(reader.read(grammar, record), Err(refusal));
+    }
+    let no_reading = reader.read("ixml version '2'. a: 'x'.", "y");
+    let version_mismatch = true;
+    assert_eq!(no_reading, Err(Error::NoReading { version_mismatch }));
+    let reading = reader.read("a: 'x'; 'x'.", "x").expect("a reading");
+    assert!(reading.ambiguous);
+    let long = jobs::doublings("", 12);
+    assert_eq!(reader.read(long.grammar, ""), Err(Error::ReadingTooLong));
+}
+
+#[test]
+#[cfg_attr(
+    not(ixml_convert),
+    ignore = "the library was built without ixml_convert"
+)]
+fn a_reader_converts_jobs_of_all_lengths() {
+    let mut reader = Reader::new();
+    let converted = reader
+        .convert("ixml version '2'. a: 'x'; 'x'.", "x")
+        .expect("XML");
+    let state = "xmlns:ixml='http://invisiblexml.org/NS' ixml:state='ambiguous version-mismatch'";
+    assert_eq!(converted.xml, format!("<a {state}>x</a>"));
+    assert!(converted.ambiguous && converted.version_mismatch);
+    assert_eq!(reader.convert("-a: 'x'.", "x"), Err(Error::DeletedRoot));
+    // A name of 1,000 letters on 1,920 elements.
+    let name = "n".repeat(1000);
+    let uses = |count: usize, name: &str| vec![name; count].join(",");
+    let (a, b, c) = (uses(15, "b"), uses(16, "c"), uses(8, "d"));
+    let grammar = format!("a: {a} . b: {b} . c: {c} . -d: {name} . {name}: .");
+    let converted = reader.convert(&grammar, "").expect("XML");
+    assert!(converted.xml.len() > 1_920_000);
+    let mut expected = vec![0; 10_000_000];
+    let answer =
+        ixml_yardstick::convert(grammar.as_bytes(), b"", MAIN_TABLE, 16_384, &mut expected);
+    assert_eq!(converted.xml.as_bytes(), &expected[..answer.length]);
+    assert_eq!(
+        reader.convert("a: .", "").map(|converted| converted.xml),
+        Ok("<a/>".to_string())
+    );
+}

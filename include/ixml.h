@@ -1,0 +1,202 @@
+/*
+ * Invisible XML 1.0 for short records: check a grammar, read a record,
+ * convert a record to XML, and tell the category of a character.
+ *
+ * Link with libcalls.a, which `rt staticlib calls` writes to
+ * target/staticlib/. It is for x86-64 Linux and needs no other library.
+ *
+ *     cc -I include program.c target/staticlib/libcalls.a
+ *
+ * What is required of the caller: valid pointers, and nothing else. Each
+ * pointer is followed by its length, counted in cells (bytes for uint8_t,
+ * numbers for uint32_t), and
+ *   - points to at least that many cells, aligned for their type;
+ *   - is not NULL, not even where the length is 0;
+ *   - where the call may write (tables and result), overlaps nothing else
+ *     that is lent to the same call.
+ * Any grammar and any record, of any length and with any bytes, then gets an
+ * answer: no input makes a call fail, loop or touch other memory.
+ *
+ * The calls allocate nothing, keep nothing from one call to the next and may
+ * run on several threads at once. A stack of 1 MB is enough for each of them.
+ */
+#ifndef IXML_H
+#define IXML_H
+
+#include <stdbool.h>
+#include <stddef.h>
+#include <stdint.h>
+
+#ifdef __cplusplus
+extern "C" {
+#endif
+
+/* ---- Limits ---------------------------------------------------------- */
+
+/* Longest grammar, in bytes; a byte order mark counts. */
+#define IXML_GRAMMAR_BYTES 4096
+/* Greatest size of a grammar; see IXML_GRAMMAR_TOO_LARGE. */
+#define IXML_GRAMMAR_SIZE 512
+/* Longest record, in characters. */
+#define IXML_RECORD_CHARACTERS 120
+/* Most numbers of a reading: a result of ixml_read never needs more cells. */
+#define IXML_READING_NUMBERS 4096
+
+/* ---- Work tables ----------------------------------------------------- */
+
+/*
+ * Reading and converting are lent two tables of numbers as scratch. What they
+ * hold before a call sways nothing, and what they hold afterwards means
+ * nothing. A table that is longer than needed serves as well.
+ *
+ * Grammar table: the same length for every job.
+ */
+#define IXML_GRAMMAR_TABLE 16384
+
+/*
+ * Main table: what a grammar of `size` needs for a record of `characters`,
+ * namely size * (characters + 1) * (characters + 2) / 2 numbers. A caller
+ * that does not know the size lends what IXML_GRAMMAR_SIZE asks for.
+ */
+#define IXML_MAIN_TABLE_LENGTH(size, characters) \
+    ((size_t)(size) * ((size_t)(characters) + 1) * ((size_t)(characters) + 2) / 2)
+
+/* A main table of this length is enough for every job: 3,779,072 numbers. */
+#define IXML_MAIN_TABLE 3779072
+
+/* ---- Answers --------------------------------------------------------- */
+
+typedef struct {
+    /* 0 (IXML_ANSWERED), or the number of a refusal. */
+    uint32_t number;
+    /*
+     * How many cells of the result are filled: numbers of the reading, bytes
+     * of the XML. 0 unless the number is 0, and always 0 from ixml_check.
+     */
+    size_t length;
+    /*
+     * The record has more than one derivation. Set only with the number 0,
+     * and never by ixml_check.
+     */
+    bool ambiguous;
+    /*
+     * The grammar's prolog names another version than 1.0; it is read as 1.0
+     * all the same. Set only with the numbers 0 and 16.
+     */
+    bool version;
+} ixml_answer;
+
+/*
+ * The numbers of an answer, in the order in which they are judged: the first
+ * that applies is given. ixml_check gives 0 to 11; ixml_read 0 to 16, 29 and
+ * 23; ixml_convert any.
+ *
+ * On every refusal each cell of the result buffer is as it was.
+ */
+enum {
+    /* The call did what it was asked. */
+    IXML_ANSWERED = 0,
+
+    /* The grammar is over 4,096 bytes long. */
+    IXML_GRAMMAR_TOO_LONG = 1,
+    /* The grammar is not UTF-8. */
+    IXML_GRAMMAR_NOT_UTF8 = 2,
+    /* The grammar holds a character above U+00FF (one byte order mark at its
+       start is allowed). */
+    IXML_GRAMMAR_CHARACTER = 3,
+    /* The grammar is not in the ixml language, or nests round brackets or
+       comments over 16 deep. */
+    IXML_NOT_IXML = 4,
+    /* The grammar uses a name that has no rule. */
+    IXML_UNDEFINED_NAME = 5,
+    /* The grammar has two rules of one name. */
+    IXML_REPEATED_RULE = 6,
+    /* The grammar has a hex number above 10FFFF. */
+    IXML_HEX_TOO_LARGE = 7,
+    /* The grammar has a hex number of a surrogate or a noncharacter. */
+    IXML_HEX_NO_CHARACTER = 8,
+    /* The grammar has a range that runs backwards. */
+    IXML_BACKWARD_RANGE = 9,
+    /* The grammar names a character class that does not exist. */
+    IXML_UNKNOWN_CLASS = 10,
+    /* The grammar's size is over 512: the sum, over all alternatives of the
+       plain rules, of their symbols plus 1. */
+    IXML_GRAMMAR_TOO_LARGE = 11,
+
+    /* The record is not UTF-8. */
+    IXML_RECORD_NOT_UTF8 = 12,
+    /* The record holds a character above U+00FF. */
+    IXML_RECORD_CHARACTER = 13,
+    /* The record has over 120 characters. */
+    IXML_RECORD_TOO_LONG = 14,
+    /* The main table or the grammar table is too short. */
+    IXML_TABLE_TOO_SHORT = 15,
+    /* The grammar does not derive the record: there is no reading. */
+    IXML_NO_READING = 16,
+    /* The chosen reading has over 4,096 numbers. */
+    IXML_READING_TOO_LONG = 29,
+
+    /* The XML would have an attribute twice on one element. */
+    IXML_REPEATED_ATTRIBUTE = 17,
+    /* The XML would have a name that is no XML name. */
+    IXML_NOT_XML_NAME = 18,
+    /* The XML would have a character that is no XML character. */
+    IXML_NOT_XML_CHARACTER = 19,
+    /* The root rule is marked @, and a document is no attribute. */
+    IXML_ATTRIBUTE_ROOT = 20,
+    /* The root rule is marked -, and what is left of it is not one element
+       with nothing beside it. */
+    IXML_DELETED_ROOT = 21,
+    /* The XML would have an attribute named xmlns. */
+    IXML_ATTRIBUTE_XMLNS = 22,
+    /* The result is longer than the buffer that was lent for it. */
+    IXML_RESULT_TOO_LONG = 23
+};
+
+/* ---- Calls ----------------------------------------------------------- */
+
+/* Checks a grammar. */
+ixml_answer ixml_check(const uint8_t *grammar, size_t grammar_length);
+
+/*
+ * Reads a record. The result is the chosen reading: the left parse of a
+ * derivation, that is, the numbers of its alternatives (from 0), top node
+ * first, children left to right. With the number 0 the first `length` numbers
+ * of `result` are the reading and the rest is as it was.
+ */
+ixml_answer ixml_read(const uint8_t *grammar, size_t grammar_length,
+                      const uint8_t *record, size_t record_length,
+                      uint32_t *main_table, size_t main_table_length,
+                      uint32_t *grammar_table, size_t grammar_table_length,
+                      uint32_t *result, size_t result_length);
+
+/*
+ * Converts a record. The result is the XML of the chosen reading, in UTF-8,
+ * without a declaration, a final line end or a final NUL. With the number 0
+ * the first `length` bytes of `result` are the XML and the rest is as it was.
+ */
+ixml_answer ixml_convert(const uint8_t *grammar, size_t grammar_length,
+                         const uint8_t *record, size_t record_length,
+                         uint32_t *main_table, size_t main_table_length,
+                         uint32_t *grammar_table, size_t grammar_table_length,
+                         uint8_t *result, size_t result_length);
+
+/*
+ * Unicode's general category of a code point, as its place in this list:
+ *
+ *      0 Lu   1 Ll   2 Lt   3 Lm   4 Lo   5 Mn   6 Mc   7 Me   8 Nd   9 Nl
+ *     10 No  11 Pc  12 Pd  13 Ps  14 Pe  15 Pi  16 Pf  17 Po  18 Sm  19 Sc
+ *     20 Sk  21 So  22 Zs  23 Zl  24 Zp  25 Cc  26 Cf  27 Cs  28 Co  29 Cn
+ *
+ * Known are U+0000 to U+00FF. Every other number gives
+ * IXML_CATEGORY_NOT_KNOWN.
+ */
+#define IXML_CATEGORY_NOT_KNOWN 30
+
+uint32_t ixml_category(uint32_t code);
+
+#ifdef __cplusplus
+}
+#endif
+
+#endif
