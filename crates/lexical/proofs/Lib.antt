@@ -5,3 +5,4 @@ pub mod Table
 pub mod Copies
 pub mod Parts
 pub mod Words
+pub mod Uses

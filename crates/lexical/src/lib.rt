@@ -595,3 +595,44 @@ fn ended(text: &[u32], p: CharPlace) -> bool
     }
     name_start(c)
 }
+
+// Whether a name from p to q ends with the full stop of its rule.
+fn stops(text: &[u32], p: CharPlace, q: CharPlace) -> bool
+    requires { ⌜ (p .0 < q .0) × (q .0 ≤ length (now text)) ⌝ }
+    ensures { λ r. ⌜ Stops (now (text .entry)) (p .0) (q .0) r ⌝ }
+{
+    let i = p.0;
+    let n = q.0;
+    if n == i + 1 {
+        return false;
+    }
+    if text[n - 1] != 0x2e {
+        return false;
+    }
+    let Past::At(w) = skip(text, q) else {
+        return false;
+    };
+    ended(text, w)
+}
+
+// A name in a rule's body, as a token of a kind.
+pub fn used_name(text: &[u32], p: CharPlace, k: u32, out: &mut [u32], at: Cell) -> Step
+    requires { ⌜ Room (now text) (p .0) (now out) (at .0) ⌝ }
+    ensures { λ r. ⌜ After-name read-use k (now (text .entry)) (p .0) (now (out .entry)) (at .0) r (now (out .exit)) ⌝ }
+{
+    if !name_start(peek(text, p)) {
+        return Step::No;
+    }
+    let j = at.0;
+    let run = copy_run(text, p, out, Cell(j + 2));
+    let q = run.0;
+    let b = run.1;
+    let n = q.0;
+    let m = b.0;
+    if stops(text, p, q) {
+        head(out, at, k, Cell(m - 1));
+        return Step::At(CharPlace(n - 1), Cell(m - 1));
+    }
+    head(out, at, k, b);
+    Step::At(q, b)
+}
