@@ -1,0 +1,63 @@
+-- The value of a position, by cases.
+use mathlib.Core.Path.{_≡_, ap, _∙_}
+use mathlib.Core.List.{List}
+use Prim.Native.Nat.{ℕ, _+_, _<_, _≤_}
+use native.Mathlib.Decide.{decLt, ℕ-discrete}
+use native.Mathlib.Omega.{arith}
+use lib.ListN.{getD}
+use borrow.Author.Tests.{lt-ltb, le-ltb, eq-eqb, ne-eqb}
+use Rattle.code.specs.Code.{kindAt, ruleAt}
+use Rattle.code.specs.Heights.{cellAt, none}
+use Rattle.engine.specs.Table.{valueOf, upOf, splitOf}
+use Rattle.engine.specs.Sweep.{cellOf}
+
+pub data Value (c t : List ℕ) (n q i j v : ℕ) : Type 0 where
+  v-end : kindAt c q ≡ 0 → i ≡ j → v ≡ 0 → Value c t n q i j v
+  v-none : none ≤ v → Value c t n q i j v
+  v-cell : (kindAt c q ≡ 0 → ⊥) → v ≡ cellOf n t q i j → Value c t n q i j v
+
+module _ (c t : List ℕ) (n q i j : ℕ) where
+  pub value-cell : (kindAt c q ≡ 0 → ⊥) → valueOf c t n q i j ≡ cellOf n t q i j
+  value-cell h = simp (ne-eqb (kindAt c q) 0 h)
+
+  pub value-end : kindAt c q ≡ 0 → i ≡ j → valueOf c t n q i j ≡ 0
+  value-end h e = simp (eq-eqb (kindAt c q) 0 h, eq-eqb i j e)
+
+  pub value-gap : kindAt c q ≡ 0 → (i ≡ j → ⊥) → valueOf c t n q i j ≡ none
+  value-gap h e = simp (eq-eqb (kindAt c q) 0 h, ne-eqb i j e)
+
+  pub value-is : Value c t n q i j (valueOf c t n q i j)
+  value-is = elim (ℕ-discrete (kindAt c q) 0) as (λ _. Value c t n q i j (valueOf c t n q i j)) [
+    | no h ↦ v-cell h (value-cell h)
+    | yes h ↦ (elim (ℕ-discrete i j) as (λ _. Value c t n q i j (valueOf c t n q i j)) [
+      | yes e ↦ v-end h e (value-end h e)
+      | no e ↦ v-none (omega (arith, value-gap h e))
+    ])
+  ]
+
+pub up-is : (h : ℕ) → h < none → upOf h ≡ h + 1
+up-is h l = simp (lt-ltb h none l)
+
+pub up-none : (h : ℕ) → none ≤ h → upOf h ≡ none
+up-none h l = simp (le-ltb h none l)
+
+pub up-low : (h : ℕ) → upOf h < none → h < none
+up-low h l = elim (decLt h none) as (λ _. h < none) [ yes k ↦ k | no k ↦ absurd (omega (arith, up-none h (omega arith))) ]
+
+pub up-most : (h : ℕ) → upOf h ≤ none
+up-most h = elim (decLt h none) as (λ _. upOf h ≤ none) [ yes k ↦ omega (arith, up-is h k) | no k ↦ omega (arith, up-none h (omega arith)) ]
+
+-- what `split` computes
+module _ (c t : List ℕ) (n p i j m b : ℕ) (eb : b ≡ valueOf c t n (p + 1) m j) where
+  pub split-none : b ≡ none → none ≡ splitOf c t n p i j m
+  split-none e = omega (arith, up-most (cellOf n t (ruleAt c p) i m))
+
+  module _ (a x : ℕ) (ex : x ≡ cellAt n (ruleAt c p) i m) (ea : a ≡ upOf (getD t x 0)) where
+    is : a ≡ upOf (cellOf n t (ruleAt c p) i m)
+    is = ea ∙ ap (λ (z : ℕ). upOf (getD t z 0)) ex
+
+    pub split-rest : a < b → b ≡ splitOf c t n p i j m
+    split-rest l = omega (arith, is)
+
+    pub split-symbol : b ≤ a → a ≡ splitOf c t n p i j m
+    split-symbol l = omega (arith, is)
