@@ -1,0 +1,205 @@
+-- A stack machine that makes the items in one pass over the tokens: an operator stands behind its operands.
+use mathlib.Core.Bool.{Bool, true, false}
+use mathlib.Core.List.{List, [], _∷_, _++_}
+use mathlib.Core.Path.{_≡_}
+use Prim.Native.Nat.{ℕ, _+_, _*_, _<_, _≤_}
+use lib.Dec.{ltb, eqb}
+use lib.ListN.{length, getD, take, drop}
+use lib.Seq.{sets}
+use Rattle.text.specs.Lists.{pick}
+use Rattle.items.specs.declared.Duty.{Duty}
+use Rattle.items.specs.declared.Duty.the-variants.{Skip, Push, Open, Operator, Close, Finish}
+use Rattle.items.specs.declared.State.{State}
+
+-- what a token asks for, by its first number
+unfoldable pub lateDutyOf : ℕ → Duty
+lateDutyOf k = pick (eqb k 33) (Push 5) (pick (ltb k 39) (Operator k) (pick (eqb k 39) Finish Skip))
+
+unfoldable pub dutyOf : ℕ → Duty
+dutyOf k =
+    pick (ltb k 4) (Push 2)
+    (pick (ltb k 20) (Push 1)
+    (pick (ltb k 24) Open (pick (ltb k 29) Skip (pick (ltb k 31) (Push 1) (pick (eqb k 31) Open (pick (eqb k 32) Close (lateDutyOf k)))))))
+
+-- an item that has no place yet
+pub record Entry : Type 0 where
+  pub sort : ℕ
+  pub target : ℕ
+  pub token : ℕ
+
+abbrev pub entry : ℕ → ℕ → ℕ → Entry
+entry k t q = record { sort = k; target = t; token = q }
+
+abbrev pub nums : Entry → List ℕ
+nums e = e .sort ∷ e .target ∷ e .token ∷ []
+
+abbrev pub entryAt : List ℕ → ℕ → Entry
+entryAt T from = entry (getD T from 0) (getD T (from + 1) 0) (getD T (from + 2) 0)
+
+-- the made rules as blocks of items: f the entry of the operand, sep that of a separator, i the first item
+abbrev pub bothEnds : List ℕ
+bothEnds = 5 ∷ 0 ∷ 0 ∷ 6 ∷ 0 ∷ 0 ∷ []
+
+abbrev pub onceBlock : Entry → ℕ → List ℕ
+onceBlock f x = nums f ++ (4 ∷ x ∷ 0 ∷ 6 ∷ 0 ∷ 0 ∷ [])
+
+abbrev pub optionBlock : Entry → List ℕ
+optionBlock f = nums f ++ bothEnds
+
+abbrev pub starBlock : Entry → ℕ → List ℕ
+starBlock f i = nums f ++ (4 ∷ i ∷ 0 ∷ bothEnds)
+
+abbrev pub restBlock : Entry → Entry → ℕ → List ℕ
+restBlock f sep i = nums sep ++ starBlock f i
+
+abbrev pub listBlock : Entry → Entry → ℕ → List ℕ
+listBlock f sep i = restBlock f sep i ++ onceBlock f i
+
+-- by the operator's token: the block, its items, and where in it the operator's own rule begins
+unfoldable pub oneBlock : ℕ → Entry → ℕ → List ℕ
+oneBlock k f i = pick (eqb k 34) (optionBlock f) (pick (eqb k 35) (starBlock f i) (starBlock f i ++ onceBlock f i))
+
+unfoldable pub oneCount : ℕ → ℕ
+oneCount k = pick (eqb k 34) 3 (pick (eqb k 35) 4 7)
+
+unfoldable pub oneFirst : ℕ → ℕ
+oneFirst k = pick (eqb k 34) 0 (pick (eqb k 35) 0 4)
+
+unfoldable pub twoBlock : ℕ → Entry → Entry → ℕ → List ℕ
+twoBlock k f sep i = pick (eqb k 38) (listBlock f sep i) (listBlock f sep i ++ (4 ∷ (i + 5) ∷ 0 ∷ bothEnds))
+
+unfoldable pub twoCount : ℕ → ℕ
+twoCount k = pick (eqb k 38) 8 11
+
+unfoldable pub twoFirst : ℕ → ℕ
+twoFirst k = pick (eqb k 38) 5 8
+
+-- xs as items from i on
+abbrev pub laid : List ℕ → ℕ → List ℕ → List ℕ
+laid T i xs = sets T (12288 + 3 * i) xs
+
+pub record Room (T : List ℕ) (i k : ℕ) : Type 0 where
+  pub size : length T ≡ 16384
+  pub fits : i + k ≤ 512
+
+pub record Source (T : List ℕ) (i k from w : ℕ) : Type 0 where
+  pub room : Room T i k
+  pub low : 14848 ≤ from
+  pub high : from + w ≤ 16384
+
+-- the entries from j up to the depth fit as items from i on, with one more
+pub record Space (T : List ℕ) (i j depth : ℕ) : Type 0 where
+  pub count : ℕ
+  pub size : length T ≡ 16384
+  pub deep : depth ≡ j + count
+  pub high : depth ≤ 512
+  pub fits : i + (count + 1) ≤ 512
+
+pub record Copied (T : List ℕ) (i j depth r : ℕ) (T' : List ℕ) : Type 0 where
+  pub count : ℕ
+  pub deep : depth ≡ j + count
+  pub table : T' ≡ laid T i (take (3 * count) (drop (14848 + 3 * j) T) ++ nums (entry 6 0 0))
+  pub next : r ≡ i + (count + 1)
+
+-- a state of the machine: the tokens, the items so far, the rules' places, the stack; and the counts of the last three
+pub record Abs : Type 0 where
+  pub tokens : List ℕ
+  pub list : List ℕ
+  pub items : ℕ
+  pub rows : List ℕ
+  pub rules : ℕ
+  pub stack : List ℕ
+  pub depth : ℕ
+  pub base : ℕ
+
+abbrev pub pushed : Abs → Entry → ℕ → Abs
+pushed a e b = record { tokens = a .tokens; list = a .list; items = a .items; rows = a .rows; rules = a .rules; stack = a .stack ++ nums e; depth = a .depth + 1; base = b }
+
+-- an operator of one operand, and of two
+pub record One (k : ℕ) (a b : Abs) : Type 0 where
+  pub under : List ℕ
+  pub count : ℕ
+  pub f : Entry
+  pub stacked : a .stack ≡ under ++ nums f
+  pub deep : a .depth ≡ count + 1
+  pub long : length under ≡ 3 * count
+  pub result : b ≡ record { tokens = a .tokens; list = a .list ++ oneBlock k f (a .items); items = a .items + oneCount k; rows = a .rows; rules = a .rules; stack = under ++ nums (entry 4 (a .items + oneFirst k) 0); depth = count + 1; base = a .base }
+
+pub record Two (k : ℕ) (a b : Abs) : Type 0 where
+  pub under : List ℕ
+  pub count : ℕ
+  pub f : Entry
+  pub sep : Entry
+  pub stacked : a .stack ≡ under ++ (nums f ++ nums sep)
+  pub deep : a .depth ≡ count + 2
+  pub long : length under ≡ 3 * count
+  pub result : b ≡ record { tokens = a .tokens; list = a .list ++ twoBlock k f sep (a .items); items = a .items + twoCount k; rows = a .rows; rules = a .rules; stack = under ++ nums (entry 4 (a .items + twoFirst k) 0); depth = count + 1; base = a .base }
+
+-- what stands above a mark becomes a block of items
+pub record Block (a : Abs) : Type 0 where
+  pub under : List ℕ
+  pub old : ℕ
+  pub place : ℕ
+  pub body : List ℕ
+  pub count : ℕ
+  pub stacked : a .stack ≡ under ++ (nums (entry 0 old place) ++ body)
+  pub deep : a .depth ≡ a .base + (count + 1)
+  pub long : length under ≡ 3 * a .base
+  pub wide : length body ≡ 3 * count
+
+abbrev pub blockList : (a : Abs) → Block a → List ℕ
+blockList a w = a .list ++ (w .body ++ nums (entry 6 0 0))
+
+pub record Closed (a b : Abs) : Type 0 where
+  pub block : Block a
+  pub result : b ≡ record { tokens = a .tokens; list = blockList a block; items = a .items + (block .count + 1); rows = a .rows; rules = a .rules; stack = block .under ++ nums (entry 4 (a .items) 0); depth = a .base + 1; base = block .old }
+
+pub record Finished (a b : Abs) : Type 0 where
+  pub block : Block a
+  pub result : b ≡ record { tokens = a .tokens; list = blockList a block; items = a .items + (block .count + 1); rows = a .rows ++ (block .place ∷ a .items ∷ []); rules = a .rules + 1; stack = block .under; depth = a .base; base = block .old }
+
+-- the machine goes from a to b, by the duty of the token at a place
+abbrev pub Act : Duty → ℕ → Abs → Abs → Type 0
+Act Skip at a b = b ≡ a
+Act (Push k) at a b = b ≡ pushed a (entry k 0 at) (a .base)
+Act Open at a b = b ≡ pushed a (entry 0 (a .base) at) (a .depth)
+Act (Operator k) at a b = (k < 37 → One k a b) × (37 ≤ k → Two k a b)
+Act Close at a b = Closed a b
+Act Finish at a b = Finished a b
+
+pub record Fit (a : Abs) : Type 0 where
+  pub items : a .items ≤ 512
+  pub rules : a .rules ≤ 512
+  pub depth : a .depth ≤ 512
+  pub base : a .base ≤ 512
+
+-- the table has what a says, and the counts are those of a
+pub record Has (T : List ℕ) (a : Abs) : Type 0 where
+  pub size : length T ≡ 16384
+  pub fit : Fit a
+  pub tokens : take 12288 T ≡ a .tokens
+  pub list : take (3 * a .items) (drop 12288 T) ≡ a .list
+  pub rows : take (2 * a .rules) (drop 13824 T) ≡ a .rows
+  pub stack : take (3 * a .depth) (drop 14848 T) ≡ a .stack
+
+pub record Rep (T : List ℕ) (s : State) (a : Abs) : Type 0 where
+  pub has : Has T a
+  pub items : s .items ≡ a .items
+  pub rules : s .rules ≡ a .rules
+  pub depth : s .depth ≡ a .depth
+  pub base : s .base ≡ a .base
+
+pub record Ready (d : Duty) (at : ℕ) (T : List ℕ) (s : State) : Type 0 where
+  pub from : Abs
+  pub to : Abs
+  pub rep : Rep T s from
+  pub act : Act d at from to
+  pub fit : Fit to
+  pub place : at < 12288
+
+abbrev pub Acts : Duty → ℕ → List ℕ → State → List ℕ → State → Type 0
+Acts d at T s T' s' = (a b : Abs) → Rep T s a → Act d at a b → Fit b → Rep T' s' b
+
+-- the kind of a name's item, by the first numbers of the name and of its rule's head
+unfoldable pub kindBy : ℕ → ℕ → ℕ
+kindBy used head = pick (eqb used 3) 4 (pick (eqb used 2) 3 (pick (eqb used 1) 2 (pick (eqb head 23) 4 (pick (eqb head 22) 3 2))))
