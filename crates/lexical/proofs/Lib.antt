@@ -6,3 +6,4 @@ pub mod Copies
 pub mod Parts
 pub mod Words
 pub mod Uses
+pub mod Sets

@@ -549,6 +549,23 @@ fn class_token(out: &mut [u32], at: Cell, a: u32, b: u32)
     out[j + 2] = b;
 }
 
+// A class, at its capital.
+fn class(text: &[u32], p: CharPlace, out: &mut [u32], at: Cell) -> Step
+    requires { ⌜ Room (now text) (p .0) (now out) (at .0) × (Capital (hd (drop (p .0) (now text))) ≡ true) ⌝ }
+    ensures { λ r. ⌜ After-class (now (text .entry)) (p .0) (now (out .entry)) (at .0) r (now (out .exit)) ⌝ }
+{
+    let i = p.0;
+    let j = at.0;
+    let c = text[i];
+    let e = peek(text, CharPlace(i + 1));
+    if letter(e) {
+        class_token(out, at, c, e);
+        return Step::At(CharPlace(i + 2), Cell(j + 3));
+    }
+    class_token(out, at, c, 0);
+    Step::At(CharPlace(i + 1), Cell(j + 3))
+}
+
 // A mark and spacing, or nothing.
 pub fn mark(text: &[u32], p: CharPlace) -> Marked
     requires { ⌜ p .0 ≤ length (now text) ⌝ }

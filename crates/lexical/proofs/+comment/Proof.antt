@@ -27,7 +27,6 @@ comment-Inv-loop text d i₀ i = Inner text d i₀ i
 abbrev comment-μ-loop : comment-lts.MeasureT-loop
 comment-μ-loop text d i₀ i = length text - i
 
--- src/lib.rt:237:5
 comment-loop-holds :
     (t : ℕ) →
     comment-lts.Need-loop-holds
@@ -38,7 +37,6 @@ comment-loop-holds :
     comment-μ-loop
 comment-loop-holds t c = inner-start _ _ _ (c .before .pre .1)
 
--- src/lib.rt:238:17
 comment-mul-c :
     (t : ℕ) →
     comment-lts.Need-mul-c
@@ -49,14 +47,12 @@ comment-mul-c :
     comment-μ-loop
 comment-mul-c t c = omega arith
 
--- src/lib.rt:238:17
 comment-shared-slice-read-c : (t : ℕ) → comment-lts.Need-shared-slice-read-c (
   comment-below t,
   comment.Post,
 ) (comment-at t) comment.Post comment-Inv-loop comment-μ-loop
 comment-shared-slice-read-c t c = omega arith
 
--- src/lib.rt:240:39
 comment-add-t11 :
     (t : ℕ) →
     comment-lts.Need-add-t11
@@ -67,7 +63,6 @@ comment-add-t11 :
     comment-μ-loop
 comment-add-t11 t c = omega arith
 
--- src/lib.rt:240:13
 comment-returns :
     (t : ℕ) →
     comment-lts.Need-returns
@@ -78,7 +73,6 @@ comment-returns :
     comment-μ-loop
 comment-returns t c = inner-shut _ _ _ _ (c .before .before .before .loop .inv) (c .before .before .loop-test .taken) (c .if1 .taken)
 
--- src/lib.rt:244:17
 comment-returns-2 :
     (t : ℕ) →
     comment-lts.Need-returns-2
@@ -89,7 +83,6 @@ comment-returns-2 :
     comment-μ-loop
 comment-returns-2 t c = inner-deep _ _ _ _ (c .before .before .before .before .before .loop .inv) (c .before .before .before .before .loop-test .taken) (c .before .if2 .taken) (c .if3 .taken)
 
--- src/lib.rt:246:55
 comment-add-t15 :
     (t : ℕ) →
     comment-lts.Need-add-t15
@@ -100,7 +93,6 @@ comment-add-t15 :
     comment-μ-loop
 comment-add-t15 t c = omega arith
 
--- src/lib.rt:246:63
 comment-sub-comment :
     (t : ℕ) →
     comment-lts.Need-sub-comment
@@ -111,14 +103,12 @@ comment-sub-comment :
     comment-μ-loop
 comment-sub-comment t c = omega (arith, c .if3 .left)
 
--- src/lib.rt:246:31
 comment-comment-requires : (t : ℕ) → comment-lts.Need-comment-requires (
   comment-below t,
   comment.Post,
 ) (comment-at t) comment.Post comment-Inv-loop comment-μ-loop
 comment-comment-requires t c κs = (omega arith, omega arith)
 
--- src/lib.rt:246:26
 comment-enum-known-q :
     (t : ℕ) →
     comment-lts.Need-enum-known-q
@@ -129,7 +119,6 @@ comment-enum-known-q :
     comment-μ-loop
 comment-enum-known-q t c = search needs
 
--- src/lib.rt:247:17
 comment-enum-told :
     (t : ℕ) →
     comment-lts.Need-enum-told
@@ -140,7 +129,6 @@ comment-enum-told :
     comment-μ-loop
 comment-enum-told t c = search needs
 
--- src/lib.rt:247:17
 comment-returns-3 :
     (t : ℕ) →
     comment-lts.Need-returns-3
@@ -151,7 +139,6 @@ comment-returns-3 :
     comment-μ-loop
 comment-returns-3 t c = inner-bad _ _ _ _ (c .before .before .before .before .before .before .before .before .loop .inv) (c .before .before .before .before .before .before .before .loop-test .taken) (c .before .before .before .before .if2 .taken) (c .before .before .before .if3 .left) (rw (c .enum-told .given .1) at (c .before .before .comment .ensures))
 
--- src/lib.rt:237:5
 comment-loop-less :
     (t : ℕ) →
     comment-lts.Need-loop-less
@@ -162,7 +149,6 @@ comment-loop-less :
     comment-μ-loop
 comment-loop-less t c = inner-less _ _ _ _ (c .before .before .before .before .before .before .before .before .loop-test .taken) (rw (c .before .q .given .1) at (c .before .before .before .comment .ensures))
 
--- src/lib.rt:237:5
 comment-loop-again :
     (t : ℕ) →
     comment-lts.Need-loop-again
@@ -173,7 +159,6 @@ comment-loop-again :
     comment-μ-loop
 comment-loop-again t c = inner-on _ _ _ _ (c .before .before .before .before .before .before .before .before .before .loop .inv) (c .before .before .before .before .before .before .before .before .loop-test .taken) (c .before .before .before .before .before .if2 .taken) (c .before .before .before .before .if3 .left) _ (rw (c .before .q .given .1) at (c .before .before .before .comment .ensures))
 
--- src/lib.rt:251:13
 comment-add-i :
     (t : ℕ) →
     comment-lts.Need-add-i
@@ -184,7 +169,6 @@ comment-add-i :
     comment-μ-loop
 comment-add-i t c = omega arith
 
--- src/lib.rt:237:5
 comment-loop-less-2 :
     (t : ℕ) →
     comment-lts.Need-loop-less-2
@@ -195,7 +179,6 @@ comment-loop-less-2 :
     comment-μ-loop
 comment-loop-less-2 t c = omega arith
 
--- src/lib.rt:237:5
 comment-loop-again-2 :
     (t : ℕ) →
     comment-lts.Need-loop-again-2
@@ -206,7 +189,6 @@ comment-loop-again-2 :
     comment-μ-loop
 comment-loop-again-2 t c = inner-char _ _ _ _ (c .before .before .before .before .loop .inv) (c .before .before .before .loop-test .taken) (c .before .if1 .left) (c .if2 .left)
 
--- src/lib.rt:232:1
 comment-returns-4 :
     (t : ℕ) →
     comment-lts.Need-returns-4

@@ -4,15 +4,11 @@ use Rattle.syntax.specs.Syntax.{bar}
 use Rattle.lexical.proofs.Tests.{or-false}
 use Rattle.lexical.proofs.bar.Statement.{statement}
 use Rattle.lexical.proofs.bar.Tie as tie
-use Rattle.lexical.proofs.bar.Reads as reads
-use Rattle.lexical.proofs.bar.Lts as lts
 
--- src/lib.rt:158:9
 returns : tie.Need-returns
 unfolding bar
 returns c = rw (c .if1 .taken)
 
--- src/lib.rt:154:1
 returns-2 : tie.Need-returns-2
 unfolding bar
 returns-2 c = rw (ne-eqb _ _ (c .if1 .left)) (sym (or-false _))

@@ -1,14 +1,10 @@
 use borrow.Author.Tests.{lt-leb, le-leb}
 use Rattle.lexical.proofs.between.Statement.{statement}
 use Rattle.lexical.proofs.between.Tie as tie
-use Rattle.lexical.proofs.between.Reads as reads
-use Rattle.lexical.proofs.between.Lts as lts
 
--- src/lib.rt:75:9
 returns : tie.Need-returns
 returns c = rw (lt-leb _ _ (c .if1 .taken))
 
--- src/lib.rt:71:1
 returns-2 : tie.Need-returns-2
 returns-2 c = rw (le-leb _ _ (c .if1 .left))
 

@@ -3,46 +3,34 @@ use lib.ListN.{length-set}
 use borrow.Author.Needs.{needs}
 use Rattle.lexical.proofs.class_token.Statement.{statement}
 use Rattle.lexical.proofs.class_token.Tie as tie
-use Rattle.lexical.proofs.class_token.Reads as reads
-use Rattle.lexical.proofs.class_token.Lts as lts
 
--- src/lib.rt:576:5
 mul-out : tie.Need-mul-out
 mul-out c = search needs
 
--- src/lib.rt:576:5
 slice-write-out : tie.Need-slice-write-out
 slice-write-out c = search needs
 
--- src/lib.rt:577:9
 add-out : tie.Need-add-out
 add-out c = search needs
 
--- src/lib.rt:577:5
 mul-out-2 : tie.Need-mul-out-2
 mul-out-2 c = search needs
 
--- src/lib.rt:577:5
 slice-write-out-2 : tie.Need-slice-write-out-2
 slice-write-out-2 c = simp length-set (omega arith)
 
--- src/lib.rt:578:9
 add-out-2 : tie.Need-add-out-2
 add-out-2 c = search needs
 
--- src/lib.rt:578:5
 mul-out-3 : tie.Need-mul-out-3
 mul-out-3 c = search needs
 
--- src/lib.rt:578:5
 slice-write-out-3 : tie.Need-slice-write-out-3
 slice-write-out-3 c = simp length-set (omega arith)
 
--- src/lib.rt:571:1
 same-length : tie.Need-same-length
 same-length c = search needs
 
--- src/lib.rt:571:1
 returns : tie.Need-returns
 returns c = search needs
 

@@ -3,26 +3,19 @@ use borrow.Author.Tests.{ne-eqb}
 use Rattle.lexical.proofs.Tests.{or-false}
 use Rattle.lexical.proofs.connector.Statement.{statement}
 use Rattle.lexical.proofs.connector.Tie as tie
-use Rattle.lexical.proofs.connector.Reads as reads
-use Rattle.lexical.proofs.connector.Lts as lts
 
--- src/lib.rt:202:9
 returns : tie.Need-returns
 returns c = rw (c .if1 .taken)
 
--- src/lib.rt:205:9
 returns-2 : tie.Need-returns-2
 returns-2 c = rw (c .if2 .taken)
 
--- src/lib.rt:208:9
 returns-3 : tie.Need-returns-3
 returns-3 c = rw (c .if3 .taken)
 
--- src/lib.rt:211:9
 returns-4 : tie.Need-returns-4
 returns-4 c = rw (c .if4 .taken)
 
--- src/lib.rt:198:1
 returns-5 : tie.Need-returns-5
 returns-5 c = rw (ne-eqb _ _ (c .before .before .before .if1 .left), ne-eqb _ _ (c .before .before .if2 .left), ne-eqb _ _ (c .before .if3 .left), ne-eqb _ _ (c .if4 .left)) (sym (or-false _))
 

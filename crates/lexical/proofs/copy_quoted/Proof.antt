@@ -7,10 +7,6 @@ use borrow.Author.Tests.{not-true, not-false}
 use Rattle.lexical.proofs.Copies.{Copying, copy-start, copy-on, copy-no, copy-end, copy-room, quoted-by, chars-end, chars-plain, chars-no, chars-last, chars-quote, quote-small, second-in}
 use Rattle.lexical.proofs.copy_quoted.Statement.{statement}
 use Rattle.lexical.proofs.copy_quoted.Tie as tie
-use Rattle.lexical.proofs.copy_quoted.Reads as reads
-use Rattle.lexical.proofs.copy_quoted.Lts as lts
-use Rattle.lexical.proofs.peek.Reads as peek-reads
-use Rattle.lexical.proofs.plain.Reads as plain-reads
 
 abbrev Inv-loop : tie.InvT-loop
 Inv-loop text q out₀ i₀ j₀ out i j = Copying (quoted-by q) text i₀ out₀ j₀ out i j
@@ -18,103 +14,78 @@ Inv-loop text q out₀ i₀ j₀ out i j = Copying (quoted-by q) text i₀ out�
 abbrev μ-loop : tie.MeasureT-loop
 μ-loop text q out₀ i₀ j₀ out i j = length text - i
 
--- src/lib.rt:334:5
 loop-holds : tie.Need-loop-holds Inv-loop μ-loop
 loop-holds c = copy-start (quoted-by (c .before .before .args .q)) _ _ _ _ (c .before .before .pre .0 .place)
 
--- src/lib.rt:335:17
 mul-c : tie.Need-mul-c Inv-loop μ-loop
 mul-c c = omega arith
 
--- src/lib.rt:335:17
 shared-slice-read-c : tie.Need-shared-slice-read-c Inv-loop μ-loop
 shared-slice-read-c c = omega arith
 
--- src/lib.rt:337:37
 add-out : tie.Need-add-out Inv-loop μ-loop
 add-out c = omega arith
 
--- src/lib.rt:337:16
 peek-requires : tie.Need-peek-requires Inv-loop μ-loop
 peek-requires c κs = search needs
 
--- src/lib.rt:338:43
 add-t17 : tie.Need-add-t17 Inv-loop μ-loop
 add-t17 c = omega arith
 
--- src/lib.rt:338:17
 same-length : tie.Need-same-length Inv-loop μ-loop
 same-length c = c .before .before .before .before .before .loop .inv .len
 
--- src/lib.rt:338:17
 returns : tie.Need-returns Inv-loop μ-loop
 returns c = copy-end (quoted-by (c .before .before .before .before .before .before .before .before .args .q)) _ _ _ _ _ _ _ (c .before .before .before .before .before .loop .inv) 1 _ (omega arith) (omega arith) (chars-last _ _ _ (c .before .before .before .before .loop-test .taken) (c .before .before .if1 .taken) (λ e. (c .if2 .taken) ((c .before .peek .ensures) ∙ e)))
 
--- src/lib.rt:340:13
 mul-out : tie.Need-mul-out Inv-loop μ-loop
 mul-out c = omega (arith, copy-room (quoted-by (c .before .before .before .before .before .before .before .before .args .q)) _ _ _ _ _ _ _ (c .before .before .before .before .before .loop .inv) (c .before .before .before .before .before .before .before .before .pre .0) (c .before .before .before .before .loop-test .taken), (c .before .before .before .before .before .loop .inv .len), (c .before .before .before .before .before .before .before .before .good .1 .1 .1 .0))
 
--- src/lib.rt:340:13
 slice-write-out : tie.Need-slice-write-out Inv-loop μ-loop
 slice-write-out c = copy-room (quoted-by (c .before .before .before .before .before .before .before .before .args .q)) _ _ _ _ _ _ _ (c .before .before .before .before .before .loop .inv) (c .before .before .before .before .before .before .before .before .pre .0) (c .before .before .before .before .loop-test .taken)
 
--- src/lib.rt:341:13
 add-i : tie.Need-add-i Inv-loop μ-loop
 add-i c = omega arith
 
--- src/lib.rt:342:13
 add-j : tie.Need-add-j Inv-loop μ-loop
 add-j c = omega (arith, copy-room (quoted-by (c .before .before .before .before .before .before .before .before .args .q)) _ _ _ _ _ _ _ (c .before .before .before .before .before .loop .inv) (c .before .before .before .before .before .before .before .before .pre .0) (c .before .before .before .before .loop-test .taken), (c .before .before .before .before .before .loop .inv .len), (c .before .before .before .before .before .before .before .before .good .1 .1 .1 .0))
 
--- src/lib.rt:334:5
 loop-less : tie.Need-loop-less Inv-loop μ-loop
 loop-less c = omega arith
 
--- src/lib.rt:334:5
 loop-again : tie.Need-loop-again Inv-loop μ-loop
 loop-again c = copy-on (quoted-by (c .before .before .before .before .before .before .before .before .args .q)) _ _ _ _ _ _ _ (c .before .before .before .before .before .loop .inv) (c .before .before .before .before .before .before .before .before .args .q) _ (second-in _ _ _ (sym (c .before .peek .ensures) ∙ (c .if2 .left)) (quote-small _ (c .before .before .before .before .before .before .before .before .pre .1))) (omega arith) (copy-room (quoted-by (c .before .before .before .before .before .before .before .before .args .q)) _ _ _ _ _ _ _ (c .before .before .before .before .before .loop .inv) (c .before .before .before .before .before .before .before .before .pre .0) (c .before .before .before .before .loop-test .taken)) (chars-quote _ _ _ (c .before .before .before .before .loop-test .taken) (c .before .before .if1 .taken) (sym (c .before .peek .ensures) ∙ (c .if2 .left)) (quote-small _ (c .before .before .before .before .before .before .before .before .pre .1)))
 
--- src/lib.rt:344:17
 plain-requires : tie.Need-plain-requires Inv-loop μ-loop
 plain-requires c κs = search needs
 
--- src/lib.rt:345:17
 same-length-2 : tie.Need-same-length-2 Inv-loop μ-loop
 same-length-2 c = c .before .before .before .before .before .loop .inv .len
 
--- src/lib.rt:345:17
 returns-2 : tie.Need-returns-2 Inv-loop μ-loop
 returns-2 c = copy-no (quoted-by (c .before .before .before .before .before .before .before .before .args .q)) _ _ _ _ _ _ _ (c .before .before .before .before .before .loop .inv) (chars-no _ _ _ (c .before .before .before .before .loop-test .taken) (c .before .before .if1 .left) (sym (c .before .plain .ensures) ∙ not-true _ (c .if3 .taken)))
 
--- src/lib.rt:347:13
 mul-out-2 : tie.Need-mul-out-2 Inv-loop μ-loop
 mul-out-2 c = omega (arith, copy-room (quoted-by (c .before .before .before .before .before .before .before .before .args .q)) _ _ _ _ _ _ _ (c .before .before .before .before .before .loop .inv) (c .before .before .before .before .before .before .before .before .pre .0) (c .before .before .before .before .loop-test .taken), (c .before .before .before .before .before .loop .inv .len), (c .before .before .before .before .before .before .before .before .good .1 .1 .1 .0))
 
--- src/lib.rt:347:13
 slice-write-out-2 : tie.Need-slice-write-out-2 Inv-loop μ-loop
 slice-write-out-2 c = copy-room (quoted-by (c .before .before .before .before .before .before .before .before .args .q)) _ _ _ _ _ _ _ (c .before .before .before .before .before .loop .inv) (c .before .before .before .before .before .before .before .before .pre .0) (c .before .before .before .before .loop-test .taken)
 
--- src/lib.rt:348:13
 add-i-2 : tie.Need-add-i-2 Inv-loop μ-loop
 add-i-2 c = omega arith
 
--- src/lib.rt:349:13
 add-j-2 : tie.Need-add-j-2 Inv-loop μ-loop
 add-j-2 c = omega (arith, copy-room (quoted-by (c .before .before .before .before .before .before .before .before .args .q)) _ _ _ _ _ _ _ (c .before .before .before .before .before .loop .inv) (c .before .before .before .before .before .before .before .before .pre .0) (c .before .before .before .before .loop-test .taken), (c .before .before .before .before .before .loop .inv .len), (c .before .before .before .before .before .before .before .before .good .1 .1 .1 .0))
 
--- src/lib.rt:334:5
 loop-less-2 : tie.Need-loop-less-2 Inv-loop μ-loop
 loop-less-2 c = omega arith
 
--- src/lib.rt:334:5
 loop-again-2 : tie.Need-loop-again-2 Inv-loop μ-loop
 loop-again-2 c = copy-on (quoted-by (c .before .before .before .before .before .before .before .before .args .q)) _ _ _ _ _ _ _ (c .before .before .before .before .before .loop .inv) _ _ (omega arith) (omega arith) (copy-room (quoted-by (c .before .before .before .before .before .before .before .before .args .q)) _ _ _ _ _ _ _ (c .before .before .before .before .before .loop .inv) (c .before .before .before .before .before .before .before .before .pre .0) (c .before .before .before .before .loop-test .taken)) (chars-plain _ _ _ (c .before .before .before .before .loop-test .taken) (c .before .before .if1 .left) (sym (c .before .plain .ensures) ∙ not-false _ (c .if3 .left)))
 
--- src/lib.rt:328:1
 same-length-3 : tie.Need-same-length-3 Inv-loop μ-loop
 same-length-3 c = c .before .loop .inv .len
 
--- src/lib.rt:328:1
 returns-3 : tie.Need-returns-3 Inv-loop μ-loop
 returns-3 c = copy-no (quoted-by (c .before .before .before .before .args .q)) _ _ _ _ _ _ _ (c .before .loop .inv) (chars-end _ _ _ (c .loop-test .left))
 

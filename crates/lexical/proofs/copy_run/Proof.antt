@@ -8,9 +8,6 @@ use Rattle.syntax.specs.Lexical.{run}
 use Rattle.lexical.proofs.Copies.{Copying, copy-start, copy-on, copy-end, copy-room, run-char, run-stop, run-end}
 use Rattle.lexical.proofs.copy_run.Statement.{statement}
 use Rattle.lexical.proofs.copy_run.Tie as tie
-use Rattle.lexical.proofs.copy_run.Reads as reads
-use Rattle.lexical.proofs.copy_run.Lts as lts
-use Rattle.lexical.proofs.name_follower.Reads as name-follower-reads
 
 abbrev Inv-loop : tie.InvT-loop
 Inv-loop text out₀ i₀ j₀ out i j = Copying run text i₀ out₀ j₀ out i j
@@ -18,59 +15,45 @@ Inv-loop text out₀ i₀ j₀ out i j = Copying run text i₀ out₀ j₀ out i
 abbrev μ-loop : tie.MeasureT-loop
 μ-loop text out₀ i₀ j₀ out i j = length text - i
 
--- src/lib.rt:315:5
 loop-holds : tie.Need-loop-holds Inv-loop μ-loop
 loop-holds c = copy-start run _ _ _ _ (c .before .before .pre .place)
 
--- src/lib.rt:316:17
 mul-c : tie.Need-mul-c Inv-loop μ-loop
 mul-c c = omega arith
 
--- src/lib.rt:316:17
 shared-slice-read-c : tie.Need-shared-slice-read-c Inv-loop μ-loop
 shared-slice-read-c c = omega arith
 
--- src/lib.rt:317:13
 name-follower-requires : tie.Need-name-follower-requires Inv-loop μ-loop
 name-follower-requires c κs = search needs
 
--- src/lib.rt:318:13
 same-length : tie.Need-same-length Inv-loop μ-loop
 same-length c = c .before .before .before .before .loop .inv .len
 
--- src/lib.rt:318:13
 returns : tie.Need-returns Inv-loop μ-loop
 returns c = copy-end run _ _ _ _ _ _ _ (c .before .before .before .before .loop .inv) 0 _ (omega arith) (omega arith) (run-stop _ _ (c .before .before .before .loop-test .taken) (sym (c .before .name-follower .ensures) ∙ not-true _ (c .if1 .taken)))
 
--- src/lib.rt:320:9
 mul-out : tie.Need-mul-out Inv-loop μ-loop
 mul-out c = omega (arith, copy-room run _ _ _ _ _ _ _ (c .before .before .before .before .loop .inv) (c .before .before .before .before .before .before .before .pre) (c .before .before .before .loop-test .taken), (c .before .before .before .before .loop .inv .len), (c .before .before .before .before .before .before .before .good .1 .1 .0))
 
--- src/lib.rt:320:9
 slice-write-out : tie.Need-slice-write-out Inv-loop μ-loop
 slice-write-out c = copy-room run _ _ _ _ _ _ _ (c .before .before .before .before .loop .inv) (c .before .before .before .before .before .before .before .pre) (c .before .before .before .loop-test .taken)
 
--- src/lib.rt:321:9
 add-i : tie.Need-add-i Inv-loop μ-loop
 add-i c = omega arith
 
--- src/lib.rt:322:9
 add-j : tie.Need-add-j Inv-loop μ-loop
 add-j c = omega (arith, copy-room run _ _ _ _ _ _ _ (c .before .before .before .before .loop .inv) (c .before .before .before .before .before .before .before .pre) (c .before .before .before .loop-test .taken), (c .before .before .before .before .loop .inv .len), (c .before .before .before .before .before .before .before .good .1 .1 .0))
 
--- src/lib.rt:315:5
 loop-less : tie.Need-loop-less Inv-loop μ-loop
 loop-less c = omega arith
 
--- src/lib.rt:315:5
 loop-again : tie.Need-loop-again Inv-loop μ-loop
 loop-again c = copy-on run _ _ _ _ _ _ _ (c .before .before .before .before .loop .inv) _ _ (omega arith) (omega arith) (copy-room run _ _ _ _ _ _ _ (c .before .before .before .before .loop .inv) (c .before .before .before .before .before .before .before .pre) (c .before .before .before .loop-test .taken)) (run-char _ _ (c .before .before .before .loop-test .taken) (sym (c .before .name-follower .ensures) ∙ not-false _ (c .if1 .left)))
 
--- src/lib.rt:309:1
 same-length-2 : tie.Need-same-length-2 Inv-loop μ-loop
 same-length-2 c = c .before .loop .inv .len
 
--- src/lib.rt:309:1
 returns-2 : tie.Need-returns-2 Inv-loop μ-loop
 returns-2 c = copy-end run _ _ _ _ _ _ _ (c .before .loop .inv) 0 _ (omega arith) (omega arith) (run-end _ _ (c .loop-test .left))
 

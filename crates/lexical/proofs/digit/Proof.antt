@@ -3,33 +3,24 @@ use Rattle.syntax.specs.Syntax.{digit}
 use borrow.Author.Needs.{needs}
 use Rattle.lexical.proofs.digit.Statement.{statement}
 use Rattle.lexical.proofs.digit.Tie as tie
-use Rattle.lexical.proofs.digit.Reads as reads
-use Rattle.lexical.proofs.digit.Lts as lts
-use Rattle.lexical.proofs.between.Reads as between-reads
 
--- src/lib.rt:117:8
 between-requires : tie.Need-between-requires
 between-requires c κs = search needs
 
--- src/lib.rt:118:9
 returns : tie.Need-returns
 unfolding digit
 returns c = rw (sym (c .before .between .ensures) ∙ c .if1 .taken)
 
--- src/lib.rt:120:8
 between-requires-2 : tie.Need-between-requires-2
 between-requires-2 c κs = search needs
 
--- src/lib.rt:121:9
 returns-2 : tie.Need-returns-2
 unfolding digit
 returns-2 c = rw (sym (c .before .before .before .between .ensures) ∙ c .before .before .if1 .left, sym (c .before .between2 .ensures) ∙ c .if2 .taken)
 
--- src/lib.rt:123:5
 between-requires-3 : tie.Need-between-requires-3
 between-requires-3 c κs = search needs
 
--- src/lib.rt:114:1
 returns-3 : tie.Need-returns-3
 unfolding digit
 returns-3 c = rw (sym (c .before .before .before .before .between .ensures) ∙ c .before .before .before .if1 .left, sym (c .before .before .between2 .ensures) ∙ c .before .if2 .left) (c .between3 .ensures)

@@ -3,30 +3,22 @@ use Rattle.lexical.proofs.Tests.{digit-at, value-low, value-capital, va
 use borrow.Author.Needs.{needs}
 use Rattle.lexical.proofs.digit_value.Statement.{statement}
 use Rattle.lexical.proofs.digit_value.Tie as tie
-use Rattle.lexical.proofs.digit_value.Reads as reads
-use Rattle.lexical.proofs.digit_value.Lts as lts
 
--- src/lib.rt:131:16
 sub-result : tie.Need-sub-result
 sub-result c = let d = digit-at _ (c .before .pre) in omega arith
 
--- src/lib.rt:131:9
 returns : tie.Need-returns
 returns c = value-low _ (c .before .pre) (c .if1 .taken)
 
--- src/lib.rt:134:16
 sub-result-2 : tie.Need-sub-result-2
 sub-result-2 c = search needs
 
--- src/lib.rt:134:9
 returns-2 : tie.Need-returns-2
 returns-2 c = value-capital _ (c .before .before .pre) (c .before .if1 .left) (c .if2 .taken)
 
--- src/lib.rt:136:5
 sub-result-3 : tie.Need-sub-result-3
 sub-result-3 c = let d = digit-at _ (c .before .before .pre) in let l = d .smalls (c .if2 .left) in omega arith
 
--- src/lib.rt:126:1
 returns-3 : tie.Need-returns-3
 returns-3 c = value-small _ (c .before .before .pre) (c .if2 .left)
 

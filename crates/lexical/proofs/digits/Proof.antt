@@ -7,10 +7,6 @@ use borrow.Author.Tests.{not-true, not-false}
 use Rattle.lexical.proofs.Copies.{Counting, counting-start, counting-small, counting-end, counting-stop, counting-on}
 use Rattle.lexical.proofs.digits.Statement.{statement}
 use Rattle.lexical.proofs.digits.Tie as tie
-use Rattle.lexical.proofs.digits.Reads as reads
-use Rattle.lexical.proofs.digits.Lts as lts
-use Rattle.lexical.proofs.digit.Reads as digit-reads
-use Rattle.lexical.proofs.next_value.Reads as next-value-reads
 
 abbrev Inv-loop : tie.InvT-loop
 Inv-loop text i₀ v₀ i v = Counting text i₀ i v
@@ -18,43 +14,33 @@ Inv-loop text i₀ v₀ i v = Counting text i₀ i v
 abbrev μ-loop : tie.MeasureT-loop
 μ-loop text i₀ v₀ i v = length text - i
 
--- src/lib.rt:395:5
 loop-holds : tie.Need-loop-holds Inv-loop μ-loop
 loop-holds c = counting-start _ _ (c .before .pre)
 
--- src/lib.rt:396:17
 mul-c : tie.Need-mul-c Inv-loop μ-loop
 mul-c c = omega arith
 
--- src/lib.rt:396:17
 shared-slice-read-c : tie.Need-shared-slice-read-c Inv-loop μ-loop
 shared-slice-read-c c = omega arith
 
--- src/lib.rt:397:13
 digit-requires : tie.Need-digit-requires Inv-loop μ-loop
 digit-requires c κs = search needs
 
--- src/lib.rt:398:13
 returns : tie.Need-returns Inv-loop μ-loop
 returns c = counting-stop _ _ _ _ (c .before .before .before .before .loop .inv) (c .before .before .before .loop-test .taken) (sym (c .before .digit .ensures) ∙ not-true _ (c .if1 .taken))
 
--- src/lib.rt:400:9
 next-value-requires : tie.Need-next-value-requires Inv-loop μ-loop
 next-value-requires c κs = (counting-small _ _ _ _ (c .before .before .before .before .loop .inv), sym (c .before .digit .ensures) ∙ not-false _ (c .if1 .left))
 
--- src/lib.rt:401:9
 add-i : tie.Need-add-i Inv-loop μ-loop
 add-i c = omega arith
 
--- src/lib.rt:395:5
 loop-less : tie.Need-loop-less Inv-loop μ-loop
 loop-less c = omega arith
 
--- src/lib.rt:395:5
 loop-again : tie.Need-loop-again Inv-loop μ-loop
 loop-again c = counting-on _ _ _ _ (c .before .before .before .before .before .loop .inv) (c .before .before .before .before .loop-test .taken) (sym (c .before .before .digit .ensures) ∙ not-false _ (c .before .if1 .left)) _ (c .next-value .ensures)
 
--- src/lib.rt:389:1
 returns-2 : tie.Need-returns-2 Inv-loop μ-loop
 returns-2 c = counting-end _ _ _ _ (c .before .loop .inv) (c .loop-test .left)
 

@@ -4,38 +4,27 @@ use Rattle.lexical.proofs.Places.{at-char, at-end}
 use borrow.Author.Needs.{needs}
 use Rattle.lexical.proofs.ended.Statement.{statement}
 use Rattle.lexical.proofs.ended.Tie as tie
-use Rattle.lexical.proofs.ended.Reads as reads
-use Rattle.lexical.proofs.ended.Lts as lts
-use Rattle.lexical.proofs.is_mark.Reads as is-mark-reads
-use Rattle.lexical.proofs.name_start.Reads as name-start-reads
 
--- src/lib.rt:702:9
 returns : tie.Need-returns
 unfolding ended
 returns c = rw (at-end _ _ (c .if1 .taken))
 
--- src/lib.rt:704:13
 mul-c : tie.Need-mul-c
 mul-c c = search needs
 
--- src/lib.rt:704:13
 shared-slice-read-c : tie.Need-shared-slice-read-c
 shared-slice-read-c c = search needs
 
--- src/lib.rt:705:8
 is-mark-requires : tie.Need-is-mark-requires
 is-mark-requires c κs = search needs
 
--- src/lib.rt:706:9
 returns-2 : tie.Need-returns-2
 unfolding ended
 returns-2 c = rw (at-char _ _ (c .before .before .before .if1 .left), sym (c .before .is-mark .ensures) ∙ c .if2 .taken)
 
--- src/lib.rt:708:5
 name-start-requires : tie.Need-name-start-requires
 name-start-requires c κs = search needs
 
--- src/lib.rt:697:1
 returns-3 : tie.Need-returns-3
 unfolding ended
 returns-3 c = rw (at-char _ _ (c .before .before .before .before .if1 .left), sym (c .before .before .is-mark .ensures) ∙ c .before .if2 .left) (c .name-start .ensures)

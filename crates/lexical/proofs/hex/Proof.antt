@@ -8,37 +8,25 @@ use Rattle.lexical.proofs.Words.{hex-none, hex-some}
 use borrow.Author.Needs.{needs}
 use Rattle.lexical.proofs.hex.Statement.{statement}
 use Rattle.lexical.proofs.hex.Tie as tie
-use Rattle.lexical.proofs.hex.Reads as reads
-use Rattle.lexical.proofs.hex.Lts as lts
-use Rattle.lexical.proofs.digit.Reads as digit-reads
-use Rattle.lexical.proofs.digits.Reads as digits-reads
-use Rattle.lexical.proofs.peek.Reads as peek-reads
 
--- src/lib.rt:412:36
 add-t6 : tie.Need-add-t6
 add-t6 c = let h = in-text (c .before .args .text .now) (c .before .args .p .0) (ch 0x23) (ch-end 0x23 refl) (c .before .pre) in omega arith
 
--- src/lib.rt:412:15
 peek-requires : tie.Need-peek-requires
 peek-requires c κs = search needs
 
--- src/lib.rt:412:9
 digit-requires : tie.Need-digit-requires
 digit-requires c κs = search needs
 
--- src/lib.rt:413:9
 returns : tie.Need-returns
 returns c = hex-none (c .before .before .before .before .args .text .now) (c .before .before .before .before .args .p .0) (c .before .before .before .before .pre) (tested (c .before .before .peek .ensures) digit (sym (c .before .digit .ensures) ∙ not-true _ (c .if1 .taken)))
 
--- src/lib.rt:415:28
 add-t6-2 : tie.Need-add-t6-2
 add-t6-2 c = let h = in-text (c .before .before .before .before .args .text .now) (c .before .before .before .before .args .p .0) (ch 0x23) (ch-end 0x23 refl) (c .before .before .before .before .pre) in omega arith
 
--- src/lib.rt:415:5
 digits-requires : tie.Need-digits-requires
 digits-requires c κs = let h = in-text (c .before .before .before .before .args .text .now) (c .before .before .before .before .args .p .0) (ch 0x23) (ch-end 0x23 refl) (c .before .before .before .before .pre) in omega arith
 
--- src/lib.rt:407:1
 returns-2 : tie.Need-returns-2
 returns-2 c = hex-some (c .before .before .before .before .before .args .text .now) (c .before .before .before .before .before .args .p .0) (c .before .before .before .before .before .pre) (tested (c .before .before .before .peek .ensures) digit (sym (c .before .before .digit .ensures) ∙ not-false _ (c .before .if1 .left))) (c .digits .result) (c .digits .ensures)
 

@@ -4,20 +4,15 @@ use Rattle.syntax.specs.Syntax.{isMark}
 use Rattle.lexical.proofs.Tests.{or-false}
 use Rattle.lexical.proofs.is_mark.Statement.{statement}
 use Rattle.lexical.proofs.is_mark.Tie as tie
-use Rattle.lexical.proofs.is_mark.Reads as reads
-use Rattle.lexical.proofs.is_mark.Lts as lts
 
--- src/lib.rt:167:9
 returns : tie.Need-returns
 unfolding isMark
 returns c = rw (c .if1 .taken)
 
--- src/lib.rt:170:9
 returns-2 : tie.Need-returns-2
 unfolding isMark
 returns-2 c = rw (c .if2 .taken)
 
--- src/lib.rt:163:1
 returns-3 : tie.Need-returns-3
 unfolding isMark
 returns-3 c = rw (ne-eqb _ _ (c .before .if1 .left), ne-eqb _ _ (c .if2 .left)) (sym (or-false _))

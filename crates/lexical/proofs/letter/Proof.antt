@@ -3,25 +3,17 @@ use Rattle.syntax.specs.Syntax.{letter}
 use borrow.Author.Needs.{needs}
 use Rattle.lexical.proofs.letter.Statement.{statement}
 use Rattle.lexical.proofs.letter.Tie as tie
-use Rattle.lexical.proofs.letter.Reads as reads
-use Rattle.lexical.proofs.letter.Lts as lts
-use Rattle.lexical.proofs.between.Reads as between-reads
-use Rattle.lexical.proofs.capital.Reads as capital-reads
 
--- src/lib.rt:148:8
 capital-requires : tie.Need-capital-requires
 capital-requires c κs = search needs
 
--- src/lib.rt:149:9
 returns : tie.Need-returns
 unfolding letter
 returns c = rw (sym (c .before .capital .ensures) ∙ c .if1 .taken)
 
--- src/lib.rt:151:5
 between-requires : tie.Need-between-requires
 between-requires c κs = search needs
 
--- src/lib.rt:145:1
 returns-2 : tie.Need-returns-2
 unfolding letter
 returns-2 c = rw (sym (c .before .before .capital .ensures) ∙ c .before .if1 .left) (c .between .ensures)

@@ -5,50 +5,34 @@ use Rattle.lexical.proofs.Words.{no-mark, mark-in, mark-bad, mark-read}
 use borrow.Author.Needs.{needs}
 use Rattle.lexical.proofs.mark.Statement.{statement}
 use Rattle.lexical.proofs.mark.Tie as tie
-use Rattle.lexical.proofs.mark.Reads as reads
-use Rattle.lexical.proofs.mark.Lts as lts
-use Rattle.lexical.proofs.is_mark.Reads as is-mark-reads
-use Rattle.lexical.proofs.mark_number.Reads as mark-number-reads
-use Rattle.lexical.proofs.peek.Reads as peek-reads
-use Rattle.lexical.proofs.skip.Reads as skip-reads
 
--- src/lib.rt:669:9
 peek-requires : tie.Need-peek-requires
 peek-requires c κs = search needs
 
--- src/lib.rt:670:9
 is-mark-requires : tie.Need-is-mark-requires
 is-mark-requires c κs = search needs
 
--- src/lib.rt:671:9
 returns : tie.Need-returns
 returns c = no-mark _ _ _ (c .before .before .peek .ensures) (sym (c .before .is-mark .ensures) ∙ not-true _ (c .if1 .taken)) (c .before .before .before .before .pre)
 
--- src/lib.rt:674:44
 add-t9 : tie.Need-add-t9
 add-t9 c = search needs
 
--- src/lib.rt:674:23
 skip-requires : tie.Need-skip-requires
 skip-requires c κs = let h = mark-in (c .before .before .before .before .args .text .now) (c .before .before .before .before .args .p .0) _ (c .before .before .peek .ensures) (sym (c .before .is-mark .ensures) ∙ not-false _ (c .if1 .left)) in omega arith
 
--- src/lib.rt:674:18
 enum-known-q : tie.Need-enum-known-q
 enum-known-q c = search needs
 
--- src/lib.rt:675:9
 enum-told : tie.Need-enum-told
 enum-told c = search needs
 
--- src/lib.rt:675:9
 returns-2 : tie.Need-returns-2
 returns-2 c = mark-bad (c .before .before .before .before .before .before .before .args .text .now) (c .before .before .before .before .before .before .before .args .p .0) _ (c .before .before .before .before .before .peek .ensures) (sym (c .before .before .before .before .is-mark .ensures) ∙ not-false _ (c .before .before .before .if1 .left)) (rw (c .enum-told .given .1) at (c .before .before .skip .ensures))
 
--- src/lib.rt:677:19
 mark-number-requires : tie.Need-mark-number-requires
 mark-number-requires c κs = search needs
 
--- src/lib.rt:665:1
 returns-3 : tie.Need-returns-3
 returns-3 c = mark-read (c .before .before .before .before .before .before .before .before .before .args .text .now) (c .before .before .before .before .before .before .before .before .before .args .p .0) _ (c .before .before .before .before .before .before .before .peek .ensures) (sym (c .before .before .before .before .before .before .is-mark .ensures) ∙ not-false _ (c .before .before .before .before .before .if1 .left)) _ _ (rw (c .before .before .q .given .1) at (c .before .before .before .before .skip .ensures)) (c .mark-number .ensures)
 

@@ -2,20 +2,15 @@ use borrow.Author.Tests.{ne-eqb}
 use Rattle.syntax.specs.Syntax.{markOf}
 use Rattle.lexical.proofs.mark_number.Statement.{statement}
 use Rattle.lexical.proofs.mark_number.Tie as tie
-use Rattle.lexical.proofs.mark_number.Reads as reads
-use Rattle.lexical.proofs.mark_number.Lts as lts
 
--- src/lib.rt:180:9
 returns : tie.Need-returns
 unfolding markOf
 returns c = rw (c .if1 .taken)
 
--- src/lib.rt:183:9
 returns-2 : tie.Need-returns-2
 unfolding markOf
 returns-2 c = rw (c .if2 .taken)
 
--- src/lib.rt:176:1
 returns-3 : tie.Need-returns-3
 unfolding markOf
 returns-3 c = rw (ne-eqb _ _ (c .before .if1 .left), ne-eqb _ _ (c .if2 .left))

@@ -9,42 +9,28 @@ use Rattle.lexical.proofs.Words.{no-name, run-on, run-space, name-same,
 use borrow.Author.Needs.{needs}
 use Rattle.lexical.proofs.name.Statement.{statement}
 use Rattle.lexical.proofs.name.Tie as tie
-use Rattle.lexical.proofs.name.Reads as reads
-use Rattle.lexical.proofs.name.Lts as lts
-use Rattle.lexical.proofs.copy_run.Reads as copy-run-reads
-use Rattle.lexical.proofs.head.Reads as head-reads
-use Rattle.lexical.proofs.name_start.Reads as name-start-reads
-use Rattle.lexical.proofs.peek.Reads as peek-reads
 
--- src/lib.rt:685:20
 peek-requires : tie.Need-peek-requires
 peek-requires c κs = search needs
 
--- src/lib.rt:685:9
 name-start-requires : tie.Need-name-start-requires
 name-start-requires c κs = search needs
 
--- src/lib.rt:686:9
 returns : tie.Need-returns
 returns c = no-name (c .before .before .before .before .before .args .text .now) (c .before .before .before .before .before .args .p .0) (tested (c .before .before .peek .ensures) namestart (sym (c .before .name-start .ensures) ∙ not-true _ (c .if1 .taken)))
 
--- src/lib.rt:689:43
 add-t15 : tie.Need-add-t15
 add-t15 c = search needs
 
--- src/lib.rt:689:9
 copy-run-requires : tie.Need-copy-run-requires
 copy-run-requires c κs = search needs
 
--- src/lib.rt:692:5
 head-requires : tie.Need-head-requires
 head-requires c κs = headable _ _ _ _ (c .before .before .before .before .before .before .before .before .before .before .before .before .pre) _ (c .before .before .before .before .before .copy-run .kept .1 .1 .0) _ 0 _ _ (c .before .before .before .before .before .copy-run .ensures) (run-on _ _ (tested (c .before .before .before .before .before .before .before .before .before .peek .ensures) namestart (sym (c .before .before .before .before .before .before .before .before .name-start .ensures) ∙ not-false _ (c .before .before .before .before .before .before .before .if1 .left))) _ _ _ _ _ (c .before .before .before .before .before .copy-run .ensures))
 
--- src/lib.rt:681:1
 same-length : tie.Need-same-length
 same-length c = search needs
 
--- src/lib.rt:681:1
 returns-2 : tie.Need-returns-2
 returns-2 c = counted-token _ _ _ _ (c .before .before .before .before .before .before .before .before .before .before .before .before .before .before .before .pre) _ (c .before .before .before .before .before .before .before .before .copy-run .kept .1 .1 .0) (λ x. read-name (drop (c .before .before .before .before .before .before .before .before .before .before .before .before .before .before .before .args .p .0) (c .before .before .before .before .before .before .before .before .before .before .before .before .before .before .before .args .text .now)) ≡ x) 0 _ _ _ _ (recopy (λ x. run (drop (c .before .before .before .before .before .before .before .before .before .before .before .before .before .before .before .args .p .0) (c .before .before .before .before .before .before .before .before .before .before .before .before .before .before .before .args .text .now)) ≡ x) (λ x. read-name (drop (c .before .before .before .before .before .before .before .before .before .before .before .before .before .before .before .args .p .0) (c .before .before .before .before .before .before .before .before .before .before .before .before .before .before .before .args .text .now)) ≡ x) (λ x e. name-same (c .before .before .before .before .before .before .before .before .before .before .before .before .before .before .before .args .text .now) (c .before .before .before .before .before .before .before .before .before .before .before .before .before .before .before .args .p .0) (tested (c .before .before .before .before .before .before .before .before .before .before .before .before .peek .ensures) namestart (sym (c .before .before .before .before .before .before .before .before .before .before .before .name-start .ensures) ∙ not-false _ (c .before .before .before .before .before .before .before .before .before .before .if1 .left))) x e) (c .before .before .before .before .before .before .before .before .copy-run .ensures)) (run-on (c .before .before .before .before .before .before .before .before .before .before .before .before .before .before .before .args .text .now) (c .before .before .before .before .before .before .before .before .before .before .before .before .before .before .before .args .p .0) (tested (c .before .before .before .before .before .before .before .before .before .before .before .before .peek .ensures) namestart (sym (c .before .before .before .before .before .before .before .before .before .before .before .name-start .ensures) ∙ not-false _ (c .before .before .before .before .before .before .before .before .before .before .if1 .left))) _ _ _ _ _ (c .before .before .before .before .before .before .before .before .copy-run .ensures)) (c .before .before .head .ensures)
 

@@ -4,44 +4,31 @@ use Rattle.lexical.proofs.Tests.{is-nd, is-mn}
 use borrow.Author.Needs.{needs}
 use Rattle.lexical.proofs.name_follower.Statement.{statement}
 use Rattle.lexical.proofs.name_follower.Tie as tie
-use Rattle.lexical.proofs.name_follower.Reads as reads
-use Rattle.lexical.proofs.name_follower.Lts as lts
-use Rattle.category.proofs.in_class.Reads as in-class-reads
-use Rattle.lexical.proofs.connector.Reads as connector-reads
-use Rattle.lexical.proofs.name_start.Reads as name-start-reads
 
--- src/lib.rt:219:8
 name-start-requires : tie.Need-name-start-requires
 name-start-requires c κs = search needs
 
--- src/lib.rt:220:9
 returns : tie.Need-returns
 unfolding namefollower
 returns c = rw (sym (c .before .name-start .ensures) ∙ c .if1 .taken)
 
--- src/lib.rt:222:8
 connector-requires : tie.Need-connector-requires
 connector-requires c κs = search needs
 
--- src/lib.rt:223:9
 returns-2 : tie.Need-returns-2
 unfolding namefollower
 returns-2 c = rw (sym (c .before .before .before .name-start .ensures) ∙ c .before .before .if1 .left, sym (c .before .connector .ensures) ∙ c .if2 .taken)
 
--- src/lib.rt:225:8
 in-class-requires : tie.Need-in-class-requires
 in-class-requires c κs = search needs
 
--- src/lib.rt:226:9
 returns-3 : tie.Need-returns-3
 unfolding namefollower
 returns-3 c = rw (sym (c .before .before .before .before .before .name-start .ensures) ∙ c .before .before .before .before .if1 .left, sym (c .before .before .before .connector .ensures) ∙ c .before .before .if2 .left, is-nd _ (c .before .in-class .ensures) ∙ c .if3 .taken)
 
--- src/lib.rt:228:5
 in-class-requires-2 : tie.Need-in-class-requires-2
 in-class-requires-2 c κs = search needs
 
--- src/lib.rt:216:1
 returns-4 : tie.Need-returns-4
 unfolding namefollower
 returns-4 c = rw (sym (c .before .before .before .before .before .before .name-start .ensures) ∙ c .before .before .before .before .before .if1 .left, sym (c .before .before .before .before .connector .ensures) ∙ c .before .before .before .if2 .left, is-nd _ (c .before .before .in-class .ensures) ∙ c .before .if3 .left, is-mn _ (c .in-class2 .ensures))

@@ -4,20 +4,14 @@ use Rattle.lexical.proofs.Tests.{is-l}
 use borrow.Author.Needs.{needs}
 use Rattle.lexical.proofs.name_start.Statement.{statement}
 use Rattle.lexical.proofs.name_start.Tie as tie
-use Rattle.lexical.proofs.name_start.Reads as reads
-use Rattle.lexical.proofs.name_start.Lts as lts
-use Rattle.category.proofs.in_class.Reads as in-class-reads
 
--- src/lib.rt:192:9
 returns : tie.Need-returns
 unfolding namestart
 returns c = rw (eq-eqb _ _ (c .if1 .taken))
 
--- src/lib.rt:194:5
 in-class-requires : tie.Need-in-class-requires
 in-class-requires c κs = search needs
 
--- src/lib.rt:188:1
 returns-2 : tie.Need-returns-2
 unfolding namestart
 returns-2 c = rw (ne-eqb _ _ (c .before .if1 .left), is-l _ (c .in-class .ensures))

@@ -1,39 +1,28 @@
 use borrow.Author.Needs.{needs}
 use Rattle.lexical.proofs.past_chars.Statement.{statement}
 use Rattle.lexical.proofs.past_chars.Tie as tie
-use Rattle.lexical.proofs.past_chars.Reads as reads
-use Rattle.lexical.proofs.past_chars.Lts as lts
-use Rattle.lexical.proofs.skip.Reads as skip-reads
 
--- src/lib.rt:542:28
 enum-known-c : tie.Need-enum-known-c
 enum-known-c c = search needs
 
--- src/lib.rt:542:37
 skip-requires : tie.Need-skip-requires
 skip-requires c κs = rw (c .before .c .given .1) at (c .before .before .before .before .pre)
 
--- src/lib.rt:543:27
 enum-known-c-2 : tie.Need-enum-known-c-2
 enum-known-c-2 c = search needs
 
--- src/lib.rt:543:36
 skip-requires-2 : tie.Need-skip-requires-2
 skip-requires-2 c κs = rw (c .before .c2 .given .1) at (c .before .before .before .before .pre)
 
--- src/lib.rt:544:27
 enum-told : tie.Need-enum-told
 enum-told c = search needs
 
--- src/lib.rt:537:1
 returns : tie.Need-returns
 returns c = rw (c .before .before .c .given .1) (c .skip .ensures)
 
--- src/lib.rt:537:1
 returns-2 : tie.Need-returns-2
 returns-2 c = rw (c .before .before .c2 .given .1) (c .skip2 .ensures)
 
--- src/lib.rt:537:1
 returns-3 : tie.Need-returns-3
 returns-3 c = rw (c .enum-told .given .1) tt
 

@@ -4,22 +4,16 @@ use Rattle.lexical.proofs.Places.{hd-char, hd-end}
 use borrow.Author.Needs.{needs}
 use Rattle.lexical.proofs.peek.Statement.{statement}
 use Rattle.lexical.proofs.peek.Tie as tie
-use Rattle.lexical.proofs.peek.Reads as reads
-use Rattle.lexical.proofs.peek.Lts as lts
 
--- src/lib.rt:66:16
 mul-result : tie.Need-mul-result
 mul-result c = search needs
 
--- src/lib.rt:66:16
 shared-slice-read-result : tie.Need-shared-slice-read-result
 shared-slice-read-result c = search needs
 
--- src/lib.rt:66:9
 returns : tie.Need-returns
 returns c = let a = c .before .before .args in sym (hd-char (now (a .text)) (a .p .0) (c .before .if1 .taken))
 
--- src/lib.rt:61:1
 returns-2 : tie.Need-returns-2
 returns-2 c = let a = c .before .args in sym (hd-end (now (a .text)) (a .p .0) (c .if1 .left))
 

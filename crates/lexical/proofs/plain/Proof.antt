@@ -4,20 +4,14 @@ use Rattle.lexical.proofs.Tests.{is-cc}
 use borrow.Author.Needs.{needs}
 use Rattle.lexical.proofs.plain.Statement.{statement}
 use Rattle.lexical.proofs.plain.Tie as tie
-use Rattle.lexical.proofs.plain.Reads as reads
-use Rattle.lexical.proofs.plain.Lts as lts
-use Rattle.category.proofs.in_class.Reads as in-class-reads
 
--- src/lib.rt:109:9
 returns : tie.Need-returns
 unfolding plain
 returns c = rw (eq-eqb _ _ (c .if1 .taken))
 
--- src/lib.rt:111:6
 in-class-requires : tie.Need-in-class-requires
 in-class-requires c κs = search needs
 
--- src/lib.rt:105:1
 returns-2 : tie.Need-returns-2
 unfolding plain
 returns-2 c = rw (ne-eqb _ _ (c .before .if1 .left), is-cc _ (c .in-class .ensures))

@@ -4,15 +4,11 @@ use Rattle.syntax.specs.Syntax.{quote}
 use Rattle.lexical.proofs.Tests.{or-false}
 use Rattle.lexical.proofs.quote.Statement.{statement}
 use Rattle.lexical.proofs.quote.Tie as tie
-use Rattle.lexical.proofs.quote.Reads as reads
-use Rattle.lexical.proofs.quote.Lts as lts
 
--- src/lib.rt:99:9
 returns : tie.Need-returns
 unfolding quote
 returns c = rw (c .if1 .taken)
 
--- src/lib.rt:95:1
 returns-2 : tie.Need-returns-2
 unfolding quote
 returns-2 c = rw (ne-eqb _ _ (c .if1 .left)) (sym (or-false _))

@@ -4,78 +4,58 @@ use lib.ListN.{length-set}
 use borrow.Author.Needs.{needs}
 use Rattle.lexical.proofs.range_end.Statement.{statement}
 use Rattle.lexical.proofs.range_end.Tie as tie
-use Rattle.lexical.proofs.range_end.Reads as reads
-use Rattle.lexical.proofs.range_end.Lts as lts
 
--- src/lib.rt:496:28
 enum-known-c : tie.Need-enum-known-c
 enum-known-c c = search needs
 
--- src/lib.rt:497:23
 add-if1 : tie.Need-add-if1
 add-if1 c = search needs
 
--- src/lib.rt:498:17
 returns : tie.Need-returns
 returns c = rw (c .before .before .before .c .given .1) (c .if1 .taken)
 
--- src/lib.rt:500:13
 mul-out : tie.Need-mul-out
 mul-out c = search needs
 
--- src/lib.rt:500:13
 slice-write-out : tie.Need-slice-write-out
 slice-write-out c = search needs
 
--- src/lib.rt:503:27
 enum-known-c-2 : tie.Need-enum-known-c-2
 enum-known-c-2 c = search needs
 
--- src/lib.rt:504:13
 mul-out-2 : tie.Need-mul-out-2
 mul-out-2 c = search needs
 
--- src/lib.rt:504:13
 slice-write-out-2 : tie.Need-slice-write-out-2
 slice-write-out-2 c = search needs
 
--- src/lib.rt:505:17
 add-out : tie.Need-add-out
 add-out c = search needs
 
--- src/lib.rt:505:13
 mul-out-3 : tie.Need-mul-out-3
 mul-out-3 c = search needs
 
--- src/lib.rt:505:13
 slice-write-out-3 : tie.Need-slice-write-out-3
 slice-write-out-3 c = simp length-set (omega arith)
 
--- src/lib.rt:506:30
 add-t13 : tie.Need-add-t13
 add-t13 c = search needs
 
--- src/lib.rt:508:27
 enum-told : tie.Need-enum-told
 enum-told c = search needs
 
--- src/lib.rt:490:1
 same-length : tie.Need-same-length
 same-length c = search needs
 
--- src/lib.rt:490:1
 returns-2 : tie.Need-returns-2
 returns-2 c = rw (c .before .before .before .c .given .1) (record { step = (refl, refl); table = refl }, c .if1 .left)
 
--- src/lib.rt:490:1
 same-length-2 : tie.Need-same-length-2
 same-length-2 c = search needs
 
--- src/lib.rt:490:1
 returns-3 : tie.Need-returns-3
 returns-3 c = rw (c .before .c2 .given .1) (record { step = (refl, refl); table = refl })
 
--- src/lib.rt:490:1
 returns-4 : tie.Need-returns-4
 returns-4 c = rw (c .enum-told .given .1) tt
 

@@ -7,10 +7,6 @@ use borrow.Author.Tests.{not-true, not-false}
 use Rattle.lexical.proofs.Spacing.{inner-less, Outer, outer-start, outer-end, outer-white, outer-stop, outer-bad, outer-on}
 use Rattle.lexical.proofs.skip.Statement.{statement}
 use Rattle.lexical.proofs.skip.Tie as tie
-use Rattle.lexical.proofs.skip.Reads as reads
-use Rattle.lexical.proofs.skip.Lts as lts
-use Rattle.lexical.proofs.comment.Reads as comment-reads
-use Rattle.lexical.proofs.whitespace.Reads as whitespace-reads
 
 abbrev Inv-loop : tie.InvT-loop
 Inv-loop text i₀ i = Outer text i₀ i
@@ -18,67 +14,51 @@ Inv-loop text i₀ i = Outer text i₀ i
 abbrev μ-loop : tie.MeasureT-loop
 μ-loop text i₀ i = length text - i
 
--- src/lib.rt:263:5
 loop-holds : tie.Need-loop-holds Inv-loop μ-loop
 loop-holds c = outer-start _ _ (c .before .pre)
 
--- src/lib.rt:264:17
 mul-c : tie.Need-mul-c Inv-loop μ-loop
 mul-c c = omega arith
 
--- src/lib.rt:264:17
 shared-slice-read-c : tie.Need-shared-slice-read-c Inv-loop μ-loop
 shared-slice-read-c c = omega arith
 
--- src/lib.rt:266:55
 add-t11 : tie.Need-add-t11 Inv-loop μ-loop
 add-t11 c = omega arith
 
--- src/lib.rt:266:31
 comment-requires : tie.Need-comment-requires Inv-loop μ-loop
 comment-requires c κs = omega arith
 
--- src/lib.rt:266:26
 enum-known-q : tie.Need-enum-known-q Inv-loop μ-loop
 enum-known-q c = search needs
 
--- src/lib.rt:267:17
 enum-told : tie.Need-enum-told Inv-loop μ-loop
 enum-told c = search needs
 
--- src/lib.rt:267:17
 returns : tie.Need-returns Inv-loop μ-loop
 returns c = outer-bad _ _ _ (c .before .before .before .before .before .before .loop .inv) (c .before .before .before .before .before .loop-test .taken) (c .before .before .before .if1 .taken) (rw (c .enum-told .given .1) at (c .before .before .comment .ensures))
 
--- src/lib.rt:263:5
 loop-less : tie.Need-loop-less Inv-loop μ-loop
 loop-less c = inner-less _ _ _ _ (c .before .before .before .before .before .before .loop-test .taken) (rw (c .before .q .given .1) at (c .before .before .before .comment .ensures))
 
--- src/lib.rt:263:5
 loop-again : tie.Need-loop-again Inv-loop μ-loop
 loop-again c = outer-on _ _ _ (c .before .before .before .before .before .before .before .loop .inv) (c .before .before .before .before .before .before .loop-test .taken) (c .before .before .before .before .if1 .taken) _ (rw (c .before .q .given .1) at (c .before .before .before .comment .ensures))
 
--- src/lib.rt:271:17
 whitespace-requires : tie.Need-whitespace-requires Inv-loop μ-loop
 whitespace-requires c κs = search needs
 
--- src/lib.rt:272:17
 returns-2 : tie.Need-returns-2 Inv-loop μ-loop
 returns-2 c = outer-stop _ _ _ (c .before .before .before .before .before .loop .inv) (c .before .before .before .before .loop-test .taken) (c .before .before .if1 .left) (sym (c .before .whitespace .ensures) ∙ not-true _ (c .if2 .taken))
 
--- src/lib.rt:274:13
 add-i : tie.Need-add-i Inv-loop μ-loop
 add-i c = omega arith
 
--- src/lib.rt:263:5
 loop-less-2 : tie.Need-loop-less-2 Inv-loop μ-loop
 loop-less-2 c = omega arith
 
--- src/lib.rt:263:5
 loop-again-2 : tie.Need-loop-again-2 Inv-loop μ-loop
 loop-again-2 c = outer-white _ _ _ (c .before .before .before .before .before .loop .inv) (c .before .before .before .before .loop-test .taken) (sym (c .before .whitespace .ensures) ∙ not-false _ (c .if2 .left))
 
--- src/lib.rt:258:1
 returns-3 : tie.Need-returns-3 Inv-loop μ-loop
 returns-3 c = outer-end _ _ _ (c .before .loop .inv) (c .loop-test .left)
 

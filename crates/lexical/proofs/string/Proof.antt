@@ -6,61 +6,43 @@ use Rattle.lexical.proofs.Words.{string-none, string-space, string-bad,
 use borrow.Author.Needs.{needs}
 use Rattle.lexical.proofs.string.Statement.{statement}
 use Rattle.lexical.proofs.string.Tie as tie
-use Rattle.lexical.proofs.string.Reads as reads
-use Rattle.lexical.proofs.string.Lts as lts
-use Rattle.lexical.proofs.copy_quoted.Reads as copy-quoted-reads
-use Rattle.lexical.proofs.peek.Reads as peek-reads
-use Rattle.lexical.proofs.quote.Reads as quote-reads
 
--- src/lib.rt:360:9
 peek-requires : tie.Need-peek-requires
 peek-requires c κs = search needs
 
--- src/lib.rt:361:9
 quote-requires : tie.Need-quote-requires
 quote-requires c κs = search needs
 
--- src/lib.rt:362:9
 returns : tie.Need-returns
 returns c = string-none (c .before .before .before .before .before .args .text .now) (c .before .before .before .before .before .args .p .0) (tested (c .before .before .peek .ensures) quote (sym (c .before .quote .ensures) ∙ not-true _ (c .if1 .taken)))
 
--- src/lib.rt:366:54
 add-t14 : tie.Need-add-t14
 add-t14 c = search needs
 
--- src/lib.rt:366:26
 copy-quoted-requires : tie.Need-copy-quoted-requires
 copy-quoted-requires c κs = (string-space _ _ _ (c .before .before .before .peek .ensures) (sym (c .before .before .quote .ensures) ∙ not-false _ (c .before .if1 .left)) _ _ (c .before .before .before .before .before .before .pre), sym (c .before .before .quote .ensures) ∙ not-false _ (c .before .if1 .left))
 
--- src/lib.rt:366:18
 enum-known-u : tie.Need-enum-known-u
 enum-known-u c = search needs
 
--- src/lib.rt:367:9
 enum-told : tie.Need-enum-told
 enum-told c = search needs
 
--- src/lib.rt:367:9
 same-length : tie.Need-same-length
 same-length c = search needs
 
--- src/lib.rt:367:9
 returns-2 : tie.Need-returns-2
 returns-2 c = string-bad (c .before .before .before .before .before .before .before .before .before .before .before .args .text .now) (c .before .before .before .before .before .before .before .before .before .before .before .args .p .0) _ (c .before .before .before .before .before .before .before .before .peek .ensures) (sym (c .before .before .before .before .before .before .before .quote .ensures) ∙ not-false _ (c .before .before .before .before .before .before .if1 .left)) (rw (c .enum-told .given .1) at (c .before .before .before .before .copy-quoted .ensures))
 
--- src/lib.rt:371:9
 same-length-2 : tie.Need-same-length-2
 same-length-2 c = search needs
 
--- src/lib.rt:371:9
 returns-3 : tie.Need-returns-3
 returns-3 c = string-empty (c .before .before .before .before .before .before .before .before .before .before .before .before .before .args .text .now) (c .before .before .before .before .before .before .before .before .before .before .before .before .before .args .p .0) _ (c .before .before .before .before .before .before .before .before .before .before .peek .ensures) (sym (c .before .before .before .before .before .before .before .before .before .quote .ensures) ∙ not-false _ (c .before .before .before .before .before .before .before .before .if1 .left)) _ _ _ _ _ (rw (c .before .before .u .given .1) at (c .before .before .before .before .before .before .copy-quoted .ensures)) (c .if2 .taken)
 
--- src/lib.rt:356:1
 same-length-3 : tie.Need-same-length-3
 same-length-3 c = search needs
 
--- src/lib.rt:356:1
 returns-4 : tie.Need-returns-4
 returns-4 c = string-read (c .before .before .before .before .before .before .before .before .before .before .before .before .before .args .text .now) (c .before .before .before .before .before .before .before .before .before .before .before .before .before .args .p .0) _ (c .before .before .before .before .before .before .before .before .before .before .peek .ensures) (sym (c .before .before .before .before .before .before .before .before .before .quote .ensures) ∙ not-false _ (c .before .before .before .before .before .before .before .before .if1 .left)) _ _ _ _ _ (rw (c .before .before .u .given .1) at (c .before .before .before .before .before .before .copy-quoted .ensures)) (c .if2 .left)
 
