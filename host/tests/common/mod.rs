@@ -235,6 +235,17 @@ impl<C: Call> Lender<C> {
     pub fn run(&mut self, job: &Job, room: Room, seed: u32) -> (Answer, &[C::Cell]) {
         self.main_table.renew(room.main_table, seed);
         self.grammar_table.renew(room.grammar_table, !seed);
+        self.run_in_tables(job, room, seed)
+    }
+
+    /// The same in tables that hold what the job before left.
+    fn run_in_used_tables(&mut self, job: &Job, room: Room, seed: u32) -> (Answer, &[C::Cell]) {
+        self.main_table.reuse(room.main_table);
+        self.grammar_table.reuse(room.grammar_table);
+        self.run_in_tables(job, room, seed)
+    }
+
+    fn run_in_tables(&mut self, job: &Job, room: Room, seed: u32) -> (Answer, &[C::Cell]) {
         self.result.renew(room.result, seed);
         let answer = C::library(
             job,
@@ -250,13 +261,14 @@ impl<C: Call> Lender<C> {
         (answer, &self.result.cells()[..filled])
     }
 
-    /// Runs a job as the yardstick does, in tables that are just long enough.
+    /// Runs a job as the yardstick does, in tables that are just long enough
+    /// and hold what the job before left.
     pub fn agree(&mut self, job: &Job, seed: u32) -> (Answer, Vec<C::Cell>) {
         let room = self.ample(job);
         self.expected.renew(room.result, seed);
         let expected = C::yardstick(job, room, self.expected.lend());
         let cells = self.expected.cells()[..expected.length].to_vec();
-        let (answer, result) = self.run(job, room, seed);
+        let (answer, result) = self.run_in_used_tables(job, room, seed);
         assert_eq!(answer, expected, "{job:?}");
         assert_eq!(result, cells, "{job:?}");
         (answer, cells)

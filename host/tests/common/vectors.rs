@@ -4,8 +4,6 @@ use super::Job;
 
 /// A line of `tests/vectors/calls.tsv`.
 pub struct Vector {
-    /// From 1.
-    pub line: usize,
     pub call: String,
     pub job: Job,
     /// What the tool that runs calls reads.
@@ -17,18 +15,17 @@ pub struct Vector {
 fn all() -> Vec<Vector> {
     let path = concat!(env!("CARGO_MANIFEST_DIR"), "/../tests/vectors/calls.tsv");
     let text = std::fs::read_to_string(path).expect(path);
-    let vector = |(line, text): (usize, &str)| {
-        let fields: Vec<&str> = text.split('\t').collect();
-        assert_eq!(fields.len(), 11, "line {line}");
+    let vector = |line: &str| {
+        let fields: Vec<&str> = line.split('\t').collect();
+        assert_eq!(fields.len(), 11, "{line}");
         Vector {
-            line,
             call: fields[0].to_string(),
             job: Job::new(bytes(fields[1]), bytes(fields[2])),
             input: fields[..6].join("\t"),
             output: fields[6..].join("\t"),
         }
     };
-    (1..).zip(text.lines()).map(vector).collect()
+    text.lines().map(vector).collect()
 }
 
 /// The vectors of a call.
