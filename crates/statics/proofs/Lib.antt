@@ -1,0 +1,6 @@
+pub mod Leaf
+pub mod Names
+pub mod Classes
+pub mod View
+pub mod Scans
+pub mod Agree
