@@ -80,9 +80,6 @@ module _ (c f : List ℕ) (g : Grammar) (r : Text) (size top first : ℕ) (k : C
       name p h z (at-terminal x q l _ _ _) = absurd (omega arith)
       name p h z (at-symbol s q _ _ _ l _) = omega (arith, l, k .count)
 
-  abbrev Low' : ℕ → List Symbol → ℕ → ℕ → Type 0
-  Low' = Low g r
-
   -- the name of a rule is an end
   rule-end : (p : ℕ) → p < size → kindAt c p ≡ 2 → kindAt c (ruleAt c p) ≡ 0
   rule-end p h z = ends (k .chains p h z)

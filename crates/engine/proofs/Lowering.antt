@@ -53,11 +53,6 @@ module _ (c f : List ℕ) (size n : ℕ) where
   steps-sum stay = omega arith
   steps-sum (step {t = t} p i j v s ha hp hi hj d l) = omega (arith, steps-sum s, sum-set t (cellAt n p i j) v l)
 
-  -- steps were made, or the table is as it was
-  pub steps-fall : {A : ℕ → ℕ → Type 0} {t₀ t : List ℕ} → Steps c f size n A t₀ t → (t ≡ t₀ → ⊥) → sumOf t < sumOf t₀
-  steps-fall stay q = absurd (q refl)
-  steps-fall (step {t = t} p i j v s ha hp hi hj d l) q = omega (arith, steps-sum s, sum-set t (cellAt n p i j) v l)
-
   -- cells of other stretches
   pub steps-same : {A : ℕ → ℕ → Type 0} {t₀ t : List ℕ} → Steps c f size n A t₀ t → (q k l : ℕ) → k ≤ l → l ≤ n → (A k l → ⊥) → cellOf n t q k l ≡ cellOf n t₀ q k l
   steps-same stay q k l hk hl o = refl

@@ -1,16 +1,17 @@
 -- What the loops do to the table, one step after the other.
-use mathlib.Core.Path.{_≡_, refl, sym, ap, subst, _∙_}
+use mathlib.Core.Path.{_≡_, refl, sym, subst, _∙_}
 use mathlib.Core.List.{List, []}
 use Prim.Native.Nat.{ℕ, _+_, _-_, _<_, _≤_, max}
 use native.Mathlib.Decide.{ℕ-discrete}
 use native.Mathlib.Omega.{arith}
 use lib.ListN.{length, getD, set}
 use lib.Seq.{getD-set-same, getD-set-other}
-use Rattle.code.specs.Code.{kindAt, goesAt, fitsAt}
+use Rattle.code.specs.Code.{kindAt, goesAt}
 use Rattle.code.specs.Heights.{cellAt, none}
 use Rattle.engine.specs.Table.{valueOf, splitOf, Shape, Place}
 use Rattle.engine.specs.Sweep.{cellOf, Gives, by-terminal, by-split, by-owned, Steps, stay, step, Only, EndsAt, Any, Lowered, lowered, kept, Handed, free, handed, Lowest, Shifted, Under, Offer, OwnerUnder, CellUnder, Held, HeldFrom, InnerAt, InnerFrom, Split, Swept, Closed, Settled, ColumnFrom, Before, sumOf}
 use Rattle.engine.proofs.Cells.{owner-place}
+use Rattle.engine.proofs.Values.{value-gap}
 use Rattle.engine.proofs.Lowering.{in-range, steps-join, steps-widen, steps-le, steps-sum, steps-same, value-same, split-same, sum-set}
 
 pub clear-next : (t : List ℕ) (x : ℕ) → x < length t → ((y : ℕ) → y < x → getD t y 0 ≡ none) → (y : ℕ) → y < x + 1 → getD (set t x none) y 0 ≡ none
@@ -42,19 +43,12 @@ module _ (f : ℕ → ℕ) (lo : ℕ) where
     some = λ b. let s = a .some b in record { place = s .place; from = s .from; below = omega (arith, s .from, s .below); is = s .is };
   }
 
+-- no split inside a stretch before an end
+pub lowest-none : (c t : List ℕ) (n p i j : ℕ) → kindAt c (p + 1) ≡ 0 → Lowest (splitOf c t n p i j) (i + 1) j none
+lowest-none c t n p i j k = record { low = λ m h l. omega (arith, value-gap c t n (p + 1) m j k (λ e. omega arith)); some = λ b. absurd (omega arith) }
+
 module _ (c f : List ℕ) (size n : ℕ) where
   module _ (t : List ℕ) (p i j : ℕ) where
-    pub shifted-unfit : (fitsAt f p i ≡ 1 → ⊥) → Shifted c f t n p i j none
-    shifted-unfit h = record { low = λ q l. absurd (h q); some = λ b. absurd (omega arith) }
-
-    pub shifted-long : (e : ℕ) → e ≡ i + goesAt c p → j < e → Shifted c f t n p i j none
-    shifted-long e q h = record { low = λ _ l. absurd (omega arith); some = λ b. absurd (omega arith) }
-
-    pub shifted-is : (e v : ℕ) → fitsAt f p i ≡ 1 → e ≡ i + goesAt c p → e ≤ j → v ≡ valueOf c t n (p + 1) e j → Shifted c f t n p i j v
-    shifted-is e v h q l w =
-        let w' : v ≡ valueOf c t n (p + 1) (i + goesAt c p) j = w ∙ ap (λ (z : ℕ). valueOf c t n (p + 1) z j) q in
-        record { low = λ _ _. omega arith; some = λ _. (h, omega arith, w') }
-
     pub offer-none : (kindAt c p ≡ 1 → ⊥) → (kindAt c p ≡ 2 → ⊥) → Offer c f size n t p i j none
     offer-none h l = record { under = record { terminal = λ k. absurd (h k); left = λ k. absurd (l k); right = λ k. absurd (l k) }; some = λ b. absurd (omega arith) }
 

@@ -6,7 +6,7 @@ use lib.ListN.{length, getD, set}
 use Rattle.text.specs.Lists.{Text}
 use Rattle.tree.specs.Tree.{Grammar}
 use Rattle.code.specs.Code.{kindAt, goesAt, ownerAt, fitsAt, Coded}
-use Rattle.code.specs.Heights.{cellAt, none, stretches, Heights}
+use Rattle.code.specs.Heights.{cellAt, none, Heights}
 use Rattle.engine.specs.Table.{valueOf, splitOf}
 
 abbrev pub sumOf : List ℕ → ℕ
@@ -49,13 +49,14 @@ pub data Handed (c : List ℕ) (n : ℕ) (t : List ℕ) (p i j : ℕ) : ℕ → 
   free : ownerAt c p ≡ 0 → Handed c n t p i j 0 t
   handed : {r : ℕ} {u : List ℕ} (e : ℕ) → ownerAt c p ≡ e + 1 → Lowered t (cellAt n e i j) (valueOf c t n p i j) r u → Handed c n t p i j r u
 
--- v is the least value of f from lo on and below hi; none where there is no lower one
+-- v is a value of f from lo on and below hi
 pub record Some (f : ℕ → ℕ) (lo hi v : ℕ) : Type 0 where
   pub place : ℕ
   pub from : lo ≤ place
   pub below : place < hi
   pub is : v ≡ f place
 
+-- it is the least; none where there is no lower one
 pub record Lowest (f : ℕ → ℕ) (lo hi v : ℕ) : Type 0 where
   pub low : (m : ℕ) → lo ≤ m → m < hi → v ≤ f m
   pub some : v < none → Some f lo hi v
@@ -99,12 +100,12 @@ InnerAt c n p i j t = kindAt c p ≡ 2 → (m : ℕ) → i < m → m < j → cel
 abbrev pub InnerFrom : List ℕ → ℕ → ℕ → ℕ → ℕ → ℕ → List ℕ → Type 0
 InnerFrom c size n i j p t = (q : ℕ) → p ≤ q → q < size → InnerAt c n q i j t
 
--- what the splits inside the stretch do
+-- steps, whatever fits, after which P holds
 pub record Split (c : List ℕ) (size n i j : ℕ) (P : List ℕ → Type 0) (t₀ t : List ℕ) : Type 0 where
   pub steps : (f : List ℕ) → Steps c f size n (Only i j) t₀ t
   pub inner : P t
 
--- steps; if none was made, P holds
+-- steps; if nothing changed, P holds
 pub record Swept (c f : List ℕ) (size n : ℕ) (A : ℕ → ℕ → Type 0) (P : List ℕ → Type 0) (t₀ t : List ℕ) (changed : ℕ) : Type 0 where
   pub steps : Steps c f size n A t₀ t
   pub quiet : changed ≡ 0 → t ≡ t₀
@@ -116,11 +117,12 @@ pub record Closed (c f : List ℕ) (size n : ℕ) (t : List ℕ) (i j : ℕ) : T
   pub held : HeldFrom c f size n i j 0 t
   pub inner : InnerFrom c size n i j 0 t
 
--- what is done to the stretches of A from i on that end at j
+-- steps on the stretches of A, after which P holds
 pub record Settled (c f : List ℕ) (size n : ℕ) (A : ℕ → ℕ → Type 0) (P : List ℕ → Type 0) (t₀ t : List ℕ) : Type 0 where
   pub steps : Steps c f size n A t₀ t
   pub closed : P t
 
+-- the stretches from i on that end at j are done; all that end before j
 abbrev pub ColumnFrom : List ℕ → List ℕ → ℕ → ℕ → ℕ → ℕ → List ℕ → Type 0
 ColumnFrom c f size n j i t = (k : ℕ) → i ≤ k → k ≤ j → Closed c f size n t k j
 

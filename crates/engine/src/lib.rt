@@ -1,10 +1,9 @@
 // The engine: the main table filled with least heights, one stretch after the other, each until nothing changes.
 ghost use mathlib.Core.Path.{_≡_};
-ghost use mathlib.Core.List.{List};
-ghost use Prim.Native.Nat.{ℕ, _+_, _*_, _<_, _≤_, max};
+ghost use Prim.Native.Nat.{_+_, _<_, _≤_};
 ghost use lib.ListN.{length};
 ghost use Rattle.code.specs.Code.{kindAt};
-ghost use Rattle.code.specs.Heights.{cellAt, stretches};
+ghost use Rattle.code.specs.Heights.{cellAt};
 ghost use Rattle.engine.specs.Table.{valueOf, upOf, splitOf, Room, Shape, Safe, Place};
 ghost use Rattle.engine.specs.Sweep.{Lowered, Handed, Lowest, Shifted, Offer, Held, HeldFrom, InnerAt, InnerFrom, Split, Steps, Swept, Closed, Settled, Only, EndsAt, ColumnFrom, Clear, Filled};
 
@@ -70,11 +69,14 @@ fn split(
     a
 }
 
-// The best split inside the stretch.
+// The best split inside the stretch. Before an end there is none.
 fn best(code: &[u32], main: &[u32], size: usize, n: usize, p: usize, i: usize, j: usize) -> u32
     requires { ⌜ Shape (now code) size n (length (now main)) × Place size n p i j × (kindAt (now code) p ≡ 2) ⌝ }
     ensures { λ r. ⌜ Lowest (splitOf (now (code .entry)) (now (main .entry)) n p i j) (i + 1) j r ⌝ }
 {
+    if code[4 * (p + 1)] == 0 {
+        return NONE;
+    }
     let mut v = NONE;
     let mut m = i + 1;
     while m < j {
@@ -284,8 +286,8 @@ fn clear(main: &mut [u32], k: usize)
     }
 }
 
-// The least height of what stands behind each dot, and of each rule, on each stretch of n characters. Of the code there are four
-// numbers for each of the positions, of the places where terminals fit 121.
+// The least height of what stands behind each dot, and of each rule, on each stretch of n characters. Each of the positions has four
+// numbers in code and 121 in fits.
 pub fn fill(code: &[u32], fits: &[u8], size: usize, n: usize, main: &mut [u32])
     requires { ⌜ Safe (now code) (now fits) size n (length (now main)) ⌝ }
     ensures { λ r. ⌜ Filled (now (code .entry)) (now (fits .entry)) size n (length (now (main .entry))) (now (main .exit)) ⌝ }
