@@ -1,3 +1,7 @@
 pub mod Windows
 pub mod Reps
 pub mod Uses
+pub mod Blocks
+pub mod Runs
+pub mod Trees
+pub mod Rules

@@ -1,2 +1,4 @@
 pub mod Items
 pub mod Machine
+pub mod Final
+pub mod Scanned

@@ -31,7 +31,7 @@ member-costs (chars (hex n) ∷ ms) = omega (arith, member-costs ms)
 member-costs (range a b ∷ ms) = omega (arith, member-costs ms)
 member-costs (class k ∷ ms) = omega (arith, member-costs ms)
 
-terminal-costs : (x : Terminal) → costs (terminalTokens x) ≡ 1
+pub terminal-costs : (x : Terminal) → costs (terminalTokens x) ≡ 1
 unfolding costOf
 terminal-costs (literal m (string cs)) = by-mark (λ k. costOf (4 + k) + 0 ≡ 1) refl refl refl refl m
 terminal-costs (literal m (hex n)) = by-mark (λ k. costOf (8 + k) + 0 ≡ 1) refl refl refl refl m

@@ -1,0 +1,98 @@
+-- Blocks of items: a list of numbers that, wherever a finished table takes it over, is the alternatives of a symbol.
+use mathlib.Core.List.{List, [], _∷_, _++_, append-assoc}
+use mathlib.Core.Logic.{_⊎_, inl, inr, ⊎-elim}
+use mathlib.Core.Path.{_≡_, refl, sym, ap, _∙_, subst}
+use Prim.Native.Nat.{ℕ, zero, suc, _+_, _*_, _-_, _<_, _≤_}
+use native.Mathlib.Omega.{arith}
+use lib.ListN.{length, length-append}
+use Rattle.text.proofs.Tests.{split}
+use Rattle.tree.specs.Tree.{Symbol, Grammar}
+use Rattle.plain.specs.Plain.{alts, weight}
+use Rattle.items.specs.Items.{kindAt, Starts, Among, Stands, Spells, sp-end, sp-item, Alternatives, al-last, al-more, Spelt}
+use Rattle.items.specs.Final.{Placed, PlacedAll, Final}
+use Rattle.items.proofs.Uses.{rule-spelt}
+
+module _ (F : List ℕ) (g : Grammar) (S : Starts) where
+  pub placed-append : (xs ys : List ℕ) (m p : ℕ) → length xs ≡ 3 * m → PlacedAll F g S p (xs ++ ys) → PlacedAll F g S p xs × PlacedAll F g S (p + m) ys
+  placed-append [] ys m p e w = (tt, subst (λ (k : ℕ). PlacedAll F g S k ys) (let z : p ≡ p + m = omega arith in z) w)
+  placed-append (k ∷ []) ys m p e w = absurd (odd1 m e)
+    where
+      odd1 : (m : ℕ) → 1 ≡ 3 * m → ⊥
+      odd1 m e = omega arith
+  placed-append (k ∷ t ∷ []) ys m p e w = absurd (odd2 m e)
+    where
+      odd2 : (m : ℕ) → 2 ≡ 3 * m → ⊥
+      odd2 m e = omega arith
+  placed-append (k ∷ t ∷ q ∷ xs) ys m p e w =
+      let r = placed-append xs ys (m - 1) (p + 1) (omega arith) (w .1) in
+      ((w .0, r .0), subst (λ (j : ℕ). PlacedAll F g S j ys) (let z : p + 1 + (m - 1) ≡ p + m = omega arith in z) (r .1))
+
+move : (F : List ℕ) {x y k : ℕ} → x ≡ y → kindAt F y ≡ k → kindAt F x ≡ k
+move F e q = ap (kindAt F) e ∙ q
+
+-- numbers that are alternatives, the last with its end
+pub data Rows (F : List ℕ) (g : Grammar) (S : Starts) : List ℕ → List (List Symbol) → Type 0 where
+  r-last : {t q : ℕ} → Rows F g S (6 ∷ t ∷ q ∷ []) ([] ∷ [])
+  r-more : {t q : ℕ} {xs : List ℕ} {ts : List (List Symbol)} → Rows F g S xs ts → Rows F g S (5 ∷ t ∷ q ∷ xs) ([] ∷ ts)
+  r-item : {k t q : ℕ} {s : Symbol} {xs : List ℕ} {ss : List Symbol} {ts : List (List Symbol)} → ((p : ℕ) → Placed F g S p k t q → Stands F g S p s) → Rows F g S xs (ss ∷ ts) → Rows F g S (k ∷ t ∷ q ∷ xs) ((s ∷ ss) ∷ ts)
+
+module _ {F : List ℕ} {g : Grammar} {S : Starts} where
+  pub rows-length : {xs : List ℕ} {ts : List (List Symbol)} → Rows F g S xs ts → length xs ≡ 3 * weight ts
+  rows-length r-last = refl
+  rows-length (r-more r) = omega (arith, rows-length r)
+  rows-length (r-item m r) = omega (arith, rows-length r)
+
+  kind-kept : {p k t q : ℕ} → Placed F g S p k t q → 5 ≤ k → kindAt F p ≡ k
+  kind-kept w h = w .kept (λ e. omega arith) .0
+
+  -- one more symbol in front
+  in-front : {x : ℕ} {s : Symbol} {ts : List (List Symbol)} (ss : List Symbol) → Stands F g S x s → Alternatives F g S (x + 1) (ss ∷ ts) → Alternatives F g S x ((s ∷ ss) ∷ ts)
+  in-front {x} ss w (al-last v k) = al-last (sp-item w v) (move F (let e : x + suc (length ss) ≡ x + 1 + length ss = omega arith in e) k)
+  in-front {x} {ts = ts} ss w (al-more v k u) = al-more (sp-item w v) (move F (let e : x + suc (length ss) ≡ x + 1 + length ss = omega arith in e) k) (subst (λ (j : ℕ). Alternatives F g S j ts) (let e : x + 1 + (length ss + 1) ≡ x + (suc (length ss) + 1) = omega arith in e) u)
+
+  pub rows-alternatives : {xs : List ℕ} {ts : List (List Symbol)} (x : ℕ) → Rows F g S xs ts → PlacedAll F g S x xs → Alternatives F g S x ts
+  rows-alternatives x r-last w = al-last (sp-end (inr (kind-kept (w .0) (omega arith)))) (move F (let e : x + 0 ≡ x = omega arith in e) (kind-kept (w .0) (omega arith)))
+  rows-alternatives x (r-more {ts = ts} r) w = al-more (sp-end (inl (kind-kept (w .0) (omega arith)))) (move F (let e : x + 0 ≡ x = omega arith in e) (kind-kept (w .0) (omega arith))) (rows-alternatives (x + 1) r (w .1))
+  rows-alternatives x (r-item {ss = ss} m r) w = in-front ss (m x (w .0)) (rows-alternatives (x + 1) r (w .1))
+
+-- blocks one behind the other, each the alternatives of its symbol; the rules begin at the items of the list
+pub data Blocks (F : List ℕ) (g : Grammar) (S : Starts) : ℕ → List ℕ → Starts → Type 0 where
+  b-none : {x : ℕ} → Blocks F g S x [] []
+  b-rule : {x : ℕ} {s : Symbol} {xs ys : List ℕ} {B : Starts} → Rows F g S xs (alts g s) → Blocks F g S (x + weight (alts g s)) ys B → Blocks F g S x (xs ++ ys) ((x, s) ∷ B)
+
+-- what a run added is sound: new rules have their alternatives, new items are in some alternative
+pub record Sound (F : List ℕ) (g : Grammar) (S : Starts) (from to : ℕ) (S₁ S₂ : Starts) : Type 0 where
+  pub rule : (x : ℕ) (s : Symbol) → Among x s S₂ → Among x s S₁ ⊎ (Alternatives F g S x (alts g s) × (x + weight (alts g s) ≤ to))
+  pub spelt : (p : ℕ) → p < to → (p < from) ⊎ Spelt F g S p
+
+module _ {F : List ℕ} {g : Grammar} {S : Starts} where
+  pub sound-none : (n : ℕ) (S₁ : Starts) → Sound F g S n n S₁ S₁
+  sound-none n S₁ = record { rule = λ x s a. inl a; spelt = λ p h. inl h }
+
+  pub sound-then : {n m k : ℕ} {S₁ S₂ S₃ : Starts} → m ≤ k → Sound F g S n m S₁ S₂ → Sound F g S m k S₂ S₃ → Sound F g S n k S₁ S₃
+  sound-then h v w = record {
+    rule = λ x s a. ⊎-elim (λ b. ⊎-elim (λ c. inl c) (λ c. inr (c .0, (let z = c .1 in omega arith))) (v .rule x s b)) (λ b. inr b) (w .rule x s a);
+    spelt = λ p l. ⊎-elim (λ b. v .spelt p b) (λ b. inr b) (w .spelt p l);
+  }
+
+  among-here : {x y : ℕ} {s u : Symbol} → (y ≡ x) × (u ≡ s) → Alternatives F g S y (alts g u) → Alternatives F g S x (alts g s)
+  among-here {x} {y} {s} {u} e w = subst (λ (v : Symbol). Alternatives F g S x (alts g v)) (e .1) (subst (λ (j : ℕ). Alternatives F g S j (alts g u)) (e .0) w)
+
+  pub blocks-sound : {x : ℕ} {xs : List ℕ} {B : Starts} (m : ℕ) (S₁ : Starts) → Blocks F g S x xs B → PlacedAll F g S x xs → length xs ≡ 3 * m → Sound F g S x (x + m) S₁ (B ++ S₁)
+  blocks-sound {x} m S₁ b-none w e = record { rule = λ y s a. inl a; spelt = λ p h. inl (let z : 3 * m ≡ 0 = sym e in omega arith) }
+  blocks-sound {x} m S₁ (b-rule {s = u} {xs = xs} {ys = ys} {B = B} r b) w e =
+      let l : length xs ≡ 3 * weight (alts g u) = rows-length r in
+      let ll : length xs + length ys ≡ 3 * m = sym (length-append xs ys) ∙ e in
+      let pp = placed-append F g S xs ys (weight (alts g u)) x l w in
+      let al : Alternatives F g S x (alts g u) = rows-alternatives x r (pp .0) in
+      let rest = blocks-sound (m - weight (alts g u)) S₁ b (pp .1) (omega arith) in
+      record {
+        rule = λ y s a. ⊎-elim
+            (λ q. inr (among-here q al, subst (λ (v : Symbol). y + weight (alts g v) ≤ x + m) (q .1) (let z = q .0 in omega arith)))
+            (λ a'. ⊎-elim (λ b'. inl b') (λ b'. inr (b' .0, (let z = b' .1 in omega arith))) (rest .rule y s a'))
+            a;
+        spelt = λ p h. ⊎-elim
+            (λ c. inl c)
+            (λ c. ⊎-elim (λ d. inr (rule-spelt al p c d)) (λ d. ⊎-elim (λ c'. absurd (omega arith)) (λ c'. inr c') (rest .spelt p (omega arith))) (split p (x + weight (alts g u))))
+            (split p x);
+      }

@@ -1,0 +1,57 @@
+-- What one pass over the tokens leaves: the items, where each rule begins, and that a table that takes them over has the plain rules.
+use mathlib.Core.Bool.{false}
+use mathlib.Core.List.{List, [], _∷_, _++_}
+use mathlib.Core.Path.{_≡_}
+use Prim.Native.Nat.{ℕ, _+_, _<_, _≤_}
+use lib.ListN.{length, take, drop}
+use Rattle.tree.specs.Tree.{Symbol, Rule, Grammar, rules}
+use Rattle.tree.specs.Tokens.{Token, rule-head, encode}
+use Rattle.plain.specs.Static.{undefined}
+use Rattle.plain.specs.Plain.{alts, alternatives, weight, size}
+use Rattle.measure.specs.Walk.{Holds}
+use Rattle.items.specs.declared.State.{State}
+use Rattle.items.specs.Items.{Starts, Among, Alternatives, Spelt}
+use Rattle.items.specs.Machine.{Abs, Rep}
+use Rattle.items.specs.Final.{Final}
+
+-- tokens at a place of the token region
+pub record At (K : List ℕ) (at : ℕ) (us : List Token) : Type 0 where
+  pub more : List ℕ
+  pub stands : drop at K ≡ encode us ++ more
+
+-- the rules' places and first items, two numbers for each rule
+pub data Listed (K : List ℕ) : List ℕ → List Rule → List ℕ → Type 0 where
+  l-none : Listed K [] [] []
+  l-rule : {at x : ℕ} {ys : List ℕ} {r : Rule} {rs : List Rule} {xs : List ℕ} → At K at (rule-head (r .mark) (r .name) ∷ []) → Listed K ys rs xs → Listed K (at ∷ x ∷ ys) (r ∷ rs) (x ∷ xs)
+
+-- each rule has its alternatives from its first item on, below n
+abbrev pub Bodies : List ℕ → Grammar → Starts → ℕ → List Rule → List ℕ → Type 0
+Bodies F g T n [] xs = Unit {0}
+Bodies F g T n (r ∷ rs) [] = ⊥
+Bodies F g T n (r ∷ rs) (x ∷ xs) = (Alternatives F g T x (alternatives (r .body)) × (x + weight (alternatives (r .body)) ≤ n)) × Bodies F g T n rs xs
+
+pub record Whole (F : List ℕ) (g : Grammar) (T : Starts) (starts : Starts) (firsts : List ℕ) (n : ℕ) : Type 0 where
+  pub rule : (x : ℕ) (s : Symbol) → Among x s starts → Alternatives F g T x (alts g s) × (x + weight (alts g s) ≤ n)
+  pub bodies : Bodies F g T n (rules g) firsts
+  pub spelt : (p : ℕ) → p < n → Spelt F g T p
+
+pub record Scanned (g : Grammar) (T : List ℕ) (s : State) : Type 0 where
+  pub state : Abs
+  pub rep : Rep T s state
+  pub count : state .items ≡ size g
+  pub starts : Starts
+  pub firsts : List ℕ
+  pub listed : Listed (state .tokens) (state .rows) (rules g) firsts
+  pub whole : (F : List ℕ) (T' : Starts) → Final g (state .tokens) (state .list) starts F T' → Whole F g T' starts firsts (state .items)
+
+-- a table with the tokens of a grammar that is not too large and uses no name without a rule
+pub record Readable (T : List ℕ) (end : ℕ) (g : Grammar) : Type 0 where
+  pub holds : Holds T end g
+  pub small : size g ≤ 512
+  pub known : undefined g ≡ false
+
+pub record Prepared (T : List ℕ) (end : ℕ) : Type 0 where
+  pub tree : Grammar
+  pub readable : Readable T end tree
+  pub size : length T ≡ 16384
+  pub inside : end ≤ 12288
