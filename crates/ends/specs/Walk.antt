@@ -46,9 +46,9 @@ pub record Link (T : List ℕ) (r : Text) (S : List ℕ) (g : Grammar) (starts :
   pub noted : Noted S entry (f .row)
 
 -- the open nodes, innermost first; all ends before the entry e₁, at the place i₁
-abbrev pub Chain : List ℕ → Text → List ℕ → Grammar → Starts → ℕ → ℕ → List Frame → ℕ → ℕ → ℕ → Type 0
-Chain T r S g starts e₁ i₁ [] inner entry place = (inner ≡ 0) × (entry ≡ e₁) × (place ≡ i₁)
-Chain T r S g starts e₁ i₁ (f ∷ fs) inner entry place = Link T r S g starts f inner entry place × Chain T r S g starts e₁ i₁ fs (f .link) (entry + length (leftParse (f .row))) (f .to)
+pub data Chain (T : List ℕ) (r : Text) (S : List ℕ) (g : Grammar) (starts : Starts) (e₁ i₁ : ℕ) : List Frame → ℕ → ℕ → ℕ → Type 0 where
+  bottom : {inner entry place : ℕ} → inner ≡ 0 → entry ≡ e₁ → place ≡ i₁ → Chain T r S g starts e₁ i₁ [] inner entry place
+  link : {f : Frame} {fs : List Frame} {inner entry place : ℕ} → Link T r S g starts f inner entry place → Chain T r S g starts e₁ i₁ fs (f .link) (entry + length (leftParse (f .row))) (f .to) → Chain T r S g starts e₁ i₁ (f ∷ fs) inner entry place
 
 -- The walk stands before a row of the symbols, whose entries S notes.
 pub record Walk (T P : List ℕ) (r : Text) (S : List ℕ) (g : Grammar) (starts : Starts) (e₁ i₁ : ℕ) (h : Spot) (row : Row) (ss : List Symbol) (fs : List Frame) : Type 0 where
