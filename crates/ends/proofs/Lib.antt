@@ -1,0 +1,4 @@
+pub mod Items
+pub mod Scratch
+pub mod Walks
+pub mod Notes

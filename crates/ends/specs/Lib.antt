@@ -1,0 +1,3 @@
+pub mod Noted
+pub mod Walk
+pub mod Steps
