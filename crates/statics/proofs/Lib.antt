@@ -4,3 +4,5 @@ pub mod Classes
 pub mod View
 pub mod Scans
 pub mod Agree
+pub mod Trees
+pub mod Top

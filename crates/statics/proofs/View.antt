@@ -18,7 +18,7 @@ use Rattle.statics.specs.Held.{single, lettered}
 use Rattle.statics.specs.Parts.{Part, used, headed, code, between, classed, other, lateSort, sortOf, sizeOf, lettersOf, partOf, sizeAt, nameAt, partAt, part}
 use Rattle.statics.specs.Scan.{sound, Tokens}
 
-by-mark : (P : ℕ → Type 0) → P 0 → P 1 → P 2 → P 3 → (m : Mark) → P (markNumber m)
+pub by-mark : (P : ℕ → Type 0) → P 0 → P 1 → P 2 → P 3 → (m : Mark) → P (markNumber m)
 by-mark P a b c d unmarked = a
 by-mark P a b c d included = b
 by-mark P a b c d attribute = c
@@ -76,7 +76,7 @@ sort-is rule-end = refl
 sort-is (version-is cs) = refl
 
 -- numbers in the place of a token's, as far as it has some
-abbrev Reads : Token → (ℕ → ℕ) → Type 0
+abbrev pub Reads : Token → (ℕ → ℕ) → Type 0
 Reads x v = (j : ℕ) → j < length (numbers x) → v j ≡ getD (numbers x) j 0
 
 text-size : (k v : ℕ) (cs : Text) → v ≡ length cs → v + 2 ≡ length (k ∷ counted cs)
@@ -125,7 +125,7 @@ size-is (rule-head m n) s v r = text-size (20 + markNumber m) (v 1) n (r 1 (omeg
 size-is rule-end s v r = refl
 size-is (version-is cs) s v r = text-size 40 (v 1) cs (r 1 (omega arith))
 
-abbrev Spelt : Token → Text → Type 0
+abbrev pub Spelt : Token → Text → Type 0
 Spelt x n = (k : ℕ) (cs : Text) → numbers x ≡ k ∷ counted cs → n ≡ cs
 
 range-is : (a b : Chars) → T (single a && single b) → (v : ℕ → ℕ) → Reads (member-range a b) v → between (v 1) (v 2) (v 3) (v 4) ≡ part (member-range a b)
@@ -245,7 +245,7 @@ module _ (t : List ℕ) (end k : ℕ) (x : Token) (xs : List Token) (h : Tokens 
   size-at : sizeAt t k ≡ length (numbers x)
   size-at = ap (λ (s : ℕ). sizeOf s (getD t (k + 1) 0)) at-sort ∙ size-is x ok (λ j. getD t (k + j) 0) reads
 
-  spelt : Spelt x (nameAt t k)
+  pub spelt : Spelt x (nameAt t k)
   spelt q cs e =
       let l : getD t (k + 1) 0 ≡ length cs = reads 1 (omega (arith, ap length e)) ∙ ap (λ (z : List ℕ). getD z 1 0) e in
       let d : drop (k + 2) (take end t) ≡ cs ++ encode xs = sym (drop-drop 2 k (take end t)) ∙ ap (drop 2) (h .held ∙ ap (λ (z : List ℕ). z ++ encode xs) e) in

@@ -441,6 +441,16 @@ fn refusal(table: &[u32], end: usize, index: &[u32], n: usize) -> u32
     code_refusal(table, end, index, n)
 }
 
+// The first of 5 to 10 that applies to the syntax tree in the table, or 0.
+pub fn static_refusal(table: &[u32], end: usize) -> u32
+    requires { ⌜ Held (now table) end ⌝ }
+    ensures { λ r. ⌜ ((g : Grammar) → Holds (now (table .entry)) end g → r ≡ staticOf g) ⌝ }
+{
+    let mut index = [0u32; 16384];
+    let n = heads(table, end, &mut index);
+    refusal(table, end, &index, n)
+}
+
 // The name at the table's start is `1.0`.
 fn is_one(table: &[u32]) -> bool
     requires { ⌜ Named (now table) 0 ⌝ }
@@ -456,4 +466,15 @@ fn is_one(table: &[u32]) -> bool
         return false;
     }
     table[4] == 0x30
+}
+
+// A prolog names a version other than `1.0`.
+pub fn version_mismatch(table: &[u32], end: usize) -> bool
+    requires { ⌜ Held (now table) end ⌝ }
+    ensures { λ r. ⌜ ((g : Grammar) → Holds (now (table .entry)) end g → r ≡ mismatched g) ⌝ }
+{
+    if table[0] != 40 {
+        return false;
+    }
+    !is_one(table)
 }

@@ -1,5 +1,5 @@
 -- Laws of tests over lists, and of texts compared.
-use mathlib.Core.Path.{_≡_, refl, sym, ap, _∙_}
+use mathlib.Core.Path.{_≡_, refl, sym, ap, ap₂, _∙_}
 use mathlib.Core.Bool.{Bool, true, false, _&&_, _||_, and-false}
 use mathlib.Core.List.{List, [], _∷_, _++_, append-assoc}
 use Prim.Native.Nat.{ℕ, zero, suc}
@@ -23,6 +23,10 @@ any-append f (x ∷ xs) ys = ap (_||_ (f x)) (any-append f xs ys) ∙ sym (or-as
 pub any-concat : {A B : Type 0} (f : B → Bool) (p : A → List B) (xs : List A) → any f (concatMap p xs) ≡ any (λ x. any f (p x)) xs
 any-concat f p [] = refl
 any-concat f p (x ∷ xs) = any-append f (p x) (concatMap p xs) ∙ ap (_||_ (any f (p x))) (any-concat f p xs)
+
+pub any-ext : {A : Type 0} (f g : A → Bool) → ((x : A) → f x ≡ g x) → (xs : List A) → any f xs ≡ any g xs
+any-ext f g h [] = refl
+any-ext f g h (x ∷ xs) = ap₂ _||_ (h x) (any-ext f g h xs)
 
 -- tests that agree wherever a third fails, agree over a list in which that fails
 pub any-agree : {A : Type 0} (r f g : A → Bool) → ((x : A) → r x ≡ false → f x ≡ g x) → (xs : List A) → any r xs ≡ false → any f xs ≡ any g xs

@@ -4,20 +4,14 @@ use Rattle.statics.specs.Parts.{badCode}
 use borrow.Author.Needs.{needs}
 use Rattle.statics.proofs.bad_code.Statement.{statement}
 use Rattle.statics.proofs.bad_code.Tie as tie
-use Rattle.statics.proofs.bad_code.Reads as reads
-use Rattle.statics.proofs.bad_code.Lts as lts
-use Rattle.statics.proofs.unassignable.Reads as unassignable-reads
 
--- src/lib.rt:276:9
 returns : tie.Need-returns
 unfolding badCode
 returns c = rw (eq-eqb _ _ (c .if1 .taken))
 
--- src/lib.rt:278:5
 unassignable-requires : tie.Need-unassignable-requires
 unassignable-requires c κs = search needs
 
--- src/lib.rt:272:1
 returns-2 : tie.Need-returns-2
 unfolding badCode
 returns-2 c = rw (ne-eqb _ _ (c .before .if1 .left)) (c .unassignable .ensures)

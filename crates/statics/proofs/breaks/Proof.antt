@@ -3,45 +3,31 @@ use Rattle.statics.specs.Parts.{failing}
 use borrow.Author.Needs.{needs}
 use Rattle.statics.proofs.breaks.Statement.{statement}
 use Rattle.statics.proofs.breaks.Tie as tie
-use Rattle.statics.proofs.breaks.Reads as reads
-use Rattle.statics.proofs.breaks.Lts as lts
-use Rattle.statics.proofs.bad_codes.Reads as bad-codes-reads
-use Rattle.statics.proofs.lacks.Reads as lacks-reads
-use Rattle.statics.proofs.no_class.Reads as no-class-reads
-use Rattle.statics.proofs.runs_back.Reads as runs-back-reads
 
--- src/lib.rt:349:9
 lacks-requires : tie.Need-lacks-requires
 lacks-requires c κs = search needs
 
--- src/lib.rt:349:9
 returns : tie.Need-returns
 unfolding failing
 returns c = rw (eq-eqb _ 5 (c .before .if1 .taken)) (c .lacks .ensures)
 
--- src/lib.rt:352:9
 runs-back-requires : tie.Need-runs-back-requires
 runs-back-requires c κs = search needs
 
--- src/lib.rt:352:9
 returns-2 : tie.Need-returns-2
 unfolding failing
 returns-2 c = rw (ne-eqb _ 5 (c .before .before .if1 .left), eq-eqb _ 9 (c .before .if2 .taken)) (c .runs-back .ensures)
 
--- src/lib.rt:355:9
 no-class-requires : tie.Need-no-class-requires
 no-class-requires c κs = search needs
 
--- src/lib.rt:355:9
 returns-3 : tie.Need-returns-3
 unfolding failing
 returns-3 c = rw (ne-eqb _ 5 (c .before .before .before .if1 .left), ne-eqb _ 9 (c .before .before .if2 .left), eq-eqb _ 10 (c .before .if3 .taken)) (c .no-class .ensures)
 
--- src/lib.rt:357:5
 bad-codes-requires : tie.Need-bad-codes-requires
 bad-codes-requires c κs = search needs
 
--- src/lib.rt:344:1
 returns-4 : tie.Need-returns-4
 unfolding failing
 returns-4 c = rw (ne-eqb _ 5 (c .before .before .before .if1 .left), ne-eqb _ 9 (c .before .before .if2 .left), ne-eqb _ 10 (c .before .if3 .left)) (c .bad-codes .ensures)

@@ -8,10 +8,6 @@ use Rattle.statics.specs.Scan.{namesAt, fails}
 use Rattle.statics.proofs.Scans as law
 use Rattle.statics.proofs.broken.Statement.{statement}
 use Rattle.statics.proofs.broken.Tie as tie
-use Rattle.statics.proofs.broken.Reads as reads
-use Rattle.statics.proofs.broken.Lts as lts
-use Rattle.statics.proofs.breaks.Reads as breaks-reads
-use Rattle.statics.proofs.token_size.Reads as token-size-reads
 
 abbrev Inv-loop : tie.InvT-loop
 Inv-loop table end index n rule k₀ k = law.Reached table end k (law.Same (fails rule (namesAt table (take n index))))
@@ -19,35 +15,27 @@ Inv-loop table end index n rule k₀ k = law.Reached table end k (law.Same (fail
 abbrev μ-loop : tie.MeasureT-loop
 μ-loop table end index n rule k₀ k = end - k
 
--- src/lib.rt:366:5
 loop-holds : tie.Need-loop-holds Inv-loop μ-loop
 loop-holds c = law.begin (now (c .before .before .args .table)) (c .before .before .args .end) (fails (c .before .before .args .rule) (namesAt (now (c .before .before .args .table)) (take (c .before .before .args .n) (now (c .before .before .args .index)))))
 
--- src/lib.rt:367:12
 breaks-requires : tie.Need-breaks-requires Inv-loop μ-loop
 breaks-requires c κs = record { fits = law.fits (now (c .before .before .before .before .args .table)) (c .before .before .before .before .args .end) (c .before .loop .k) (law.Same (fails (c .before .before .before .before .args .rule) (namesAt (now (c .before .before .before .before .args .table)) (take (c .before .before .before .before .args .n) (now (c .before .before .before .before .args .index)))))) (c .before .loop .inv) (c .loop-test .taken) (c .before .before .before .before .pre .some); listing = c .before .before .before .before .pre .listing }
 
--- src/lib.rt:368:13
 returns : tie.Need-returns Inv-loop μ-loop
 returns c = law.hit (now (c .before .before .before .before .before .before .args .table)) (c .before .before .before .before .before .before .args .end) (c .before .before .before .loop .k) (c .before .before .before .before .before .before .args .rule) (namesAt (now (c .before .before .before .before .before .before .args .table)) (take (c .before .before .before .before .before .before .args .n) (now (c .before .before .before .before .before .before .args .index)))) (c .before .before .before .loop .inv) (c .before .before .loop-test .taken) (c .before .breaks .result) (c .before .breaks .ensures) (c .if1 .taken)
 
--- src/lib.rt:370:14
 token-size-requires : tie.Need-token-size-requires Inv-loop μ-loop
 token-size-requires c κs = law.fits (now (c .before .before .before .before .before .before .args .table)) (c .before .before .before .before .before .before .args .end) (c .before .before .before .loop .k) (law.Same (fails (c .before .before .before .before .before .before .args .rule) (namesAt (now (c .before .before .before .before .before .before .args .table)) (take (c .before .before .before .before .before .before .args .n) (now (c .before .before .before .before .before .before .args .index)))))) (c .before .before .before .loop .inv) (c .before .before .loop-test .taken) (c .before .before .before .before .before .before .pre .some)
 
--- src/lib.rt:370:9
 add-k : tie.Need-add-k Inv-loop μ-loop
 add-k c = let q = c .token-size .ensures in omega (arith, law.fits (now (c .before .before .before .before .before .before .before .args .table)) (c .before .before .before .before .before .before .before .args .end) (c .before .before .before .before .loop .k) (law.Same (fails (c .before .before .before .before .before .before .before .args .rule) (namesAt (now (c .before .before .before .before .before .before .before .args .table)) (take (c .before .before .before .before .before .before .before .args .n) (now (c .before .before .before .before .before .before .before .args .index)))))) (c .before .before .before .before .loop .inv) (c .before .before .before .loop-test .taken) (c .before .before .before .before .before .before .before .pre .some))
 
--- src/lib.rt:366:5
 loop-less : tie.Need-loop-less Inv-loop μ-loop
 loop-less c = let q = c .token-size .ensures in let l = c .before .before .before .loop-test .taken in omega (arith, law.some (now (c .before .before .before .before .before .before .before .args .table)) (c .before .before .before .before .before .before .before .args .end) (c .before .before .before .before .loop .k) (law.Same (fails (c .before .before .before .before .before .before .before .args .rule) (namesAt (now (c .before .before .before .before .before .before .before .args .table)) (take (c .before .before .before .before .before .before .before .args .n) (now (c .before .before .before .before .before .before .before .args .index)))))) (c .before .before .before .before .loop .inv) (c .before .before .before .loop-test .taken) (c .before .before .before .before .before .before .before .pre .some))
 
--- src/lib.rt:366:5
 loop-again : tie.Need-loop-again Inv-loop μ-loop
 loop-again c = law.pass (now (c .before .before .before .before .before .before .before .args .table)) (c .before .before .before .before .before .before .before .args .end) (c .before .before .before .before .loop .k) (c .before .before .before .before .before .before .before .args .rule) (namesAt (now (c .before .before .before .before .before .before .before .args .table)) (take (c .before .before .before .before .before .before .before .args .n) (now (c .before .before .before .before .before .before .before .args .index)))) (c .before .before .before .before .loop .inv) (c .before .before .before .loop-test .taken) (c .before .before .breaks .result) (c .before .before .breaks .ensures) (c .before .if1 .left) (c .before .before .before .before .before .before .before .pre .some) (c .token-size .result) (c .token-size .ensures)
 
--- src/lib.rt:361:1
 returns-2 : tie.Need-returns-2 Inv-loop μ-loop
 returns-2 c = law.none (now (c .before .before .before .before .args .table)) (c .before .before .before .before .args .end) (c .before .loop .k) (c .before .before .before .before .args .rule) (namesAt (now (c .before .before .before .before .args .table)) (take (c .before .before .before .before .args .n) (now (c .before .before .before .before .args .index)))) (c .before .loop .inv) (c .loop-test .left)
 

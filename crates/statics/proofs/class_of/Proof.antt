@@ -5,10 +5,6 @@ use Rattle.statics.proofs.Classes as law
 use Rattle.statics.proofs.Classes.{letters, seconds}
 use Rattle.statics.proofs.class_of.Statement.{statement}
 use Rattle.statics.proofs.class_of.Tie as tie
-use Rattle.statics.proofs.class_of.Reads as reads
-use Rattle.statics.proofs.class_of.Lts as lts
-use Rattle.statics.proofs.byte.Reads as byte-reads
-use Rattle.statics.proofs.is_class.Reads as is-class-reads
 
 abbrev Inv-loop : tie.InvT-loop
 Inv-loop c d letter second i₀ i = law.ClassAt c d i
@@ -16,49 +12,38 @@ Inv-loop c d letter second i₀ i = law.ClassAt c d i
 abbrev μ-loop : tie.MeasureT-loop
 μ-loop c d letter second i₀ i = 38 - i
 
--- src/lib.rt:237:5
 loop-holds : tie.Need-loop-holds Inv-loop μ-loop
 loop-holds c = law.class-start (c .args .c) (c .args .d)
 
--- src/lib.rt:238:26
 array-read-byte : tie.Need-array-read-byte Inv-loop μ-loop
 array-read-byte c = omega arith
 
--- src/lib.rt:238:21
 byte-requires : tie.Need-byte-requires Inv-loop μ-loop
 byte-requires c κs = search needs
 
--- src/lib.rt:238:43
 array-read-byte-2 : tie.Need-array-read-byte-2 Inv-loop μ-loop
 array-read-byte-2 c = omega arith
 
--- src/lib.rt:238:38
 byte-requires-2 : tie.Need-byte-requires-2 Inv-loop μ-loop
 byte-requires-2 c κs = search needs
 
--- src/lib.rt:238:12
 is-class-requires : tie.Need-is-class-requires Inv-loop μ-loop
 is-class-requires c κs = search needs
 
--- src/lib.rt:239:13
 returns : tie.Need-returns Inv-loop μ-loop
 unfolding letters seconds
 returns c = law.class-here (c .before .before .before .before .before .before .args .c) (c .before .before .before .before .before .before .args .d) (c .before .before .before .before .before .loop .i) (c .before .before .before .before .before .loop .inv) (c .before .before .before .before .loop-test .taken) (c .before .before .before .byte .result) (c .before .before .byte2 .result) (c .before .before .before .byte .ensures) (c .before .before .byte2 .ensures) (c .before .is-class .result) (c .before .is-class .ensures) (c .if1 .taken)
 
--- src/lib.rt:241:9
 add-i : tie.Need-add-i Inv-loop μ-loop
 add-i c = omega arith
 
--- src/lib.rt:237:5
 loop-less : tie.Need-loop-less Inv-loop μ-loop
 loop-less c = omega arith
 
--- src/lib.rt:237:5
 loop-again : tie.Need-loop-again Inv-loop μ-loop
 unfolding letters seconds
 loop-again c = law.class-next (c .before .before .before .before .before .before .args .c) (c .before .before .before .before .before .before .args .d) (c .before .before .before .before .before .loop .i) (c .before .before .before .before .before .loop .inv) (c .before .before .before .before .loop-test .taken) (c .before .before .before .byte .result) (c .before .before .byte2 .result) (c .before .before .before .byte .ensures) (c .before .before .byte2 .ensures) (c .before .is-class .result) (c .before .is-class .ensures) (c .if1 .left)
 
--- src/lib.rt:231:1
 returns-2 : tie.Need-returns-2 Inv-loop μ-loop
 returns-2 c = law.class-none (c .before .before .args .c) (c .before .before .args .d) (c .before .loop .i) (c .before .loop .inv) (c .loop-test .left)
 

@@ -3,47 +3,35 @@ use Rattle.statics.specs.Scan.{codeRefusal}
 use borrow.Author.Needs.{needs}
 use Rattle.statics.proofs.code_refusal.Statement.{statement}
 use Rattle.statics.proofs.code_refusal.Tie as tie
-use Rattle.statics.proofs.code_refusal.Reads as reads
-use Rattle.statics.proofs.code_refusal.Lts as lts
-use Rattle.statics.proofs.broken.Reads as broken-reads
 
--- src/lib.rt:418:8
 broken-requires : tie.Need-broken-requires
 broken-requires c κs = search needs
 
--- src/lib.rt:419:9
 returns : tie.Need-returns
 unfolding codeRefusal
 returns c = λ ts h. rw (← c .before .broken .ensures ts h, c .if1 .taken)
 
--- src/lib.rt:421:8
 broken-requires-2 : tie.Need-broken-requires-2
 broken-requires-2 c κs = search needs
 
--- src/lib.rt:422:9
 returns-2 : tie.Need-returns-2
 unfolding codeRefusal
 returns-2 c = λ ts h. rw (← c .before .before .before .broken .ensures ts h, c .before .before .if1 .left, ← c .before .broken2 .ensures ts h, c .if2 .taken)
 
--- src/lib.rt:424:8
 broken-requires-3 : tie.Need-broken-requires-3
 broken-requires-3 c κs = search needs
 
--- src/lib.rt:425:9
 returns-3 : tie.Need-returns-3
 unfolding codeRefusal
 returns-3 c = λ ts h. rw (← c .before .before .before .before .before .broken .ensures ts h, c .before .before .before .before .if1 .left, ← c .before .before .before .broken2 .ensures ts h, c .before .before .if2 .left, ← c .before .broken3 .ensures ts h, c .if3 .taken)
 
--- src/lib.rt:427:8
 broken-requires-4 : tie.Need-broken-requires-4
 broken-requires-4 c κs = search needs
 
--- src/lib.rt:428:9
 returns-4 : tie.Need-returns-4
 unfolding codeRefusal
 returns-4 c = λ ts h. rw (← c .before .before .before .before .before .before .before .broken .ensures ts h, c .before .before .before .before .before .before .if1 .left, ← c .before .before .before .before .before .broken2 .ensures ts h, c .before .before .before .before .if2 .left, ← c .before .before .before .broken3 .ensures ts h, c .before .before .if3 .left, ← c .before .broken4 .ensures ts h, c .if4 .taken)
 
--- src/lib.rt:414:1
 returns-5 : tie.Need-returns-5
 unfolding codeRefusal
 returns-5 c = λ ts h. rw (← c .before .before .before .before .before .before .before .broken .ensures ts h, c .before .before .before .before .before .before .if1 .left, ← c .before .before .before .before .before .broken2 .ensures ts h, c .before .before .before .before .if2 .left, ← c .before .before .before .broken3 .ensures ts h, c .before .before .if3 .left, ← c .before .broken4 .ensures ts h, c .if4 .left)

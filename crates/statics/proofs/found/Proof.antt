@@ -6,10 +6,6 @@ use borrow.Author.Needs.{needs}
 use Rattle.statics.proofs.Names as law
 use Rattle.statics.proofs.found.Statement.{statement}
 use Rattle.statics.proofs.found.Tie as tie
-use Rattle.statics.proofs.found.Reads as reads
-use Rattle.statics.proofs.found.Lts as lts
-use Rattle.statics.proofs.same_name.Reads as same-name-reads
-use Rattle.statics.proofs.wide.Reads as wide-reads
 
 abbrev Inv-loop : tie.InvT-loop
 Inv-loop table a index from n i₀ i = law.FoundAt table a index from n i
@@ -17,43 +13,33 @@ Inv-loop table a index from n i₀ i = law.FoundAt table a index from n i
 abbrev μ-loop : tie.MeasureT-loop
 μ-loop table a index from n i₀ i = n - i
 
--- src/lib.rt:206:5
 loop-holds : tie.Need-loop-holds Inv-loop μ-loop
 loop-holds c = record { low = c .before .before .pre .low; on = refl }
 
--- src/lib.rt:207:37
 mul-wide : tie.Need-mul-wide Inv-loop μ-loop
 mul-wide c = let l = c .loop-test .taken in let h = c .before .before .before .before .pre .listing .few in omega arith
 
--- src/lib.rt:207:37
 shared-slice-read-wide : tie.Need-shared-slice-read-wide Inv-loop μ-loop
 shared-slice-read-wide c = let l = c .before .loop-test .taken in let h = c .before .before .before .before .before .pre .listing .few in omega arith
 
--- src/lib.rt:207:32
 wide-requires : tie.Need-wide-requires Inv-loop μ-loop
 wide-requires c κs = search needs
 
--- src/lib.rt:207:12
 same-name-requires : tie.Need-same-name-requires Inv-loop μ-loop
 same-name-requires c κs = record { left = c .before .before .before .before .before .before .pre .name; right = rw (c .wide .ensures) (c .before .before .before .before .before .before .pre .listing .each (c .before .before .before .loop .i) (c .before .before .loop-test .taken)) }
 
--- src/lib.rt:208:13
 returns : tie.Need-returns Inv-loop μ-loop
 returns c = law.found-here (now (c .before .before .before .before .before .before .before .before .args .table)) (c .before .before .before .before .before .before .before .before .args .a) (now (c .before .before .before .before .before .before .before .before .args .index)) (c .before .before .before .before .before .before .before .before .args .from) (c .before .before .before .before .before .before .before .before .args .n) (c .before .before .before .before .before .loop .i) (c .before .before .before .before .before .before .before .before .pre .listing .few) (c .before .before .before .before .before .loop .inv) (c .before .before .before .before .loop-test .taken) (c .before .before .wide .result) (c .before .before .wide .ensures) (c .before .same-name .result) (c .before .same-name .ensures) (c .if1 .taken)
 
--- src/lib.rt:210:9
 add-i : tie.Need-add-i Inv-loop μ-loop
 add-i c = let l = c .before .before .before .before .loop-test .taken in let h = c .before .before .before .before .before .before .before .before .pre .listing .few in omega arith
 
--- src/lib.rt:206:5
 loop-less : tie.Need-loop-less Inv-loop μ-loop
 loop-less c = let l = c .before .before .before .before .loop-test .taken in omega arith
 
--- src/lib.rt:206:5
 loop-again : tie.Need-loop-again Inv-loop μ-loop
 loop-again c = law.found-next (now (c .before .before .before .before .before .before .before .before .args .table)) (c .before .before .before .before .before .before .before .before .args .a) (now (c .before .before .before .before .before .before .before .before .args .index)) (c .before .before .before .before .before .before .before .before .args .from) (c .before .before .before .before .before .before .before .before .args .n) (c .before .before .before .before .before .loop .i) (c .before .before .before .before .before .before .before .before .pre .listing .few) (c .before .before .before .before .before .loop .inv) (c .before .before .before .before .loop-test .taken) (c .before .before .wide .result) (c .before .before .wide .ensures) (c .before .same-name .result) (c .before .same-name .ensures) (c .if1 .left)
 
--- src/lib.rt:201:1
 returns-2 : tie.Need-returns-2 Inv-loop μ-loop
 returns-2 c = law.not-found (now (c .before .before .before .before .args .table)) (c .before .before .before .before .args .a) (now (c .before .before .before .before .args .index)) (c .before .before .before .before .args .from) (c .before .before .before .before .args .n) (c .before .loop .i) (c .before .before .before .before .pre .listing .few) (c .before .loop .inv) (c .loop-test .left)
 

@@ -6,10 +6,6 @@ use borrow.Author.Needs.{needs}
 use Rattle.statics.proofs.Scans as law
 use Rattle.statics.proofs.heads.Statement.{statement}
 use Rattle.statics.proofs.heads.Tie as tie
-use Rattle.statics.proofs.heads.Reads as reads
-use Rattle.statics.proofs.heads.Lts as lts
-use Rattle.statics.proofs.note.Reads as note-reads
-use Rattle.statics.proofs.token_size.Reads as token-size-reads
 
 abbrev Inv-loop : tie.InvT-loop
 Inv-loop table end index₀ n₀ k₀ index n k = law.HeadsAt table end index₀ index n k
@@ -17,35 +13,27 @@ Inv-loop table end index₀ n₀ k₀ index n k = law.HeadsAt table end index₀
 abbrev μ-loop : tie.MeasureT-loop
 μ-loop table end index₀ n₀ k₀ index n k = end - k
 
--- src/lib.rt:389:5
 loop-holds : tie.Need-loop-holds Inv-loop μ-loop
 loop-holds c = law.start (now (c .before .before .args .table)) (c .before .before .args .end) (now (c .before .before .args .index))
 
--- src/lib.rt:390:9
 note-requires : tie.Need-note-requires Inv-loop μ-loop
 note-requires c κs = law.ready (now (c .before .before .before .before .before .args .table)) (c .before .before .before .before .before .args .end) (now (c .before .before .before .before .before .args .index)) (c .before .before .loop .index) (c .before .before .loop .n) (c .before .before .loop .k) (c .before .before .loop .inv) (c .before .before .before .before .before .pre) (c .before .loop-test .taken)
 
--- src/lib.rt:391:14
 token-size-requires : tie.Need-token-size-requires Inv-loop μ-loop
 token-size-requires c κs = law.ready (now (c .before .before .before .before .before .before .before .before .args .table)) (c .before .before .before .before .before .before .before .before .args .end) (now (c .before .before .before .before .before .before .before .before .args .index)) (c .before .before .before .before .before .loop .index) (c .before .before .before .before .before .loop .n) (c .before .before .before .before .before .loop .k) (c .before .before .before .before .before .loop .inv) (c .before .before .before .before .before .before .before .before .pre) (c .before .before .before .before .loop-test .taken) .fits
 
--- src/lib.rt:391:9
 add-k : tie.Need-add-k Inv-loop μ-loop
 add-k c = let q = c .token-size .ensures in omega (arith, law.ready (now (c .before .before .before .before .before .before .before .before .before .args .table)) (c .before .before .before .before .before .before .before .before .before .args .end) (now (c .before .before .before .before .before .before .before .before .before .args .index)) (c .before .before .before .before .before .before .loop .index) (c .before .before .before .before .before .before .loop .n) (c .before .before .before .before .before .before .loop .k) (c .before .before .before .before .before .before .loop .inv) (c .before .before .before .before .before .before .before .before .before .pre) (c .before .before .before .before .before .loop-test .taken) .fits)
 
--- src/lib.rt:389:5
 loop-less : tie.Need-loop-less Inv-loop μ-loop
 loop-less c = let q = c .token-size .ensures in let l = c .before .before .before .before .before .loop-test .taken in omega (arith, law.some-size (now (c .before .before .before .before .before .before .before .before .before .args .table)) (c .before .before .before .before .before .before .before .before .before .args .end) (now (c .before .before .before .before .before .before .before .before .before .args .index)) (c .before .before .before .before .before .before .loop .index) (c .before .before .before .before .before .before .loop .n) (c .before .before .before .before .before .before .loop .k) (c .before .before .before .before .before .before .loop .inv) (c .before .before .before .before .before .before .before .before .before .pre) (c .before .before .before .before .before .loop-test .taken))
 
--- src/lib.rt:389:5
 loop-again : tie.Need-loop-again Inv-loop μ-loop
 loop-again c = law.next (now (c .before .before .before .before .before .before .before .before .before .args .table)) (c .before .before .before .before .before .before .before .before .before .args .end) (now (c .before .before .before .before .before .before .before .before .before .args .index)) (c .before .before .before .before .before .before .loop .index) (c .before .before .before .before .before .before .loop .n) (c .before .before .before .before .before .before .loop .k) (c .before .before .before .before .before .before .loop .inv) (c .before .before .before .before .before .before .before .before .before .pre) (c .before .before .before .before .before .loop-test .taken) (c .before .before .before .note .result) _ (c .before .before .before .note .ensures) (c .token-size .result) (c .token-size .ensures)
 
--- src/lib.rt:383:1
 same-length : tie.Need-same-length Inv-loop μ-loop
 same-length c = c .before .loop .inv .same
 
--- src/lib.rt:383:1
 returns : tie.Need-returns Inv-loop μ-loop
 returns c = law.done (now (c .before .before .before .before .args .table)) (c .before .before .before .before .args .end) (now (c .before .before .before .before .args .index)) (c .before .loop .index) (c .before .loop .n) (c .before .loop .k) (c .before .loop .inv) (c .before .before .before .before .pre) (c .loop-test .left)
 

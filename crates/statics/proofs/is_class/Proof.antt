@@ -3,14 +3,10 @@ use borrow.Author.Tests.{eq-eqb, ne-eqb}
 use Rattle.statics.proofs.Classes.{same-letters}
 use Rattle.statics.proofs.is_class.Statement.{statement}
 use Rattle.statics.proofs.is_class.Tie as tie
-use Rattle.statics.proofs.is_class.Reads as reads
-use Rattle.statics.proofs.is_class.Lts as lts
 
--- src/lib.rt:250:9
 returns : tie.Need-returns
 returns c = sym (same-letters (c .before .args .c) (c .before .args .d) (c .before .args .x) (c .before .args .y) ∙ rw (ne-eqb _ _ (c .if1 .taken)))
 
--- src/lib.rt:246:1
 returns-2 : tie.Need-returns-2
 returns-2 c = sym (same-letters (c .before .args .c) (c .before .args .d) (c .before .args .x) (c .before .args .y) ∙ rw (eq-eqb _ _ (c .if1 .left)))
 

@@ -2,45 +2,35 @@ use borrow.Author.Tests.{eq-eqb, ne-eqb}
 use Rattle.statics.specs.Parts.{lateSort}
 use Rattle.statics.proofs.late_sort.Statement.{statement}
 use Rattle.statics.proofs.late_sort.Tie as tie
-use Rattle.statics.proofs.late_sort.Reads as reads
-use Rattle.statics.proofs.late_sort.Lts as lts
 
--- src/lib.rt:137:9
 returns : tie.Need-returns
 unfolding lateSort
 returns c = simp (eq-eqb _ _ (c .if1 .taken))
 
--- src/lib.rt:140:9
 returns-2 : tie.Need-returns-2
 unfolding lateSort
 returns-2 c = simp (ne-eqb _ _ (c .before .if1 .left), eq-eqb _ _ (c .if2 .taken))
 
--- src/lib.rt:143:9
 returns-3 : tie.Need-returns-3
 unfolding lateSort
 returns-3 c = simp (ne-eqb _ _ (c .before .before .if1 .left), ne-eqb _ _ (c .before .if2 .left), eq-eqb _ _ (c .if3 .taken))
 
--- src/lib.rt:146:9
 returns-4 : tie.Need-returns-4
 unfolding lateSort
 returns-4 c = simp (ne-eqb _ _ (c .before .before .before .if1 .left), ne-eqb _ _ (c .before .before .if2 .left), ne-eqb _ _ (c .before .if3 .left), eq-eqb _ _ (c .if4 .taken))
 
--- src/lib.rt:149:9
 returns-5 : tie.Need-returns-5
 unfolding lateSort
 returns-5 c = simp (ne-eqb _ _ (c .before .before .before .before .if1 .left), ne-eqb _ _ (c .before .before .before .if2 .left), ne-eqb _ _ (c .before .before .if3 .left), ne-eqb _ _ (c .before .if4 .left), eq-eqb _ _ (c .if5 .taken))
 
--- src/lib.rt:152:9
 returns-6 : tie.Need-returns-6
 unfolding lateSort
 returns-6 c = simp (ne-eqb _ _ (c .before .before .before .before .before .if1 .left), ne-eqb _ _ (c .before .before .before .before .if2 .left), ne-eqb _ _ (c .before .before .before .if3 .left), ne-eqb _ _ (c .before .before .if4 .left), ne-eqb _ _ (c .before .if5 .left), eq-eqb _ _ (c .if6 .taken))
 
--- src/lib.rt:155:9
 returns-7 : tie.Need-returns-7
 unfolding lateSort
 returns-7 c = simp (ne-eqb _ _ (c .before .before .before .before .before .before .if1 .left), ne-eqb _ _ (c .before .before .before .before .before .if2 .left), ne-eqb _ _ (c .before .before .before .before .if3 .left), ne-eqb _ _ (c .before .before .before .if4 .left), ne-eqb _ _ (c .before .before .if5 .left), ne-eqb _ _ (c .before .if6 .left), eq-eqb _ _ (c .if7 .taken))
 
--- src/lib.rt:133:1
 returns-8 : tie.Need-returns-8
 unfolding lateSort
 returns-8 c = simp (ne-eqb _ _ (c .before .before .before .before .before .before .if1 .left), ne-eqb _ _ (c .before .before .before .before .before .if2 .left), ne-eqb _ _ (c .before .before .before .before .if3 .left), ne-eqb _ _ (c .before .before .before .if4 .left), ne-eqb _ _ (c .before .before .if5 .left), ne-eqb _ _ (c .before .if6 .left), ne-eqb _ _ (c .if7 .left))

@@ -9,56 +9,40 @@ use Rattle.statics.proofs.Classes.{unlisted}
 use borrow.Author.Needs.{needs}
 use Rattle.statics.proofs.no_class.Statement.{statement}
 use Rattle.statics.proofs.no_class.Tie as tie
-use Rattle.statics.proofs.no_class.Reads as reads
-use Rattle.statics.proofs.no_class.Lts as lts
-use Rattle.statics.proofs.class_of.Reads as class-of-reads
-use Rattle.statics.proofs.sort.Reads as sort-reads
 
--- src/lib.rt:328:13
 mul-sort : tie.Need-mul-sort
 mul-sort c = search needs
 
--- src/lib.rt:328:13
 shared-slice-read-sort : tie.Need-shared-slice-read-sort
 shared-slice-read-sort c = law.first-in (now (c .before .before .args .table)) (c .before .before .args .k) (c .before .before .pre)
 
--- src/lib.rt:328:8
 sort-requires : tie.Need-sort-requires
 sort-requires c κs = search needs
 
--- src/lib.rt:329:9
 returns : tie.Need-returns
 returns c = law.not-class (now (c .before .before .before .before .args .table)) (c .before .before .before .before .args .k) (c .before .sort .result) (c .before .sort .ensures) (c .if1 .taken)
 
--- src/lib.rt:331:26
 add-class-of : tie.Need-add-class-of
 add-class-of c = search needs
 
--- src/lib.rt:331:20
 mul-class-of : tie.Need-mul-class-of
 mul-class-of c = search needs
 
--- src/lib.rt:331:20
 shared-slice-read-class-of : tie.Need-shared-slice-read-class-of
 shared-slice-read-class-of c = omega (arith, law.sized (now (c .before .before .before .before .before .args .table)) (c .before .before .before .before .before .args .k) (c .before .before .before .before .before .pre) (c .before .before .sort .result) 3 (c .before .before .sort .ensures) (law.size-5 _ _ (c .before .if1 .left)))
 
--- src/lib.rt:331:40
 add-class-of-2 : tie.Need-add-class-of-2
 add-class-of-2 c = search needs
 
--- src/lib.rt:331:34
 mul-class-of-2 : tie.Need-mul-class-of-2
 mul-class-of-2 c = search needs
 
--- src/lib.rt:331:34
 shared-slice-read-class-of-2 : tie.Need-shared-slice-read-class-of-2
 shared-slice-read-class-of-2 c = omega (arith, law.sized (now (c .before .before .before .before .before .before .args .table)) (c .before .before .before .before .before .before .args .k) (c .before .before .before .before .before .before .pre) (c .before .before .before .sort .result) 3 (c .before .before .before .sort .ensures) (law.size-5 _ _ (c .before .before .if1 .left)))
 
--- src/lib.rt:331:11
 class-of-requires : tie.Need-class-of-requires
 class-of-requires c κs = search needs
 
--- src/lib.rt:324:1
 returns-2 : tie.Need-returns-2
 returns-2 c = unlisted (getD (now (c .before .before .before .before .before .before .before .args .table)) ((c .before .before .before .before .before .before .before .args .k) + 1) 0) (getD (now (c .before .before .before .before .before .before .before .args .table)) ((c .before .before .before .before .before .before .before .args .k) + 2) 0) (c .class-of .result) (c .class-of .ensures) ∙ sym (ap classless (law.is-class (now (c .before .before .before .before .before .before .before .args .table)) (c .before .before .before .before .before .before .before .args .k) (c .before .before .before .before .sort .result) (c .before .before .before .before .sort .ensures) (c .before .before .before .if1 .left)))
 

@@ -6,51 +6,37 @@ use Rattle.statics.proofs.Leaf as law
 use borrow.Author.Needs.{needs}
 use Rattle.statics.proofs.runs_back.Statement.{statement}
 use Rattle.statics.proofs.runs_back.Tie as tie
-use Rattle.statics.proofs.runs_back.Reads as reads
-use Rattle.statics.proofs.runs_back.Lts as lts
-use Rattle.statics.proofs.sort.Reads as sort-reads
 
--- src/lib.rt:313:13
 mul-sort : tie.Need-mul-sort
 mul-sort c = search needs
 
--- src/lib.rt:313:13
 shared-slice-read-sort : tie.Need-shared-slice-read-sort
 shared-slice-read-sort c = law.first-in (now (c .before .before .args .table)) (c .before .before .args .k) (c .before .before .pre)
 
--- src/lib.rt:313:8
 sort-requires : tie.Need-sort-requires
 sort-requires c κs = search needs
 
--- src/lib.rt:314:9
 returns : tie.Need-returns
 returns c = law.not-range (now (c .before .before .before .before .args .table)) (c .before .before .before .before .args .k) (c .before .sort .result) (c .before .sort .ensures) (c .if1 .taken)
 
--- src/lib.rt:316:11
 add-result : tie.Need-add-result
 add-result c = search needs
 
--- src/lib.rt:316:5
 mul-result : tie.Need-mul-result
 mul-result c = search needs
 
--- src/lib.rt:316:5
 shared-slice-read-result : tie.Need-shared-slice-read-result
 shared-slice-read-result c = omega (arith, law.sized (now (c .before .before .before .before .before .args .table)) (c .before .before .before .before .before .args .k) (c .before .before .before .before .before .pre) (c .before .before .sort .result) 5 (c .before .before .sort .ensures) (law.size-4 _ _ (c .before .if1 .left)))
 
--- src/lib.rt:316:26
 add-result-2 : tie.Need-add-result-2
 add-result-2 c = search needs
 
--- src/lib.rt:316:20
 mul-result-2 : tie.Need-mul-result-2
 mul-result-2 c = search needs
 
--- src/lib.rt:316:20
 shared-slice-read-result-2 : tie.Need-shared-slice-read-result-2
 shared-slice-read-result-2 c = omega (arith, law.sized (now (c .before .before .before .before .before .before .args .table)) (c .before .before .before .before .before .before .args .k) (c .before .before .before .before .before .before .pre) (c .before .before .before .sort .result) 5 (c .before .before .before .sort .ensures) (law.size-4 _ _ (c .before .before .if1 .left)))
 
--- src/lib.rt:309:1
 returns-2 : tie.Need-returns-2
 returns-2 c = sym (ap backward (law.is-range (now (c .before .before .before .before .before .before .args .table)) (c .before .before .before .before .before .before .args .k) (c .before .before .before .sort .result) (c .before .before .before .sort .ensures) (c .before .before .if1 .left)))
 

@@ -5,9 +5,6 @@ use borrow.Author.Needs.{needs}
 use Rattle.statics.proofs.Names as law
 use Rattle.statics.proofs.same_name.Statement.{statement}
 use Rattle.statics.proofs.same_name.Tie as tie
-use Rattle.statics.proofs.same_name.Reads as reads
-use Rattle.statics.proofs.same_name.Lts as lts
-use Rattle.statics.proofs.wide.Reads as wide-reads
 
 abbrev Inv-loop : tie.InvT-loop
 Inv-loop table a b count i₀ i = law.SameAt table a b count i
@@ -15,95 +12,72 @@ Inv-loop table a b count i₀ i = law.SameAt table a b count i
 abbrev μ-loop : tie.MeasureT-loop
 μ-loop table a b count i₀ i = count - i
 
--- src/lib.rt:186:28
 add-wide : tie.Need-add-wide Inv-loop μ-loop
 add-wide c = let h = c .before .pre .left in let g = c .before .pre .right in omega arith
 
--- src/lib.rt:186:22
 mul-wide : tie.Need-mul-wide Inv-loop μ-loop
 mul-wide c = let h = c .before .pre .left in let g = c .before .pre .right in omega arith
 
--- src/lib.rt:186:22
 shared-slice-read-wide : tie.Need-shared-slice-read-wide Inv-loop μ-loop
 shared-slice-read-wide c = let h = c .before .before .pre .left in let g = c .before .before .pre .right in omega arith
 
--- src/lib.rt:186:9
 wide-requires : tie.Need-wide-requires Inv-loop μ-loop
 wide-requires c κs = search needs
 
--- src/lib.rt:187:19
 add-wide-2 : tie.Need-add-wide-2 Inv-loop μ-loop
 add-wide-2 c = let h = c .before .before .before .pre .left in let g = c .before .before .before .pre .right in omega arith
 
--- src/lib.rt:187:13
 mul-wide-2 : tie.Need-mul-wide-2 Inv-loop μ-loop
 mul-wide-2 c = let h = c .before .before .before .pre .left in let g = c .before .before .before .pre .right in omega arith
 
--- src/lib.rt:187:13
 shared-slice-read-wide-2 : tie.Need-shared-slice-read-wide-2 Inv-loop μ-loop
 shared-slice-read-wide-2 c = let h = c .before .before .before .before .pre .left in let g = c .before .before .before .before .pre .right in omega arith
 
--- src/lib.rt:187:8
 wide-requires-2 : tie.Need-wide-requires-2 Inv-loop μ-loop
 wide-requires-2 c κs = search needs
 
--- src/lib.rt:188:9
 returns : tie.Need-returns Inv-loop μ-loop
 returns c = law.differ (now (c .before .before .before .before .before .before .args .table)) (c .before .before .before .before .before .before .args .a) (c .before .before .before .before .before .before .args .b) (c .before .before .before .before .before .before .pre) (c .before .before .before .wide .result) (c .before .wide2 .result) (c .before .before .before .wide .ensures) (c .before .wide2 .ensures) (c .if1 .taken)
 
--- src/lib.rt:191:5
 loop-holds : tie.Need-loop-holds Inv-loop μ-loop
 loop-holds c = law.start (now (c .before .before .before .before .before .before .args .table)) (c .before .before .before .before .before .before .args .a) (c .before .before .before .before .before .before .args .b) (c .before .before .before .before .before .before .pre) (c .before .before .before .wide .result) (c .before .wide2 .result) (c .before .before .before .wide .ensures) (c .before .wide2 .ensures) (c .if1 .left)
 
--- src/lib.rt:192:18
 add-if2 : tie.Need-add-if2 Inv-loop μ-loop
 add-if2 c = let h = c .before .before .before .before .before .before .before .before .pre .left in let g = c .before .before .before .before .before .before .before .before .pre .right in let l = c .loop-test .taken in let x = c .before .loop .inv .left in let y = c .before .loop .inv .right in omega arith
 
--- src/lib.rt:192:18
 add-if2-2 : tie.Need-add-if2-2 Inv-loop μ-loop
 add-if2-2 c = let h = c .before .before .before .before .before .before .before .before .pre .left in let g = c .before .before .before .before .before .before .before .before .pre .right in let l = c .loop-test .taken in let x = c .before .loop .inv .left in let y = c .before .loop .inv .right in omega arith
 
--- src/lib.rt:192:12
 mul-if2 : tie.Need-mul-if2 Inv-loop μ-loop
 mul-if2 c = let h = c .before .before .before .before .before .before .before .before .pre .left in let g = c .before .before .before .before .before .before .before .before .pre .right in let l = c .loop-test .taken in let x = c .before .loop .inv .left in let y = c .before .loop .inv .right in omega arith
 
--- src/lib.rt:192:12
 shared-slice-read-if2 : tie.Need-shared-slice-read-if2 Inv-loop μ-loop
 shared-slice-read-if2 c = let h = c .before .before .before .before .before .before .before .before .before .pre .left in let g = c .before .before .before .before .before .before .before .before .before .pre .right in let l = c .before .loop-test .taken in let x = c .before .before .loop .inv .left in let y = c .before .before .loop .inv .right in omega arith
 
--- src/lib.rt:192:38
 add-if2-3 : tie.Need-add-if2-3 Inv-loop μ-loop
 add-if2-3 c = let h = c .before .before .before .before .before .before .before .before .before .pre .left in let g = c .before .before .before .before .before .before .before .before .before .pre .right in let l = c .before .loop-test .taken in let x = c .before .before .loop .inv .left in let y = c .before .before .loop .inv .right in omega arith
 
--- src/lib.rt:192:38
 add-if2-4 : tie.Need-add-if2-4 Inv-loop μ-loop
 add-if2-4 c = let h = c .before .before .before .before .before .before .before .before .before .pre .left in let g = c .before .before .before .before .before .before .before .before .before .pre .right in let l = c .before .loop-test .taken in let x = c .before .before .loop .inv .left in let y = c .before .before .loop .inv .right in omega arith
 
--- src/lib.rt:192:32
 mul-if2-2 : tie.Need-mul-if2-2 Inv-loop μ-loop
 mul-if2-2 c = let h = c .before .before .before .before .before .before .before .before .before .pre .left in let g = c .before .before .before .before .before .before .before .before .before .pre .right in let l = c .before .loop-test .taken in let x = c .before .before .loop .inv .left in let y = c .before .before .loop .inv .right in omega arith
 
--- src/lib.rt:192:32
 shared-slice-read-if2-2 : tie.Need-shared-slice-read-if2-2 Inv-loop μ-loop
 shared-slice-read-if2-2 c = let h = c .before .before .before .before .before .before .before .before .before .before .pre .left in let g = c .before .before .before .before .before .before .before .before .before .before .pre .right in let l = c .before .before .loop-test .taken in let x = c .before .before .before .loop .inv .left in let y = c .before .before .before .loop .inv .right in omega arith
 
--- src/lib.rt:193:13
 returns-2 : tie.Need-returns-2 Inv-loop μ-loop
 returns-2 c = law.parts (now (c .before .before .before .before .before .before .before .before .before .before .before .args .table)) (c .before .before .before .before .before .before .before .before .before .before .before .args .a) (c .before .before .before .before .before .before .before .before .before .before .before .args .b) (c .before .before .before .before .before .before .before .before .before .before .before .pre) (c .before .before .before .before .before .before .before .before .wide .result) (c .before .before .before .before .loop .i) (c .before .before .before .before .loop .inv) (c .before .before .before .loop-test .taken) (c .if2 .taken)
 
--- src/lib.rt:195:9
 add-i : tie.Need-add-i Inv-loop μ-loop
 add-i c = let h = c .before .before .before .before .before .before .before .before .before .before .before .pre .left in let g = c .before .before .before .before .before .before .before .before .before .before .before .pre .right in let l = c .before .before .before .loop-test .taken in let x = c .before .before .before .before .loop .inv .left in let y = c .before .before .before .before .loop .inv .right in omega arith
 
--- src/lib.rt:191:5
 loop-less : tie.Need-loop-less Inv-loop μ-loop
 loop-less c = let l = c .before .before .before .loop-test .taken in omega arith
 
--- src/lib.rt:191:5
 loop-again : tie.Need-loop-again Inv-loop μ-loop
 loop-again c = law.next (now (c .before .before .before .before .before .before .before .before .before .before .before .args .table)) (c .before .before .before .before .before .before .before .before .before .before .before .args .a) (c .before .before .before .before .before .before .before .before .before .before .before .args .b) (c .before .before .before .before .before .before .before .before .before .before .before .pre) (c .before .before .before .before .before .before .before .before .wide .result) (c .before .before .before .before .loop .i) (c .before .before .before .before .loop .inv) (c .before .before .before .loop-test .taken) (c .if2 .left)
 
--- src/lib.rt:182:1
 returns-3 : tie.Need-returns-3 Inv-loop μ-loop
 returns-3 c = law.done (now (c .before .before .before .before .before .before .before .before .args .table)) (c .before .before .before .before .before .before .before .before .args .a) (c .before .before .before .before .before .before .before .before .args .b) (c .before .before .before .before .before .before .before .before .pre) (c .before .before .before .before .before .wide .result) (c .before .loop .i) (c .before .loop .inv) (c .loop-test .left)
 

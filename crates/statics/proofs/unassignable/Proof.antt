@@ -3,29 +3,21 @@ use Rattle.plain.specs.Static.{unassignable}
 use borrow.Author.Needs.{needs}
 use Rattle.statics.proofs.unassignable.Statement.{statement}
 use Rattle.statics.proofs.unassignable.Tie as tie
-use Rattle.statics.proofs.unassignable.Reads as reads
-use Rattle.statics.proofs.unassignable.Lts as lts
-use Rattle.statics.proofs.within.Reads as within-reads
 
--- src/lib.rt:268:8
 within-requires : tie.Need-within-requires
 within-requires c κs = search needs
 
--- src/lib.rt:269:9
 returns : tie.Need-returns
 unfolding unassignable
 returns c = rw (← c .before .within .ensures, c .if1 .taken)
 
--- src/lib.rt:271:8
 within-requires-2 : tie.Need-within-requires-2
 within-requires-2 c κs = search needs
 
--- src/lib.rt:272:9
 returns-2 : tie.Need-returns-2
 unfolding unassignable
 returns-2 c = rw (← c .before .before .before .within .ensures, c .before .before .if1 .left, ← c .before .within2 .ensures, c .if2 .taken)
 
--- src/lib.rt:265:1
 returns-3 : tie.Need-returns-3
 unfolding unassignable
 returns-3 c = rw (← c .before .before .before .within .ensures, c .before .before .if1 .left, ← c .before .within2 .ensures, c .if2 .left)

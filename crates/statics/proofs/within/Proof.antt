@@ -2,14 +2,10 @@ use mathlib.Core.Path.{refl}
 use borrow.Author.Tests.{lt-leb, le-leb}
 use Rattle.statics.proofs.within.Statement.{statement}
 use Rattle.statics.proofs.within.Tie as tie
-use Rattle.statics.proofs.within.Reads as reads
-use Rattle.statics.proofs.within.Lts as lts
 
--- src/lib.rt:259:9
 returns : tie.Need-returns
 returns c = rw (lt-leb _ _ (c .if1 .taken))
 
--- src/lib.rt:255:1
 returns-2 : tie.Need-returns-2
 returns-2 c = rw (le-leb _ _ (c .if1 .left))
 
