@@ -1,0 +1,60 @@
+-- A grammar's tree in a table, and what judging it by the static rules and the size answers.
+use mathlib.Core.Bool.{Bool}
+use mathlib.Core.Path.{_≡_}
+use mathlib.Core.List.{List, _∷_}
+use Prim.Native.Nat.{ℕ, _≤_, _<_}
+use lib.Dec.{ltb}
+use lib.ListN.{length, take}
+use Rattle.text.specs.Limits.{mostSize, grammarTable}
+use Rattle.text.specs.Lists.{Text}
+use Rattle.tree.specs.Tree.{Grammar}
+use Rattle.tree.specs.Tokens.{encode, grammarTokens}
+use Rattle.syntax.specs.Syntax.{Ixml}
+use Rattle.plain.specs.Static.{undefined, duplicate, beyond, banned, backwards, unclassed}
+use Rattle.plain.specs.Plain.{size}
+use Rattle.answer.specs.Answer.{mismatched}
+use Rattle.answer.specs.Compute.{Test, test, firstOf}
+use Rattle.statics.specs.Held.{staticOf}
+use Rattle.load.specs.declared.Passed.{Passed}
+use Rattle.load.specs.declared.Judged.{Judged}
+use Rattle.load.specs.declared.Judged.the-variants.{Grammar as Accepted, Refused}
+
+-- the first numbers of the table are the tokens of a grammar text's tree
+pub record Stands (T : List ℕ) (end : ℕ) (g : Grammar) : Type 0 where
+  pub text : Text
+  pub derived : Ixml text g
+  pub held : take end T ≡ encode (grammarTokens g)
+
+pub record Standing (T : List ℕ) (end : ℕ) : Type 0 where
+  pub grammar : Grammar
+  pub stands : Stands T end grammar
+  pub within : end ≤ length T
+  pub short : length T ≤ grammarTable
+
+-- the tests from 5 to 11, and on
+abbrev pub judgeTests : Grammar → List Test → List Test
+judgeTests g ts =
+    test 5 (λ _. undefined g)
+    ∷ test 6 (λ _. duplicate g)
+    ∷ test 7 (λ _. beyond g)
+    ∷ test 8 (λ _. banned g)
+    ∷ test 9 (λ _. backwards g)
+    ∷ test 10 (λ _. unclassed g)
+    ∷ test 11 (λ _. ltb mostSize (size g))
+    ∷ ts
+
+pub record Refuses (g : Grammar) (n : ℕ) : Type 0 where
+  pub some : n ≡ 0 → ⊥
+  pub first : (ts : List Test) → firstOf (judgeTests g ts) ≡ n
+
+pub record Passes (g : Grammar) (end : ℕ) (p : Passed) : Type 0 where
+  pub tokens : p .end ≡ end
+  pub sized : p .size ≡ size g
+  pub small : size g ≤ mostSize
+  pub static : staticOf g ≡ 0
+  pub version : p .mismatch ≡ mismatched g
+  pub first : (ts : List Test) → firstOf (judgeTests g ts) ≡ firstOf ts
+
+abbrev pub Judges : List ℕ → ℕ → Judged → Type 0
+Judges T end (Accepted p) = (g : Grammar) → Stands T end g → Passes g end p
+Judges T end (Refused n) = (g : Grammar) → Stands T end g → Refuses g n
