@@ -5,3 +5,4 @@ pub mod Blocks
 pub mod Runs
 pub mod Trees
 pub mod Rules
+pub mod Scans

@@ -35,8 +35,9 @@ pub record Whole (F : List ℕ) (g : Grammar) (T : Starts) (starts : Starts) (fi
   pub bodies : Bodies F g T n (rules g) firsts
   pub spelt : (p : ℕ) → p < n → Spelt F g T p
 
-pub record Scanned (g : Grammar) (T : List ℕ) (s : State) : Type 0 where
+pub record Scanned (g : Grammar) (K T : List ℕ) (s : State) : Type 0 where
   pub state : Abs
+  pub tokens : state .tokens ≡ K
   pub rep : Rep T s state
   pub count : state .items ≡ size g
   pub starts : Starts

@@ -9,6 +9,8 @@ ghost use mathlib.Core.List.{List, [], _∷_, _++_};
 ghost use Prim.Native.Nat.{ℕ, _+_, _*_, _<_, _≤_, _^_};
 ghost use lib.ListN.{length, take, drop, getD};
 ghost use lib.Seq.{sets};
+ghost use Rattle.tree.specs.Tree.{Grammar};
+ghost use Rattle.items.specs.Scanned.{Prepared, Readable, Scanned};
 ghost use Rattle.items.specs.Machine.{dutyOf, lateDutyOf, entry, nums, entryAt, bothEnds, onceBlock, optionBlock, starBlock, restBlock, listBlock, oneBlock, oneCount, oneFirst, twoBlock, twoCount, twoFirst, laid, Room, Source, Space, Copied, Ready, Acts, kindBy};
 
 pub struct State {
@@ -328,7 +330,7 @@ fn finish(table: &mut [u32], s: State) -> State
 }
 
 // One token.
-pub fn step(table: &mut [u32], s: State, at: usize) -> State
+fn step(table: &mut [u32], s: State, at: usize) -> State
     requires { ⌜ Ready (dutyOf (getD (now table) at 0)) at (now table) s ⌝ }
     ensures { λ r. ⌜ Acts (dutyOf (getD (now (table .entry)) at 0)) at (now (table .entry)) s (now (table .exit)) r ⌝ }
 {
@@ -340,6 +342,25 @@ pub fn step(table: &mut [u32], s: State, at: usize) -> State
         Duty::Close => close(table, s),
         Duty::Finish => finish(table, s),
     }
+}
+
+// All items; names have no target yet.
+pub fn scan(table: &mut [u32], end: usize) -> State
+    requires { ⌜ Prepared (now table) end ⌝ }
+    ensures { λ r. ⌜ ((g : Grammar) → Readable (now (table .entry)) end g → Scanned g (take 12288 (now (table .entry))) (now (table .exit)) r) ⌝ }
+{
+    let mut s = State {
+        items: 0,
+        rules: 0,
+        depth: 0,
+        base: 0,
+    };
+    let mut at = 0;
+    while at < end {
+        s = step(table, s, at);
+        at = measure::token_end(table, at);
+    }
+    s
 }
 
 // The kind of an item by the first numbers of the name and of its rule's head: the mark at the use wins.
