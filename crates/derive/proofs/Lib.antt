@@ -11,3 +11,5 @@ pub mod Choose
 pub mod Another
 pub mod Ambiguous
 pub mod Examples
+pub mod Twice
+pub mod Parts

@@ -1,0 +1,10 @@
+pub mod Few
+pub mod Lines
+pub mod Alternatives
+pub mod Searches
+pub mod Steps
+pub mod Tables
+pub mod Dues
+pub mod Walks
+pub mod Crossing
+pub mod Course

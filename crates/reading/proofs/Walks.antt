@@ -1,0 +1,189 @@
+-- Where the walk stands in the chosen derivation, and that each step keeps it.
+use mathlib.Core.Path.{_≡_, refl, sym, ap, subst, _∙_}
+use mathlib.Core.Logic.{_⊎_, inl, inr, _↔_}
+use mathlib.Core.Bool.{Bool, true, false, _||_}
+use mathlib.Core.List.{List, [], _∷_, _++_, append-assoc}
+use Prim.Native.Nat.{ℕ, zero, suc, _+_, _*_, _-_, _<_, _≤_}
+use native.Mathlib.Numerals.{add-one}
+use native.Mathlib.Decide.{decLt}
+use native.Mathlib.Omega.{arith}
+use lib.Dec.{T}
+use lib.ListN.{length, getD, take, set, length-append, length-take, length-set}
+use lib.Seq.{take-suc-set}
+use Rattle.text.specs.Limits.{readingNumbers}
+use Rattle.tree.specs.Tree.{Symbol}
+use Rattle.plain.specs.Plain.{alts, width}
+use Rattle.derive.specs.Derive.{Row, end, leaf, node, alternative, Derives, d-node, d-end, leftParse, height, root}
+use Rattle.derive.specs.Chosen.{Least, Picked, ends, Chosen, ch-end, ch-leaf, ch-node}
+use Rattle.derive.specs.Another.{AnotherWay}
+use Rattle.derive.proofs.Rows.{forward}
+use Rattle.derive.proofs.Heights.{way-row, row-way, node-least}
+use Rattle.derive.proofs.Chosen.{chosen-derives}
+use Rattle.derive.proofs.Picks.{PickedRow}
+use Rattle.derive.proofs.Twice.{Twice, tw-skip, tw-place, tw-number, tw-inside, tw-later, OtherNumber, OtherPlace, twice-is}
+use Rattle.derive.proofs.Parts.{end-row, leaf-row, LeafRow, node-row, NodeRow, child-row, earliest}
+use Rattle.code.specs.Code.{kindAt, goesAt, ruleAt, behind}
+use Rattle.code.specs.Heights.{none, Says}
+use Rattle.code.proofs.Says.{says-low, low-says, says-some, some-says, rule-least, least-rule, rule-some, rule-small}
+use Rattle.reading.specs.declared.Spot.{Spot}
+use Rattle.reading.specs.declared.Alternative.{Alternative}
+use Rattle.reading.specs.Walk.{Tells, Stretch, heightAt, valueAt, Line, SomeLow, FirstLow, OtherBy, LowEnd, SomeEnd, FirstEnd, EndToo, OtherEnd, pushed, popped, skipped, crossed, entered, Entered, full, wrote, Stepped, at-end, at-terminal, at-symbol, CanEnter, CanCross, CanStep, Over}
+use Rattle.reading.specs.Answer.{Finished}
+use Rattle.reading.proofs.Lines.{line-one}
+use Rattle.reading.proofs.Tables.{position, short, value-says, Chained, RuleOf, root-rule, end-at, TerminalAt, terminal-at, SymbolAt, symbol-at}
+use Rattle.reading.proofs.Dues.{marked, unmarked, tells-by, Due, parses, DueTwice, AnyTwice, Stacked, st-none, st-more, push-due, pushed-length}
+
+module _ {c M : List ℕ} {size n top first : ℕ} (t : Finished c M size n top first) where
+  -- a second derivation, for the chosen one
+  abbrev pub Ambiguous : Row → Type 0
+  Ambiguous w = AnotherWay (t .g) (t .r) w (root (t .g) ∷ []) 0 (length (t .r))
+
+  -- the walk over the derivation w stands at h
+  pub record Going (out st : List ℕ) (h : Spot) (w : Row) : Type 0 where
+    pub row : Row
+    pub inside : h .p < size
+    pub within : h .j ≤ n
+    pub small : h .k < none
+    pub picked : PickedRow (t .g) (t .r) (h .k) (behind (t .code .dots) (h .p)) (h .i) (h .j) row
+    pub dues : List (Due t)
+    pub stacked : Stacked t st (h .deep) (h .j) dues
+    pub list : take (h .at) out ++ (leftParse row ++ parses t dues) ≡ leftParse w
+    pub marks : Ambiguous w ↔ (T (h .mark) ⊎ (Twice (t .g) (t .r) row (behind (t .code .dots) (h .p)) (h .i) (h .j) ⊎ AnyTwice t dues))
+    pub written : h .deep < h .at
+    pub most : h .at ≤ readingNumbers
+    pub room : readingNumbers ≤ length out
+    pub stack : 3 * readingNumbers ≤ length st
+
+  -- the walk is before a node of the rule e
+  pub record Before (e q : ℕ) (out st : List ℕ) (h : Spot) (w : Row) : Type 0 where
+    pub s : Symbol
+    pub rule : RuleOf t s e q
+    pub number : ℕ
+    pub children : Row
+    pub choice : Picked (t .g) (t .r) s (h .i) (h .j) number (ends children)
+    pub inside : Chosen (t .g) (t .r) children (alternative (t .g) s number) (h .i) (h .j)
+    pub within : h .j ≤ n
+    pub dues : List (Due t)
+    pub stacked : Stacked t st (h .deep) (h .j) dues
+    pub list : take (h .at) out ++ (number ∷ (leftParse children ++ parses t dues)) ≡ leftParse w
+    pub marks : Ambiguous w ↔ (T (h .mark) ⊎ (OtherNumber (t .g) (t .r) s (h .i) (h .j) number ⊎ (Twice (t .g) (t .r) children (alternative (t .g) s number) (h .i) (h .j) ⊎ AnyTwice t dues)))
+    pub written : h .deep ≤ h .at
+    pub most : h .at ≤ readingNumbers
+    pub room : readingNumbers ≤ length out
+    pub stack : 3 * readingNumbers ≤ length st
+
+  -- the walk goes on, or has met too many numbers
+  pub data Stage (out st : List ℕ) (h : Spot) (w : Row) : Type 0 where
+    goes-on : Going out st h w → Stage out st h w
+    too-long : h .at ≡ readingNumbers + 1 → readingNumbers < length (leftParse w) → readingNumbers ≤ length out → 3 * readingNumbers ≤ length st → Stage out st h w
+
+  -- the value of an alternative
+  alternative-value : {s : Symbol} {e q i j a : ℕ} {places : List ℕ} → RuleOf t s e q → Line c M n q places → i ≤ j → j ≤ n → a < length (alts (t .g) s)
+      → Says (t .g) (t .r) (alternative (t .g) s a) i j (valueAt c M n (getD places a 0) i j)
+  alternative-value {s} {e} {q} {i} {j} {a} {places} u l h k b =
+      let w = u .alternatives in
+      let v = value-says t (getD (w .places) a 0) i j (w .inside a b) h k in
+      let v' = subst (λ (ss : List Symbol). Says (t .g) (t .r) ss i j (valueAt c M n (getD (w .places) a 0) i j)) (w .is a b) v in
+      subst (λ (ps : List ℕ). Says (t .g) (t .r) (alternative (t .g) s a) i j (valueAt c M n (getD ps a 0) i j)) (line-one (w .line) l) v'
+
+  places-count : {s : Symbol} {e q : ℕ} {places : List ℕ} → RuleOf t s e q → Line c M n q places → length places ≡ length (alts (t .g) s)
+  places-count u l = ap length (line-one l (u .alternatives .line)) ∙ u .alternatives .same
+
+  -- a rule that derives the stretch has an alternative of its height
+  pub some-low : {s : Symbol} {e q i j : ℕ} → RuleOf t s e q → i ≤ j → j ≤ n → (heightAt M n e i j ≡ none → ⊥) → SomeLow c M n q i j (heightAt M n e i j)
+  some-low {s} {e} {q} {i} {j} u h k f =
+      let l = rule-least (t .g) (t .r) (u .says i j h k) f in
+      let v = node-least (t .g) (t .r) s i j (heightAt M n e i j) .0 l in
+      let y = way-row (t .g) (t .r) (v .way) in
+      let x = low-says (t .g) (t .r) (alternative-value u (u .alternatives .line) h k (v .exists)) (y .derives) in
+      record {
+        places = u .alternatives .places;
+        line = u .alternatives .line;
+        number = v .number;
+        exists = omega (arith, u .alternatives .same, v .exists);
+        low = omega (arith, y .high);
+      }
+
+  -- the alternative that is found is the chosen one
+  record Met (s : Symbol) (e q i j number : ℕ) (es : List ℕ) (p : Picked (t .g) (t .r) s i j number es) (a : Alternative) : Type 0 where
+    high : heightAt M n e i j ≡ p .high
+    small : heightAt M n e i j < none
+    same : a .number ≡ number
+    inside : a .place < size
+    is : behind (t .code .dots) (a .place) ≡ alternative (t .g) s number
+
+  met : {s : Symbol} {e q i j number : ℕ} {es : List ℕ} → RuleOf t s e q → i ≤ j → j ≤ n → (p : Picked (t .g) (t .r) s i j number es) → (a : Alternative) → FirstLow c M n q i j (heightAt M n e i j) a → Met s e q i j number es p a
+  met {s} {e} {q} {i} {j} {number} u h k p a f =
+      let y = way-row (t .g) (t .r) (p .way) in
+      let says = u .says i j h k in
+      let high : heightAt M n e i j ≡ p .high = least-rule (t .g) (t .r) says (p .lowest) in
+      let small = rule-small (t .g) (t .r) says (rule-some (t .g) (t .r) says (p .lowest .derives)) in
+      let own = low-says (t .g) (t .r) (alternative-value u (f .line) h k (p .exists)) (y .derives) in
+      let la : a .number < length (alts (t .g) s) = omega (arith, places-count u (f .line), f .exists) in
+      let low = says-low (t .g) (t .r) (heightAt M n e i j) (alternative-value {a = a .number} u (f .line) h k la) (rw (f .is) (f .low)) small in
+      let late : number ≤ a .number = earliest (t .g) (t .r) p la (low .derives) (omega (arith, low .low)) in
+      let early : a .number ≤ number = elim (decLt number (a .number)) as (λ _. a .number ≤ number) [ yes q ↦ absurd (omega (arith, f .first number q, y .high)) | no q ↦ omega arith ] in
+      let same : a .number ≡ number = omega arith in
+      let place : getD (u .alternatives .places) number 0 ≡ a .place = (λ ι. getD (line-one (u .alternatives .line) (f .line) ι) (sym same ι) 0) ∙ f .is in
+      record {
+        high = high;
+        small = small;
+        same = same;
+        inside = subst (λ (z : ℕ). z < size) place (u .alternatives .inside number (p .exists));
+        is = ap (λ (z : ℕ). behind (t .code .dots) z) (sym place) ∙ u .alternatives .is number (p .exists);
+      }
+
+  -- other alternatives, in the tables and in derivations
+  other-number : {s : Symbol} {e q i j a : ℕ} → RuleOf t s e q → i ≤ j → j ≤ n → OtherBy c M n q i j a → OtherNumber (t .g) (t .r) s i j a
+  other-number {s} u h k o =
+      let l : o .number < length (alts (t .g) s) = omega (arith, places-count u (o .line), o .exists) in
+      let v = says-some (t .g) (t .r) (alternative-value {a = o .number} u (o .line) h k l) (o .derives) in
+      record { number = o .number; exists = l; other = o .other; row = v .row; derives = v .derives }
+
+  other-by : {s : Symbol} {e q i j a : ℕ} → RuleOf t s e q → i ≤ j → j ≤ n → OtherNumber (t .g) (t .r) s i j a → OtherBy c M n q i j a
+  other-by u h k o = record {
+    places = u .alternatives .places;
+    line = u .alternatives .line;
+    number = o .number;
+    exists = omega (arith, u .alternatives .same, o .exists);
+    other = o .other;
+    derives = some-says (t .g) (t .r) (alternative-value u (u .alternatives .line) h k (o .exists)) (o .derives);
+  }
+
+  -- a node is entered
+  number-list : (out : List ℕ) (at a : ℕ) (xs ys : List ℕ) → at < length out → take at out ++ (a ∷ xs) ≡ ys → take (at + 1) (set out at a) ++ xs ≡ ys
+  number-list out at a xs ys h e = rw (add-one at, take-suc-set out at a h, append-assoc (take at out) (a ∷ []) xs) e
+
+  number-over : (out xs : List ℕ) (at a : ℕ) (ys : List ℕ) → at ≤ length out → take at out ++ (a ∷ xs) ≡ ys → at < length ys
+  number-over out xs at a ys h e = omega (arith, ap length e, length-append (take at out) (a ∷ xs), length-take at out)
+
+  enter-wrote : {e q : ℕ} {out st : List ℕ} {h : Spot} {w : Row} (B : Before e q out st h w) (a : Alternative) (b : Bool) → h .at < readingNumbers → FirstLow c M n q (h .i) (h .j) (heightAt M n e (h .i) (h .j)) a
+      → Tells b (OtherBy c M n q (h .i) (h .j) (a .number)) → Going (set out (h .at) (a .number)) st (entered h a (heightAt M n e (h .i) (h .j)) b) w
+  enter-wrote {e} {q} {out} {st} {h} {w} B a b l f o =
+      let order = forward (t .g) (t .r) (chosen-derives (t .g) (t .r) (B .inside)) in
+      let m = met (B .rule) order (B .within) (B .choice) a f in
+      let row = child-row (t .g) (t .r) (B .choice) (B .inside) in
+      let row' = subst (λ (ss : List Symbol). PickedRow (t .g) (t .r) (B .choice .high) ss (h .i) (h .j) (B .children)) (sym (m .is)) row in
+      let o' = subst (λ (z : ℕ). Tells b (OtherBy c M n q (h .i) (h .j) z)) (m .same) o in
+      let told = tells-by o' (other-number (B .rule) order (B .within)) (other-by (B .rule) order (B .within)) in
+      let marks = subst (λ (ss : List Symbol). Ambiguous w ↔ (T (h .mark) ⊎ (OtherNumber (t .g) (t .r) (B .s) (h .i) (h .j) (B .number) ⊎ (Twice (t .g) (t .r) (B .children) ss (h .i) (h .j) ⊎ AnyTwice t (B .dues))))) (sym (m .is)) (B .marks) in
+      record {
+        row = B .children;
+        inside = m .inside;
+        within = B .within;
+        small = m .small;
+        picked = subst (λ (z : ℕ). PickedRow (t .g) (t .r) z (behind (t .code .dots) (a .place)) (h .i) (h .j) (B .children)) (sym (m .high)) row';
+        dues = B .dues;
+        stacked = B .stacked;
+        list = number-list out (h .at) (a .number) (leftParse (B .children) ++ parses t (B .dues)) (leftParse w) (omega (arith, B .room)) (rw (m .same) (B .list));
+        marks = (marked (h .mark) b told (marks .0), unmarked (h .mark) b told (marks .1));
+        written = omega (arith, B .written);
+        most = omega arith;
+        room = rw (length-set out (h .at) (a .number)) (B .room);
+        stack = B .stack;
+      }
+
+  pub enter-stage : {e q : ℕ} {out out' st : List ℕ} {h r : Spot} {w : Row} → Before e q out st h w → Entered c M n e q out out' h r → Stage out' st r w
+  enter-stage {out = out} {h = h} {w = w} B (full z o p a d) =
+      rw o (too-long a (omega (arith, number-over out (leftParse (B .children) ++ parses t (B .dues)) (h .at) (B .number) (leftParse w) (omega (arith, B .room)) (B .list))) (B .room) (B .stack))
+  enter-stage B (wrote a b l f o x y) = rw (x, y) (goes-on (enter-wrote B a b l f o))

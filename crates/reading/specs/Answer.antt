@@ -1,0 +1,53 @@
+-- What the walk is given, and what it answers.
+use mathlib.Core.Path.{_≡_}
+use mathlib.Core.Logic.{_↔_}
+use mathlib.Core.Bool.{Bool}
+use mathlib.Core.List.{List}
+use Prim.Native.Nat.{ℕ, _*_, _<_, _≤_}
+use lib.Dec.{T}
+use lib.ListN.{length, take}
+use Rattle.text.specs.Limits.{readingNumbers}
+use Rattle.text.specs.Lists.{Text}
+use Rattle.tree.specs.Tree.{Grammar}
+use Rattle.derive.specs.Derive.{Row, Derivation}
+use Rattle.derive.specs.Chosen.{Second}
+use Rattle.derive.specs.Chosen.{Reading as ChosenReading}
+use Rattle.code.specs.Code.{Coded}
+use Rattle.code.specs.Heights.{Heights}
+use Rattle.reading.specs.declared.Walked.{Walked}
+use Rattle.reading.specs.declared.Walked.the-variants.{Reading, TooLong, NoReading}
+
+-- the code of a grammar on a record of n characters, and its finished main table
+pub record Finished (c M : List ℕ) (size n top first : ℕ) : Type 0 where
+  pub f : List ℕ
+  pub g : Grammar
+  pub r : Text
+  pub long : length r ≡ n
+  pub code : Coded c f g r size top first
+  pub heights : Heights c f g r size top first code M
+
+pub record Given (c M out st : List ℕ) (size n top first : ℕ) : Type 0 where
+  pub tables : Finished c M size n top first
+  pub room : readingNumbers ≤ length out
+  pub stack : 3 * readingNumbers ≤ length st
+
+-- count numbers in out are the chosen reading, and the mark says whether there is a second derivation
+pub record IsReading (g : Grammar) (r : Text) (out : List ℕ) (count : ℕ) (mark : Bool) : Type 0 where
+  pub tree : Row
+  pub parse : List ℕ
+  pub reading : ChosenReading g r tree parse
+  pub long : length parse ≡ count
+  pub short : count ≤ readingNumbers
+  pub list : take count out ≡ parse
+  pub ambiguous : T mark ↔ Second g r parse
+
+pub record IsLong (g : Grammar) (r : Text) : Type 0 where
+  pub tree : Row
+  pub parse : List ℕ
+  pub reading : ChosenReading g r tree parse
+  pub long : readingNumbers < length parse
+
+abbrev pub Answers : Grammar → Text → List ℕ → Walked → Type 0
+Answers g r out (Reading count mark) = IsReading g r out count mark
+Answers g r out TooLong = IsLong g r
+Answers g r out NoReading = (t : Row) → Derivation g r t → ⊥
