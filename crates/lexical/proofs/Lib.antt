@@ -7,3 +7,4 @@ pub mod Parts
 pub mod Words
 pub mod Uses
 pub mod Sets
+pub mod Listing

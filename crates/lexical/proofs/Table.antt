@@ -34,9 +34,12 @@ put-in o cs at k h =
 pub put-before : (o m cs : List ℕ) (at b k : ℕ) → at < length o → at < b → take b m ≡ take (at + 1) o ++ cs → take b (set m at k) ≡ take at o ++ k ∷ cs
 put-before o m cs at b k h l e = take-set-lt b m at k l ∙ rw e (put-in o cs at k h)
 
+pub two-before : (o m cs : List ℕ) (at b k l : ℕ) → at + 2 ≤ length o → at + 2 ≤ b → take b m ≡ take (at + 2) o ++ cs → take b (set (set m at k) (at + 1) l) ≡ take at o ++ k ∷ l ∷ cs
+two-before o m cs at b k l h i e =
+    let j : at + 2 ≡ at + 1 + 1 = omega arith in
+    ap (take b) (set-comm m at (at + 1) k l (λ z. omega arith))
+    ∙ put-before o (set m (at + 1) l) (l ∷ cs) at b k (omega arith) (omega arith)
+    (put-before o m cs (at + 1) b l (omega arith) (omega arith) (e ∙ ap (λ (n : ℕ). take n o ++ cs) j))
+
 pub head-before : (o m cs : List ℕ) (at b k : ℕ) → at + 2 ≤ length o → at + 2 ≤ b → take b m ≡ take (at + 2) o ++ cs → take b (headed m at k b) ≡ take at o ++ k ∷ (b - (at + 2)) ∷ cs
-head-before o m cs at b k h l e =
-    let i : at + 2 ≡ at + 1 + 1 = omega arith in
-    ap (take b) (set-comm m at (at + 1) k (b - (at + 2)) (λ z. omega arith))
-    ∙ put-before o (set m (at + 1) (b - (at + 2))) ((b - (at + 2)) ∷ cs) at b k (omega arith) (omega arith)
-    (put-before o m cs (at + 1) b (b - (at + 2)) (omega arith) (omega arith) (e ∙ ap (λ (n : ℕ). take n o ++ cs) i))
+head-before o m cs at b k = two-before o m cs at b k (b - (at + 2))

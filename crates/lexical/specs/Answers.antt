@@ -232,8 +232,9 @@ Members= t x = (n : ℕ) → length t < n → members n t ≡ x
 abbrev pub After-members : Text → ℕ → List ℕ → ℕ → Step → List ℕ → Type 0
 After-members s p o at r o' = After (λ x. Members= (drop p s) x) membersCode s p (p + 1) o at r o'
 
-abbrev pub After-set : Text → ℕ → List ℕ → ℕ → Step → List ℕ → Type 0
-After-set s p o at r o' = After (λ x. read-set (drop p s) ≡ x) (λ ms. encode (memberTokens ms)) s p (p + 1) o at r o'
+-- a set whose opening bracket is written as k
+abbrev pub After-set : ℕ → Text → ℕ → List ℕ → ℕ → Step → List ℕ → Type 0
+After-set k s p o at r o' = After (λ x. read-set (drop p s) ≡ x) (λ ms. k ∷ encode (memberTokens ms)) s p (p + 1) o at r o'
 
 -- Marks.
 pub record Mark-read (s : Text) (p q m : ℕ) : Type 0 where

@@ -526,6 +526,20 @@ fn range_head(from: Characters, out: &mut [u32], at: Cell) -> Step
     range_end(from, out, Cell(j + 1))
 }
 
+// The rest of a range, from its hyphen on.
+fn range_rest(text: &[u32], p: CharPlace, out: &mut [u32], at: Cell) -> Step
+    requires { ⌜ Room (now text) (p .0) (now out) (at .0) × (p .0 < length (now text)) ⌝ }
+    ensures { λ r. ⌜ After-rest (now (text .entry)) (p .0) (now (out .entry)) (at .0) r (now (out .exit)) ⌝ }
+{
+    let i = p.0;
+    let Past::At(u) = skip(text, CharPlace(i + 1)) else {
+        return Step::No;
+    };
+    let j = at.0;
+    let c = chars(text, u, out, Cell(j + 1));
+    spaced(text, range_end(c, out, at))
+}
+
 // Past the spacing behind characters.
 fn past_chars(text: &[u32], c: Characters) -> Past
     requires { ⌜ Chars-in (now text) c ⌝ }
@@ -536,6 +550,28 @@ fn past_chars(text: &[u32], c: Characters) -> Past
         Characters::Coded(q, _) => skip(text, q),
         Characters::No => Past::No,
     }
+}
+
+// A member that begins with characters.
+fn chars_member(text: &[u32], p: CharPlace, out: &mut [u32], at: Cell) -> Step
+    requires { ⌜ Room (now text) (p .0) (now out) (at .0) × (Capital (hd (drop (p .0) (now text))) ≡ false) ⌝ }
+    ensures { λ r. ⌜ After-member (now (text .entry)) (p .0) (now (out .entry)) (at .0) r (now (out .exit)) ⌝ }
+{
+    let j = at.0;
+    let c = chars(text, p, out, Cell(j + 2));
+    let Past::At(w) = past_chars(text, c) else {
+        return Step::No;
+    };
+    if peek(text, w) == 0x2d {
+        let Step::At(_, e) = range_head(c, out, at) else {
+            return Step::No;
+        };
+        return range_rest(text, w, out, e);
+    }
+    let Step::At(_, b) = chars_token(c, 24, 25, out, at) else {
+        return Step::No;
+    };
+    Step::At(w, b)
 }
 
 // Writes a class: its letters, 0 for a second that is not there.
@@ -564,6 +600,71 @@ fn class(text: &[u32], p: CharPlace, out: &mut [u32], at: Cell) -> Step
     }
     class_token(out, at, c, 0);
     Step::At(CharPlace(i + 1), Cell(j + 3))
+}
+
+// A member of a set, and spacing.
+fn member(text: &[u32], p: CharPlace, out: &mut [u32], at: Cell) -> Step
+    requires { ⌜ Room (now text) (p .0) (now out) (at .0) ⌝ }
+    ensures { λ r. ⌜ After-member (now (text .entry)) (p .0) (now (out .entry)) (at .0) r (now (out .exit)) ⌝ }
+{
+    if capital(peek(text, p)) {
+        return spaced(text, class(text, p, out, at));
+    }
+    chars_member(text, p, out, at)
+}
+
+// Members, with bars between them.
+fn members(text: &[u32], p: CharPlace, out: &mut [u32], at: Cell) -> Step
+    requires { ⌜ Room (now text) (p .0) (now out) (at .0) ⌝ }
+    ensures { λ r. ⌜ After-members (now (text .entry)) (p .0) (now (out .entry)) (at .0) r (now (out .exit)) ⌝ }
+{
+    let mut i = p.0;
+    let mut j = at.0;
+    loop {
+        let Step::At(q, b) = member(text, CharPlace(i), out, Cell(j)) else {
+            return Step::No;
+        };
+        if !bar(peek(text, q)) {
+            return Step::At(q, b);
+        }
+        let n = q.0;
+        let Past::At(w) = skip(text, CharPlace(n + 1)) else {
+            return Step::No;
+        };
+        i = w.0;
+        j = b.0;
+    }
+}
+
+// Members and the bracket behind them.
+fn filled_set(text: &[u32], p: CharPlace, out: &mut [u32], at: Cell) -> Step
+    requires { ⌜ Room (now text) (p .0) (now out) (at .0) ⌝ }
+    ensures { λ r. ⌜ After-filled (now (text .entry)) (p .0) (now (out .entry)) (at .0) r (now (out .exit)) ⌝ }
+{
+    let Step::At(w, b) = members(text, p, out, at) else {
+        return Step::No;
+    };
+    if peek(text, w) != 0x5d {
+        return Step::No;
+    }
+    token(text, w, 28, out, b)
+}
+
+// A set, whose opening bracket is written as k, and spacing.
+pub fn set(text: &[u32], p: CharPlace, k: u32, out: &mut [u32], at: Cell) -> Step
+    requires { ⌜ Room (now text) (p .0) (now out) (at .0) ⌝ }
+    ensures { λ r. ⌜ After-set k (now (text .entry)) (p .0) (now (out .entry)) (at .0) r (now (out .exit)) ⌝ }
+{
+    if peek(text, p) != 0x5b {
+        return Step::No;
+    }
+    let Step::At(v, b) = token(text, p, k, out, at) else {
+        return Step::No;
+    };
+    if peek(text, v) == 0x5d {
+        return token(text, v, 28, out, b);
+    }
+    filled_set(text, v, out, b)
 }
 
 // A mark and spacing, or nothing.

@@ -1,0 +1,46 @@
+use native.Mathlib.Omega.{arith}
+use Rattle.reader.proofs.Terminals.{chars-step, room-past, insertion-in, insertion-bad, inserted}
+use borrow.Author.Needs.{needs}
+use Rattle.reader.proofs.insertion.Statement.{statement}
+use Rattle.reader.proofs.insertion.Tie as tie
+
+add-t8 : tie.Need-add-t8
+add-t8 c = search needs
+
+skip-requires : tie.Need-skip-requires
+skip-requires c κs = omega (arith, insertion-in (c .before .before .args .text .now) (c .before .before .args .p .0) (c .before .before .pre .1))
+
+enum-known-q : tie.Need-enum-known-q
+enum-known-q c = search needs
+
+enum-told : tie.Need-enum-told
+enum-told c = search needs
+
+returns : tie.Need-returns
+returns c = insertion-bad (c .before .before .before .before .before .args .text .now) (c .before .before .before .before .before .args .p .0) (c .before .before .before .before .before .pre .1) (rw (c .enum-told .given .1) at (c .before .before .skip .ensures))
+
+read-chars-requires : tie.Need-read-chars-requires
+read-chars-requires c κs = room-past (c .before .before .before .before .before .before .before .args .text .now) (c .before .before .before .before .before .before .before .args .p .0) _ _ _ (c .before .before .before .before .before .before .before .pre .0) (rw (c .before .before .q .given .1) at (c .before .before .before .before .skip .ensures))
+
+spaced-requires : tie.Need-spaced-requires
+spaced-requires c κs = chars-step 29 30 (c .before .before .before .before .before .before .before .before .before .before .args .text .now) (c .before .before .before .before .before .q .given .0 .0 .0) _ _ (c .before .before .read-chars .result) _ (c .before .before .read-chars .ensures)
+
+same-length : tie.Need-same-length
+same-length c = search needs
+
+returns-2 : tie.Need-returns-2
+returns-2 c = inserted (c .before .before .before .before .before .before .before .before .before .before .before .args .text .now) (c .before .before .before .before .before .before .before .before .before .before .before .args .p .0) (c .before .before .before .before .before .before .before .before .before .before .before .pre .1) _ (rw (c .before .before .before .before .before .before .q .given .1) at (c .before .before .before .before .before .before .before .before .skip .ensures)) _ _ (c .before .before .before .read-chars .result) _ (c .spaced .result) (c .before .before .before .read-chars .ensures) (c .spaced .ensures)
+
+pub insertion-spec : {M : Type 1} → statement M
+insertion-spec =
+    tie.close
+    (tie.spec
+    add-t8
+    skip-requires
+    enum-known-q
+    enum-told
+    returns
+    read-chars-requires
+    spaced-requires
+    same-length
+    returns-2)
