@@ -1,0 +1,92 @@
+use mathlib.Core.Path.{_≡_, _∙_}
+use Prim.Native.Nat.{_-_, _+_}
+use lib.ListN.{length, drop}
+use borrow.Author.Needs.{needs}
+use Rattle.syntax.specs.Parser.{read-rule}
+use Rattle.lexical.specs.Answers.{Skipped, Read}
+use Rattle.reader.specs.Answers.{ruleCode}
+use Rattle.reader.proofs.RulesLoop.{Context, context-start, context-room, loop-bad, loop-end, loop-close, loop-none, loop-on}
+use Rattle.reader.proofs.RulesLoop as laws
+use Rattle.reader.proofs.rules.Statement.{statement}
+use Rattle.reader.proofs.rules.Tie as tie
+
+abbrev Inv-loop : tie.InvT-loop
+Inv-loop text out₀ i₀ j₀ out i j = Context text i₀ out₀ j₀ out i j
+
+abbrev μ-loop : tie.MeasureT-loop
+μ-loop text out₀ i₀ j₀ out i j = length text - i
+
+loop-holds : tie.Need-loop-holds Inv-loop μ-loop
+loop-holds c = context-start _ _ _ _ (c .before .before .pre)
+
+skip-requires : tie.Need-skip-requires Inv-loop μ-loop
+skip-requires c κs = c .loop .inv .onward .within
+
+enum-known-u : tie.Need-enum-known-u Inv-loop μ-loop
+enum-known-u c = search needs
+
+enum-told : tie.Need-enum-told Inv-loop μ-loop
+enum-told c = search needs
+
+same-length : tie.Need-same-length Inv-loop μ-loop
+same-length c = c .before .before .before .loop .inv .len
+
+returns : tie.Need-returns Inv-loop μ-loop
+returns c = loop-bad (c .before .before .before .before .before .before .args .text .now) (c .before .before .before .before .before .before .args .p .0) (c .before .before .before .before .before .before .args .out .now) (c .before .before .before .before .before .before .args .at .0) (c .before .before .before .loop .out) (c .before .before .before .loop .i) (c .before .before .before .loop .j) (c .before .before .before .loop .inv) (rw (c .enum-told .given .1) at (c .before .before .skip .ensures))
+
+same-length-2 : tie.Need-same-length-2 Inv-loop μ-loop
+same-length-2 c = c .before .before .before .before .before .loop .inv .len
+
+returns-2 : tie.Need-returns-2 Inv-loop μ-loop
+returns-2 c = let k : Skipped (c .before .before .before .before .before .before .before .before .args .text .now) (c .before .before .before .before .before .loop .i) (c .before .before .u .given .0 .0 .0) = rw (c .before .before .u .given .1) at (c .before .before .before .before .skip .ensures) in loop-end (c .before .before .before .before .before .before .before .before .args .text .now) (c .before .before .before .before .before .before .before .before .args .p .0) (c .before .before .before .before .before .before .before .before .args .out .now) (c .before .before .before .before .before .before .before .before .args .at .0) (c .before .before .before .before .before .loop .out) (c .before .before .before .before .before .loop .i) (c .before .before .before .before .before .loop .j) (c .before .before .before .before .before .loop .inv) (c .before .before .u .given .0 .0 .0) k (c .if1 .taken)
+
+same-length-3 : tie.Need-same-length-3 Inv-loop μ-loop
+same-length-3 c = c .before .before .before .before .before .before .loop .inv .len
+
+returns-3 : tie.Need-returns-3 Inv-loop μ-loop
+returns-3 c = let k : Skipped (c .before .before .before .before .before .before .before .before .before .args .text .now) (c .before .before .before .before .before .before .loop .i) (c .before .before .before .u .given .0 .0 .0) = rw (c .before .before .before .u .given .1) at (c .before .before .before .before .before .skip .ensures) in loop-close (c .before .before .before .before .before .before .before .before .before .args .text .now) (c .before .before .before .before .before .before .before .before .before .args .p .0) (c .before .before .before .before .before .before .before .before .before .args .out .now) (c .before .before .before .before .before .before .before .before .before .args .at .0) (c .before .before .before .before .before .before .loop .out) (c .before .before .before .before .before .before .loop .i) (c .before .before .before .before .before .before .loop .j) (c .before .before .before .before .before .before .loop .inv) (c .before .before .before .u .given .0 .0 .0) k (c .before .if1 .left) (c .if2 .taken)
+
+rule-requires : tie.Need-rule-requires Inv-loop μ-loop
+rule-requires c κs = let k : Skipped (c .before .before .before .before .before .before .before .before .before .before .args .text .now) (c .before .before .before .before .before .before .before .loop .i) (c .before .before .before .before .u .given .0 .0 .0) = rw (c .before .before .before .before .u .given .1) at (c .before .before .before .before .before .before .skip .ensures) in context-room (c .before .before .before .before .before .before .before .before .before .before .args .text .now) (c .before .before .before .before .before .before .before .before .before .before .args .p .0) (c .before .before .before .before .before .before .before .before .before .before .args .out .now) (c .before .before .before .before .before .before .before .before .before .before .args .at .0) (c .before .before .before .before .before .before .before .loop .out) (c .before .before .before .before .before .before .before .loop .i) (c .before .before .before .before .before .before .before .loop .j) (c .before .before .before .before .before .before .before .loop .inv) (c .before .before .before .before .u .given .0 .0 .0) (c .before .before .before .before .before .before .before .before .before .before .pre) k
+
+enum-known-w : tie.Need-enum-known-w Inv-loop μ-loop
+enum-known-w c = search needs
+
+enum-told-2 : tie.Need-enum-told-2 Inv-loop μ-loop
+enum-told-2 c = search needs
+
+same-length-4 : tie.Need-same-length-4 Inv-loop μ-loop
+same-length-4 c = (c .before .before .before .before .rule .kept .1 .1 .0) ∙ (c .before .before .before .before .before .before .before .before .before .before .before .before .loop .inv .len)
+
+returns-4 : tie.Need-returns-4 Inv-loop μ-loop
+returns-4 c = let k : Skipped (c .before .before .before .before .before .before .before .before .before .before .before .before .before .before .before .args .text .now) (c .before .before .before .before .before .before .before .before .before .before .before .before .loop .i) (c .before .before .before .before .before .before .before .before .before .u .given .0 .0 .0) = rw (c .before .before .before .before .before .before .before .before .before .u .given .1) at (c .before .before .before .before .before .before .before .before .before .before .before .skip .ensures) in loop-none (c .before .before .before .before .before .before .before .before .before .before .before .before .before .before .before .args .text .now) (c .before .before .before .before .before .before .before .before .before .before .before .before .before .before .before .args .p .0) (c .before .before .before .before .before .before .before .before .before .before .before .before .before .before .before .args .out .now) (c .before .before .before .before .before .before .before .before .before .before .before .before .before .before .before .args .at .0) (c .before .before .before .before .before .before .before .before .before .before .before .before .loop .out) (c .before .before .before .before .before .before .before .before .before .before .before .before .loop .i) (c .before .before .before .before .before .before .before .before .before .before .before .before .loop .j) (c .before .before .before .before .before .before .before .before .before .before .before .before .loop .inv) (c .before .before .before .before .before .before .before .before .before .u .given .0 .0 .0) k (c .before .before .before .before .before .before .before .if1 .left) (c .before .before .before .before .before .before .if2 .left) (rw (c .enum-told2 .given .1) at (c .before .before .before .before .rule .ensures))
+
+loop-less : tie.Need-loop-less Inv-loop μ-loop
+loop-less c = let k : Skipped (c .before .before .before .before .before .before .before .before .before .before .before .before .before .before .before .before .args .text .now) (c .before .before .before .before .before .before .before .before .before .before .before .before .before .loop .i) (c .before .before .before .before .before .before .before .before .before .before .u .given .0 .0 .0) = rw (c .before .before .before .before .before .before .before .before .before .before .u .given .1) at (c .before .before .before .before .before .before .before .before .before .before .before .before .skip .ensures) in let a : Read (λ x. read-rule (drop (c .before .before .before .before .before .before .before .before .before .before .u .given .0 .0 .0) (c .before .before .before .before .before .before .before .before .before .before .before .before .before .before .before .before .args .text .now)) ≡ x) ruleCode (c .before .before .before .before .before .before .before .before .before .before .before .before .before .before .before .before .args .text .now) (c .before .before .before .before .before .before .before .before .before .before .u .given .0 .0 .0) ((c .before .before .before .before .before .before .before .before .before .before .u .given .0 .0 .0) + 1) (c .before .before .before .before .before .before .before .before .before .before .before .before .before .loop .out) (c .before .before .before .before .before .before .before .before .before .before .before .before .before .loop .j) (c .before .before .before .before .before .rule .last .1 .1 .0) (c .before .w .given .0 .0 .0) (c .before .w .given .0 .1 .0 .0) = rw (c .before .w .given .1) at (c .before .before .before .before .before .rule .ensures) in laws.loop-less (c .before .before .before .before .before .before .before .before .before .before .before .before .before .before .before .before .args .text .now) (c .before .before .before .before .before .before .before .before .before .before .before .before .before .before .before .before .args .p .0) (c .before .before .before .before .before .before .before .before .before .before .before .before .before .before .before .before .args .out .now) (c .before .before .before .before .before .before .before .before .before .before .before .before .before .before .before .before .args .at .0) (c .before .before .before .before .before .before .before .before .before .before .before .before .before .loop .out) (c .before .before .before .before .before .before .before .before .before .before .before .before .before .loop .i) (c .before .before .before .before .before .before .before .before .before .before .before .before .before .loop .j) (c .before .before .before .before .before .before .before .before .before .before .before .before .before .loop .inv) (c .before .before .before .before .before .before .before .before .before .before .u .given .0 .0 .0) k (c .before .before .before .before .before .before .before .before .if1 .left) (c .before .before .before .before .before .rule .last .1 .1 .0) (c .before .w .given .0 .0 .0) (c .before .w .given .0 .1 .0 .0) a
+
+loop-again : tie.Need-loop-again Inv-loop μ-loop
+loop-again c = let k : Skipped (c .before .before .before .before .before .before .before .before .before .before .before .before .before .before .before .before .args .text .now) (c .before .before .before .before .before .before .before .before .before .before .before .before .before .loop .i) (c .before .before .before .before .before .before .before .before .before .before .u .given .0 .0 .0) = rw (c .before .before .before .before .before .before .before .before .before .before .u .given .1) at (c .before .before .before .before .before .before .before .before .before .before .before .before .skip .ensures) in let a : Read (λ x. read-rule (drop (c .before .before .before .before .before .before .before .before .before .before .u .given .0 .0 .0) (c .before .before .before .before .before .before .before .before .before .before .before .before .before .before .before .before .args .text .now)) ≡ x) ruleCode (c .before .before .before .before .before .before .before .before .before .before .before .before .before .before .before .before .args .text .now) (c .before .before .before .before .before .before .before .before .before .before .u .given .0 .0 .0) ((c .before .before .before .before .before .before .before .before .before .before .u .given .0 .0 .0) + 1) (c .before .before .before .before .before .before .before .before .before .before .before .before .before .loop .out) (c .before .before .before .before .before .before .before .before .before .before .before .before .before .loop .j) (c .before .before .before .before .before .rule .last .1 .1 .0) (c .before .w .given .0 .0 .0) (c .before .w .given .0 .1 .0 .0) = rw (c .before .w .given .1) at (c .before .before .before .before .before .rule .ensures) in loop-on (c .before .before .before .before .before .before .before .before .before .before .before .before .before .before .before .before .args .text .now) (c .before .before .before .before .before .before .before .before .before .before .before .before .before .before .before .before .args .p .0) (c .before .before .before .before .before .before .before .before .before .before .before .before .before .before .before .before .args .out .now) (c .before .before .before .before .before .before .before .before .before .before .before .before .before .before .before .before .args .at .0) (c .before .before .before .before .before .before .before .before .before .before .before .before .before .loop .out) (c .before .before .before .before .before .before .before .before .before .before .before .before .before .loop .i) (c .before .before .before .before .before .before .before .before .before .before .before .before .before .loop .j) (c .before .before .before .before .before .before .before .before .before .before .before .before .before .loop .inv) (c .before .before .before .before .before .before .before .before .before .before .u .given .0 .0 .0) k (c .before .before .before .before .before .before .before .before .if1 .left) (c .before .before .before .before .before .rule .last .1 .1 .0) (c .before .w .given .0 .0 .0) (c .before .w .given .0 .1 .0 .0) a (c .before .before .before .before .before .before .before .if2 .left) (c .before .before .before .before .before .rule .kept .1 .1 .0)
+
+pub rules-spec : {M : Type 1} → statement M
+rules-spec =
+    tie.close
+    (tie.spec
+    Inv-loop
+    μ-loop
+    loop-holds
+    skip-requires
+    enum-known-u
+    enum-told
+    same-length
+    returns
+    same-length-2
+    returns-2
+    same-length-3
+    returns-3
+    rule-requires
+    enum-known-w
+    enum-told-2
+    same-length-4
+    returns-4
+    loop-less
+    loop-again)
