@@ -1,6 +1,11 @@
-// A grammar's tree in a table, judged by the static rules and the size.
+// A grammar's bytes to its tree in a table, judged by refusals 1 to 11.
+use decode::Decoding;
+use reader::Reading;
+ghost use mathlib.Core.Path.{_≡_};
+ghost use lib.ListN.{length};
 ghost use Rattle.load.specs.Judged.{Standing, Judges};
-ghost use Rattle.tree.specs.Tree.{Grammar};
+ghost use Rattle.load.specs.Loaded.{Roomy, Reads, Loads, whyOf};
+ghost use Rattle.text.specs.Limits.{grammarTable};
 
 // What the later stages need to know of a grammar that passes.
 pub struct Passed {
@@ -33,4 +38,44 @@ pub fn judge(table: &[u32], end: usize) -> Judged
         size,
         mismatch,
     })
+}
+
+// The tree of a grammar's characters, judged.
+pub fn read_text(text: &[u32], table: &mut [u32]) -> Judged
+    requires { ⌜ Roomy (now text) (now table) ⌝ }
+    ensures { λ r. ⌜ Reads (now (text .entry)) (now (table .exit)) r ⌝ }
+{
+    let read = reader::read_grammar(text, table);
+    let Reading::Grammar(end) = read else {
+        return Judged::Refused(4);
+    };
+    judge(table, end.0)
+}
+
+// The refusal of a text that is not decoded.
+fn why(decoded: Decoding) -> u32
+    ensures { λ r. ⌜ r ≡ whyOf decoded ⌝ }
+{
+    match decoded {
+        Decoding::Of(_) => 0,
+        Decoding::NotUtf8 => 2,
+        Decoding::Unknown => 3,
+    }
+}
+
+// The tree of a grammar's bytes in the table, judged by refusals 1 to 11.
+pub fn load_grammar(grammar: &[u8], table: &mut [u32]) -> Judged
+    requires { ⌜ length (now table) ≡ grammarTable ⌝ }
+    ensures { λ r. ⌜ Loads (now (grammar .entry)) (now (table .exit)) r ⌝ }
+{
+    if 4096 < grammar.len() {
+        return Judged::Refused(1);
+    }
+    let mut text = [0u32; 4096];
+    let decoded = decode::decode_grammar(grammar, &mut text);
+    let Decoding::Of(count) = decoded else {
+        return Judged::Refused(why(decoded));
+    };
+    let n = count.0;
+    read_text(&text[..n], table)
 }

@@ -1,0 +1,50 @@
+-- From the stages' answers to the whole: characters, then bytes.
+use mathlib.Core.Bool.{Bool, true, false}
+use mathlib.Core.Path.{_≡_, refl, sym, subst, ap, _∙_}
+use mathlib.Core.List.{List, []}
+use Prim.Native.Nat.{ℕ, _*_, _≤_, _<_}
+use native.Mathlib.Omega.{arith}
+use lib.ListN.{length, take}
+use Rattle.text.specs.Limits.{grammarBytes, grammarTable}
+use Rattle.text.specs.Lists.{Text}
+use Rattle.tree.specs.Tree.{Grammar}
+use Rattle.syntax.specs.Parser.{Parsed, parsed, no-parse, parse}
+use Rattle.syntax.proofs.Sound.{sound}
+use Rattle.lexical.specs.declared.Cell.{Cell}
+use Rattle.reader.specs.declared.Reading.{Reading}
+use Rattle.reader.specs.declared.Reading.the-variants.{Grammar as A-grammar, NoGrammar}
+use Rattle.reader.specs.Answers.{Readable, Held, Read-as}
+use Rattle.load.specs.declared.Passed.{Passed}
+use Rattle.load.specs.declared.Judged.{Judged}
+use Rattle.load.specs.declared.Judged.the-variants.{Grammar as Accepted, Refused}
+use Rattle.load.specs.Judged.{Stands, Standing, Judges, Passes}
+use Rattle.load.specs.Loaded.{Roomy, Reads, reads-none, reads-refused, reads-grammar}
+
+pub readable : (s : Text) (T : List ℕ) → Roomy s T → Readable s T
+readable s T r = let a = r .chars in let b = r .table in record { room = omega arith; few = omega arith }
+
+pub no-tree : (s : Text) (T : List ℕ) (x : Reading) → x ≡ NoGrammar → Read-as s x T → Reads s T (Refused 4)
+no-tree s T x e h = reads-none (subst (λ (y : Reading). Read-as s y T) e h)
+
+held : (s : Text) (T : List ℕ) (x : Reading) (b : Cell) → x ≡ A-grammar b → Read-as s x T → Held s T (b .0)
+held s T x b e h = subst (λ (y : Reading). Read-as s y T) e h
+
+stands : (s : Text) (T : List ℕ) (end : ℕ) (h : Held s T end) → Stands T end (h .tree)
+stands s T end h = record { text = s; derived = sound s (h .tree) (h .same); held = h .holds }
+
+pub standing : (s : Text) (T : List ℕ) (x : Reading) (b : Cell) → x ≡ A-grammar b → Read-as s x T → length s ≤ 4096 → length T ≡ 16384 → Standing T (b .0)
+standing s T x b e h l n =
+    let w = held s T x b e h in
+    let k = w .cells in
+    record { grammar = w .tree; stands = stands s T (b .0) w; within = omega arith; short = omega arith }
+
+pub judged : (s : Text) (T : List ℕ) (x : Reading) (b : Cell) → x ≡ A-grammar b → Read-as s x T → length s ≤ 4096 → (r : Judged) → Judges T (b .0) r → Reads s T r
+judged s T x b e h l (Accepted p) j =
+    let w = held s T x b e h in
+    let q = j (w .tree) (stands s T (b .0) w) in
+    let k = w .cells in
+    let t = q .tokens in
+    reads-grammar {p = p} (record { tree = w .tree; parse = w .same; stands = subst (λ (n : ℕ). Stands T n (w .tree)) (sym t) (stands s T (b .0) w); inside = omega arith; passes = subst (λ (n : ℕ). Passes (w .tree) n p) (sym t) q })
+judged s T x b e h l (Refused n) j =
+    let w = held s T x b e h in
+    reads-refused (record { tree = w .tree; parse = w .same; refuses = j (w .tree) (stands s T (b .0) w) })

@@ -1,0 +1,45 @@
+use borrow.Author.Needs.{needs}
+use Rattle.load.proofs.Loads.{readable, no-tree, standing, judged}
+use Rattle.load.proofs.read_text.Statement.{statement}
+use Rattle.load.proofs.read_text.Tie as tie
+use Rattle.load.proofs.read_text.Reads as reads
+use Rattle.load.proofs.read_text.Lts as lts
+use Rattle.load.proofs.judge.Reads as judge-reads
+use Rattle.reader.proofs.read_grammar.Reads as read-grammar-reads
+
+read-grammar-requires : tie.Need-read-grammar-requires
+read-grammar-requires c κs = readable (c .before .before .before .args .text .now) (c .before .before .before .args .table .now) (c .before .before .before .pre)
+
+enum-known-read : tie.Need-enum-known-read
+enum-known-read c = search needs
+
+enum-told : tie.Need-enum-told
+enum-told c = search needs
+
+same-length : tie.Need-same-length
+same-length c = search needs
+
+returns : tie.Need-returns
+returns c = no-tree (c .before .before .before .before .before .before .before .before .args .text .now) (c .before .before .before .before .read-grammar .last .1 .0) (c .before .before .before .before .read-grammar .result) (c .enum-told .given .1) (c .before .before .before .before .read-grammar .ensures)
+
+judge-requires : tie.Need-judge-requires
+judge-requires c κs = standing (c .before .before .before .before .before .before .before .before .before .before .args .text .now) (c .before .before .before .before .before .before .read-grammar .last .1 .0) (c .before .before .before .before .before .before .read-grammar .result) _ (c .before .before .read .given .1) (c .before .before .before .before .before .before .read-grammar .ensures) (c .before .before .before .before .before .before .before .before .before .before .pre .chars) (search needs)
+
+same-length-2 : tie.Need-same-length-2
+same-length-2 c = search needs
+
+returns-2 : tie.Need-returns-2
+returns-2 c = judged (c .before .before .before .before .before .before .before .before .before .before .before .args .text .now) (c .before .before .before .before .before .before .before .read-grammar .last .1 .0) (c .before .before .before .before .before .before .before .read-grammar .result) _ (c .before .before .before .read .given .1) (c .before .before .before .before .before .before .before .read-grammar .ensures) (c .before .before .before .before .before .before .before .before .before .before .before .pre .chars) (c .judge .result) (c .judge .ensures)
+
+pub read-text-spec : {M : Type 1} → statement M
+read-text-spec =
+    tie.close
+    (tie.spec
+    read-grammar-requires
+    enum-known-read
+    enum-told
+    same-length
+    returns
+    judge-requires
+    same-length-2
+    returns-2)
