@@ -1,7 +1,7 @@
 -- Places of cells.
 use mathlib.Core.Path.{_≡_}
-use Prim.Native.Nat.{ℕ, zero, suc, _+_, _*_, _/_, _<_, _≤_}
-use native.Mathlib.Nat.{mul-le-mul, mul-le-mul-right, suc-mul, mul-suc, add-mul, mul-add}
+use Prim.Native.Nat.{ℕ, _+_, _*_, _<_, _≤_}
+use native.Mathlib.Nat.{mul-le-mul, add-mul, mul-add}
 use native.Mathlib.Omega.{arith}
 use Rattle.code.specs.Heights.{before, stretches, cellAt}
 

@@ -1,5 +1,5 @@
 -- A chosen row, taken apart from the left.
-use mathlib.Core.Path.{_≡_, refl, sym, ap, _∙_}
+use mathlib.Core.Path.{_≡_, refl}
 use mathlib.Core.Logic.{_⊎_, inl, inr}
 use mathlib.Core.List.{List, [], _∷_}
 use Prim.Native.Nat.{ℕ, suc, _+_, _<_, _≤_, max}
@@ -9,8 +9,8 @@ use Rattle.text.specs.Lists.{Text}
 use Rattle.tree.specs.Tree.{Terminal, Symbol, terminal, Grammar}
 use Rattle.plain.specs.Plain.{alts, width}
 use Rattle.derive.specs.Derive.{Row, end, leaf, node, alternative, Derives, height}
-use Rattle.derive.specs.Chosen.{Least, Way, w-end, w-child, NotAfter, Picked, ends, Chosen, ch-end, ch-leaf, ch-node}
-use Rattle.derive.proofs.Heights.{least-same, way-row, row-way, node-least}
+use Rattle.derive.specs.Chosen.{Least, Way, w-child, NotAfter, Picked, ends, Chosen, ch-end, ch-leaf, ch-node}
+use Rattle.derive.proofs.Heights.{least-same, row-way, node-least}
 use Rattle.derive.proofs.Picks.{PickedRow}
 
 -- after the same first place

@@ -13,7 +13,7 @@ use Rattle.derive.specs.Derive.{Row, end, leaf, node, alternative, Deriv
 use Rattle.derive.specs.Chosen.{ends}
 use Rattle.derive.specs.Another.{AnotherWay, aw-skip, aw-here, aw-inside, aw-later}
 use Rattle.derive.specs.Pick.{beside}
-use Rattle.derive.proofs.Rows.{join, split, ends-beside, single-ends}
+use Rattle.derive.proofs.Rows.{join, ends-beside, single-ends}
 use Rattle.derive.proofs.Heights.{way-row, row-way}
 
 module _ (g : Grammar) (r : Text) where

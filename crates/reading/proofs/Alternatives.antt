@@ -1,7 +1,7 @@
 -- Along the alternatives of a rule.
-use mathlib.Core.Path.{_≡_, refl, sym, ap, subst, _∙_}
+use mathlib.Core.Path.{_≡_, refl, sym, ap, subst}
 use mathlib.Core.Bool.{true, false}
-use mathlib.Core.List.{List, [], _∷_}
+use mathlib.Core.List.{List}
 use Prim.Native.Nat.{ℕ, _+_, _-_, _<_, _≤_}
 use native.Mathlib.Decide.{decLt, ℕ-discrete}
 use native.Mathlib.Omega.{arith}
@@ -9,7 +9,6 @@ use lib.ListN.{length, getD}
 use Rattle.text.specs.Limits.{mostSize}
 use Rattle.code.specs.Code.{goesAt}
 use Rattle.code.specs.Heights.{none}
-use Rattle.reading.specs.declared.Alternative.{Alternative}
 use Rattle.reading.specs.Walk.{Tells, valueAt, Position, Ends, Line, ln-last, ln-next, Lined, SomeLow, FirstLow, OtherBy}
 use Rattle.reading.proofs.Lines.{line-one, line-position, line-ends, line-drop, line-after, line-last, line-few}
 use Rattle.reading.proofs.Searches.{Unmet, unmet, unmet-next, ahead, tells-yes, tells-no}

@@ -1,9 +1,9 @@
 -- The whole course: its beginning, each step, its end, and that it ends.
 use mathlib.Core.Path.{_≡_, refl, sym, ap, subst, _∙_}
 use mathlib.Core.Logic.{_⊎_, inl, inr, _↔_}
-use mathlib.Core.Bool.{Bool, true, false, _||_}
+use mathlib.Core.Bool.{false}
 use mathlib.Core.List.{List, [], _∷_, _++_, append-nil}
-use Prim.Native.Nat.{ℕ, suc, _+_, _*_, _-_, _<_, _≤_}
+use Prim.Native.Nat.{ℕ, _+_, _*_, _-_, _<_, _≤_}
 use native.Mathlib.Nat.{mul-le-mul-right, suc-mul}
 use native.Mathlib.Decide.{decLt}
 use native.Mathlib.Omega.{arith}
@@ -13,7 +13,7 @@ use Rattle.text.specs.Limits.{readingNumbers}
 use Rattle.tree.specs.Tree.{Symbol, terminal}
 use Rattle.plain.specs.Plain.{width}
 use Rattle.derive.specs.Derive.{Row, end, leaf, node, alternative, Derives, d-end, Derivation, leftParse, root}
-use Rattle.derive.specs.Chosen.{Chosen, ch-end, ch-leaf, ch-node, Second}
+use Rattle.derive.specs.Chosen.{Chosen, ch-end, ch-node}
 use Rattle.derive.specs.Chosen.{Reading as ChosenReading}
 use Rattle.derive.proofs.Rows.{forward}
 use Rattle.derive.proofs.Chosen.{chosen-derives}
@@ -21,11 +21,11 @@ use Rattle.derive.proofs.Picks.{PickedRow, chosen-exists}
 use Rattle.derive.proofs.Another.{second-is}
 use Rattle.derive.proofs.Twice.{Twice, tw-skip, tw-place, tw-number, tw-inside, tw-later, OtherNumber, OtherPlace, twice-is}
 use Rattle.derive.proofs.Parts.{end-row, leaf-row}
-use Rattle.code.specs.Code.{kindAt, goesAt, ruleAt, behind}
+use Rattle.code.specs.Code.{kindAt, behind}
 use Rattle.code.specs.Heights.{none}
 use Rattle.code.proofs.Says.{rule-least, rule-some}
 use Rattle.reading.specs.declared.Spot.{Spot}
-use Rattle.reading.specs.Walk.{Stretch, heightAt, popped, skipped, crossed, Entered, full, wrote, Stepped, at-end, at-terminal, at-symbol, CanEnter, CanStep, Over}
+use Rattle.reading.specs.Walk.{heightAt, popped, skipped, full, wrote, Stepped, at-end, at-terminal, at-symbol, CanEnter, CanStep, Over}
 use Rattle.reading.specs.Answer.{Finished, IsReading, IsLong}
 use Rattle.reading.proofs.Tables.{position, short, root-rule, end-at, terminal-at}
 use Rattle.reading.proofs.Dues.{Due, parses, AnyTwice, Stacked, st-none, st-more}

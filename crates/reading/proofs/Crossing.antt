@@ -1,18 +1,16 @@
 -- At a symbol: the end place that is found is the chosen one, and the rest of the row is put off.
-use mathlib.Core.Path.{_≡_, refl, sym, ap, subst, _∙_}
+use mathlib.Core.Path.{_≡_, subst}
 use mathlib.Core.Logic.{_⊎_, inl, inr, _↔_}
-use mathlib.Core.Bool.{Bool, _||_}
-use mathlib.Core.List.{List, [], _∷_, _++_, append-assoc}
+use mathlib.Core.Bool.{Bool}
+use mathlib.Core.List.{List, _∷_, _++_, append-assoc}
 use Prim.Native.Nat.{ℕ, suc, _+_, _*_, _<_, _≤_}
 use native.Mathlib.Decide.{decLt}
 use native.Mathlib.Omega.{arith}
 use lib.Dec.{T}
 use lib.ListN.{length, take}
 use Rattle.text.specs.Lists.{Text}
-use Rattle.text.specs.Limits.{readingNumbers}
 use Rattle.tree.specs.Tree.{Symbol, Grammar}
 use Rattle.derive.specs.Derive.{Row, node, alternative, leftParse}
-use Rattle.derive.specs.Chosen.{Picked}
 use Rattle.derive.proofs.Rows.{forward}
 use Rattle.derive.proofs.Heights.{way-row, row-way}
 use Rattle.derive.proofs.Chosen.{chosen-derives}
@@ -23,10 +21,10 @@ use Rattle.code.specs.Code.{kindAt, goesAt, ruleAt, behind}
 use Rattle.code.specs.Heights.{none}
 use Rattle.code.proofs.Says.{says-low, low-says, says-some, some-says, rule-least, least-rule, rule-some}
 use Rattle.reading.specs.declared.Spot.{Spot}
-use Rattle.reading.specs.Walk.{Tells, heightAt, valueAt, LowEnd, SomeEnd, FirstEnd, EndToo, OtherEnd, pushed, crossed, CanCross}
+use Rattle.reading.specs.Walk.{Tells, heightAt, LowEnd, SomeEnd, FirstEnd, OtherEnd, pushed, crossed, CanCross}
 use Rattle.reading.specs.Answer.{Finished}
-use Rattle.reading.proofs.Tables.{position, value-says, RuleOf, SymbolAt, symbol-at}
-use Rattle.reading.proofs.Dues.{marked, unmarked, tells-by, Due, parses, AnyTwice, Stacked, push-due, pushed-length}
+use Rattle.reading.proofs.Tables.{position, value-says, SymbolAt, symbol-at}
+use Rattle.reading.proofs.Dues.{marked, unmarked, tells-by, Due, parses, AnyTwice, push-due, pushed-length}
 use Rattle.reading.proofs.Walks.{Ambiguous, Going, Before, some-low}
 
 -- a node has another place, another alternative, or another way inside or later

@@ -1,12 +1,12 @@
 -- Rows of alternatives in the code: a first position has one, and it is no longer than a grammar's size.
 use mathlib.Core.Path.{_≡_, refl, sym, ap, subst, _∙_}
-use mathlib.Core.List.{List, [], _∷_}
-use Prim.Native.Nat.{ℕ, zero, suc, _+_, _*_, _-_, _<_, _≤_}
+use mathlib.Core.List.{List, _∷_}
+use Prim.Native.Nat.{ℕ, zero, suc, _+_, _-_, _<_, _≤_}
 use native.Mathlib.Decide.{decLt}
 use native.Mathlib.Omega.{arith}
 use lib.ListN.{length, getD, drop, length-drop}
 use Rattle.text.specs.Limits.{mostSize}
-use Rattle.code.specs.Code.{kindAt, goesAt}
+use Rattle.code.specs.Code.{goesAt}
 use Rattle.reading.specs.Walk.{Position, Ends, Line, ln-last, ln-next}
 use Rattle.reading.proofs.Few.{few}
 

@@ -2,14 +2,13 @@
 use mathlib.Core.Path.{_≡_, refl, sym, subst}
 use mathlib.Core.Bool.{Bool, true, false, not}
 use mathlib.Core.List.{List}
-use Prim.Native.Nat.{ℕ, _+_, _*_, _<_, _≤_}
+use Prim.Native.Nat.{ℕ, _+_, _<_, _≤_}
 use native.Mathlib.Decide.{decLt, ℕ-discrete}
 use native.Mathlib.Omega.{arith}
 use lib.Dec.{leb, eqb}
 use borrow.Author.Tests.{leb-true, le-leb, not-true, eqb-false, ne-eqb}
-use lib.ListN.{length}
 use Rattle.code.specs.Code.{kindAt}
-use Rattle.reading.specs.Walk.{Tells, Ends, LowEnd, SomeEnd, FirstEnd, EndToo, OtherEnd}
+use Rattle.reading.specs.Walk.{Tells, Ends}
 
 never : {P : Type 0} (b : Bool) → b ≡ true → b ≡ false → P
 never b e f = absurd (let z : _≡_ {A = ℕ} 0 1 = cc in omega arith)

@@ -1,6 +1,5 @@
 -- What the tables of a grammar and a record say: values of positions, rules, and rows of alternatives.
 use mathlib.Core.Path.{_≡_, refl, sym, ap, subst, _∙_}
-use mathlib.Core.Bool.{Bool, true, false}
 use mathlib.Core.List.{List, [], _∷_}
 use Prim.Native.Nat.{ℕ, zero, suc, _+_, _*_, _<_, _≤_}
 use native.Mathlib.Nat.{mul-le-mul-right}
@@ -9,8 +8,7 @@ use native.Mathlib.Omega.{arith}
 use lib.Dec.{eqb}
 use borrow.Author.Tests.{eq-eqb, ne-eqb}
 use lib.ListN.{length, getD}
-use Rattle.text.specs.Lists.{Text}
-use Rattle.tree.specs.Tree.{Terminal, Symbol, terminal, Grammar}
+use Rattle.tree.specs.Tree.{Terminal, Symbol, terminal}
 use Rattle.plain.specs.Plain.{alts, width}
 use Rattle.derive.specs.Derive.{root}
 use Rattle.code.specs.Code.{kindAt, goesAt, ruleAt, ownerAt, behind, headOf, Stands, at-end, at-terminal, at-symbol, Chain, ch-last, ch-next}

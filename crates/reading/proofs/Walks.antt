@@ -1,9 +1,9 @@
 -- Where the walk stands in the chosen derivation, and that each step keeps it.
-use mathlib.Core.Path.{_≡_, refl, sym, ap, subst, _∙_}
-use mathlib.Core.Logic.{_⊎_, inl, inr, _↔_}
-use mathlib.Core.Bool.{Bool, true, false, _||_}
+use mathlib.Core.Path.{_≡_, sym, ap, subst, _∙_}
+use mathlib.Core.Logic.{_⊎_, _↔_}
+use mathlib.Core.Bool.{Bool}
 use mathlib.Core.List.{List, [], _∷_, _++_, append-assoc}
-use Prim.Native.Nat.{ℕ, zero, suc, _+_, _*_, _-_, _<_, _≤_}
+use Prim.Native.Nat.{ℕ, _+_, _*_, _-_, _<_, _≤_}
 use native.Mathlib.Numerals.{add-one}
 use native.Mathlib.Decide.{decLt}
 use native.Mathlib.Omega.{arith}
@@ -12,26 +12,26 @@ use lib.ListN.{length, getD, take, set, length-append, length-take, length-set}
 use lib.Seq.{take-suc-set}
 use Rattle.text.specs.Limits.{readingNumbers}
 use Rattle.tree.specs.Tree.{Symbol}
-use Rattle.plain.specs.Plain.{alts, width}
-use Rattle.derive.specs.Derive.{Row, end, leaf, node, alternative, Derives, d-node, d-end, leftParse, height, root}
-use Rattle.derive.specs.Chosen.{Least, Picked, ends, Chosen, ch-end, ch-leaf, ch-node}
+use Rattle.plain.specs.Plain.{alts}
+use Rattle.derive.specs.Derive.{Row, node, alternative, leftParse, height, root}
+use Rattle.derive.specs.Chosen.{Picked, ends, Chosen}
 use Rattle.derive.specs.Another.{AnotherWay}
 use Rattle.derive.proofs.Rows.{forward}
-use Rattle.derive.proofs.Heights.{way-row, row-way, node-least}
+use Rattle.derive.proofs.Heights.{way-row, node-least}
 use Rattle.derive.proofs.Chosen.{chosen-derives}
 use Rattle.derive.proofs.Picks.{PickedRow}
-use Rattle.derive.proofs.Twice.{Twice, tw-skip, tw-place, tw-number, tw-inside, tw-later, OtherNumber, OtherPlace, twice-is}
-use Rattle.derive.proofs.Parts.{end-row, leaf-row, LeafRow, node-row, NodeRow, child-row, earliest}
-use Rattle.code.specs.Code.{kindAt, goesAt, ruleAt, behind}
+use Rattle.derive.proofs.Twice.{Twice, OtherNumber}
+use Rattle.derive.proofs.Parts.{child-row, earliest}
+use Rattle.code.specs.Code.{behind}
 use Rattle.code.specs.Heights.{none, Says}
 use Rattle.code.proofs.Says.{says-low, low-says, says-some, some-says, rule-least, least-rule, rule-some, rule-small}
 use Rattle.reading.specs.declared.Spot.{Spot}
 use Rattle.reading.specs.declared.Alternative.{Alternative}
-use Rattle.reading.specs.Walk.{Tells, Stretch, heightAt, valueAt, Line, SomeLow, FirstLow, OtherBy, LowEnd, SomeEnd, FirstEnd, EndToo, OtherEnd, pushed, popped, skipped, crossed, entered, Entered, full, wrote, Stepped, at-end, at-terminal, at-symbol, CanEnter, CanCross, CanStep, Over}
+use Rattle.reading.specs.Walk.{Tells, heightAt, valueAt, Line, SomeLow, FirstLow, OtherBy, entered, Entered, full, wrote}
 use Rattle.reading.specs.Answer.{Finished}
 use Rattle.reading.proofs.Lines.{line-one}
-use Rattle.reading.proofs.Tables.{position, short, value-says, Chained, RuleOf, root-rule, end-at, TerminalAt, terminal-at, SymbolAt, symbol-at}
-use Rattle.reading.proofs.Dues.{marked, unmarked, tells-by, Due, parses, DueTwice, AnyTwice, Stacked, st-none, st-more, push-due, pushed-length}
+use Rattle.reading.proofs.Tables.{value-says, RuleOf}
+use Rattle.reading.proofs.Dues.{marked, unmarked, tells-by, Due, parses, AnyTwice, Stacked}
 
 module _ {c M : List ℕ} {size n top first : ℕ} (t : Finished c M size n top first) where
   -- a second derivation, for the chosen one

@@ -5,9 +5,6 @@ use lib.ListN.{length}
 use Rattle.reading.proofs.Searches.{Unmet, unmet, unmet-next, EndIs, end-ahead, end-found}
 use Rattle.reading.proofs.alternative_end.Statement.{statement}
 use Rattle.reading.proofs.alternative_end.Tie as tie
-use Rattle.reading.proofs.alternative_end.Reads as reads
-use Rattle.reading.proofs.alternative_end.Lts as lts
-use Rattle.reading.proofs.look.Reads as look-reads
 
 abbrev Inv-loop : tie.InvT-loop
 Inv-loop code q p₀ p = Unmet (EndIs code) q p
@@ -15,31 +12,24 @@ Inv-loop code q p₀ p = Unmet (EndIs code) q p
 abbrev μ-loop : tie.MeasureT-loop
 μ-loop code q p₀ p = length code - p
 
--- src/lib.rt:93:5
 loop-holds : tie.Need-loop-holds Inv-loop μ-loop
 loop-holds c = unmet (c .before .args .q)
 
--- src/lib.rt:93:22
 mul-look : tie.Need-mul-look Inv-loop μ-loop
 mul-look c = omega (arith, end-ahead (c .before .before .pre .1) (c .loop .inv), c .before .before .pre .1 .inside)
 
--- src/lib.rt:93:11
 look-requires : tie.Need-look-requires Inv-loop μ-loop
 look-requires c κs = omega (arith, end-ahead (c .before .before .pre .1) (c .loop .inv), c .before .before .pre .1 .inside)
 
--- src/lib.rt:94:9
 add-p : tie.Need-add-p Inv-loop μ-loop
 add-p c = omega (arith, end-ahead (c .before .before .before .before .pre .1) (c .before .before .loop .inv), c .before .before .before .before .pre .1 .inside)
 
--- src/lib.rt:93:5
 loop-less : tie.Need-loop-less Inv-loop μ-loop
 loop-less c = omega (arith, end-ahead (c .before .before .before .before .pre .1) (c .before .before .loop .inv), c .before .before .before .before .pre .1 .inside)
 
--- src/lib.rt:93:5
 loop-again : tie.Need-loop-again Inv-loop μ-loop
 loop-again c = unmet-next (c .before .before .loop .inv) (λ e. c .if1 .taken (c .before .look .ensures .0 ∙ e))
 
--- src/lib.rt:88:1
 returns : tie.Need-returns Inv-loop μ-loop
 returns c = end-found (c .before .before .before .before .pre .1) (c .before .before .loop .inv) (sym (c .before .look .ensures .0) ∙ c .if1 .left)
 

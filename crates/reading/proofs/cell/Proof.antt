@@ -4,42 +4,31 @@ use Rattle.code.proofs.Cells.{product-le}
 use borrow.Author.Needs.{needs}
 use Rattle.reading.proofs.cell.Statement.{statement}
 use Rattle.reading.proofs.cell.Tie as tie
-use Rattle.reading.proofs.cell.Reads as reads
-use Rattle.reading.proofs.cell.Lts as lts
 
--- src/lib.rt:62:18
 add-width : tie.Need-add-width
 add-width c = search needs
 
--- src/lib.rt:62:28
 add-width-2 : tie.Need-add-width-2
 add-width-2 c = search needs
 
--- src/lib.rt:62:17
 mul-width : tie.Need-mul-width
 mul-width c = let a = c .args in let k = product-le (a .n + 1) (a .n + 2) 121 122 (omega arith) (omega arith) in omega arith
 
--- src/lib.rt:63:5
 mul-result : tie.Need-mul-result
 mul-result c = let a = c .args in let k = product-le (a .n + 1) (a .n + 2) 121 122 (omega arith) (omega arith) in let l = product-le (a .p) ((a .n + 1) * (a .n + 2) / 2) 512 7381 (omega arith) (omega arith) in omega arith
 
--- src/lib.rt:63:22
 add-result : tie.Need-add-result
 add-result c = search needs
 
--- src/lib.rt:63:17
 mul-result-2 : tie.Need-mul-result-2
 mul-result-2 c = let a = c .args in let k = product-le (a .j) (a .j + 1) 120 121 (omega arith) (omega arith) in omega arith
 
--- src/lib.rt:63:5
 add-result-2 : tie.Need-add-result-2
 add-result-2 c = let a = c .args in let k = product-le (a .n + 1) (a .n + 2) 121 122 (omega arith) (omega arith) in let l = product-le (a .p) ((a .n + 1) * (a .n + 2) / 2) 512 7381 (omega arith) (omega arith) in let m = product-le (a .j) (a .j + 1) 120 121 (omega arith) (omega arith) in omega arith
 
--- src/lib.rt:63:5
 add-result-3 : tie.Need-add-result-3
 add-result-3 c = let a = c .args in let k = product-le (a .n + 1) (a .n + 2) 121 122 (omega arith) (omega arith) in let l = product-le (a .p) ((a .n + 1) * (a .n + 2) / 2) 512 7381 (omega arith) (omega arith) in let m = product-le (a .j) (a .j + 1) 120 121 (omega arith) (omega arith) in omega arith
 
--- src/lib.rt:58:1
 returns : tie.Need-returns
 returns c = search needs
 

@@ -2,84 +2,58 @@ use Rattle.reading.proofs.Steps.{can-find, can-other, can-enter, steppe
 use borrow.Author.Needs.{needs}
 use Rattle.reading.proofs.cross.Statement.{statement}
 use Rattle.reading.proofs.cross.Tie as tie
-use Rattle.reading.proofs.cross.Reads as reads
-use Rattle.reading.proofs.cross.Lts as lts
-use Rattle.reading.proofs.either.Reads as either-reads
-use Rattle.reading.proofs.enter.Reads as enter-reads
-use Rattle.reading.proofs.find_end.Reads as find-end-reads
-use Rattle.reading.proofs.look.Reads as look-reads
-use Rattle.reading.proofs.other_end.Reads as other-end-reads
-use Rattle.reading.proofs.push.Reads as push-reads
 
--- src/lib.rt:270:24
 mul-look : tie.Need-mul-look
 mul-look c = search needs
 
--- src/lib.rt:270:24
 add-look : tie.Need-add-look
 add-look c = search needs
 
--- src/lib.rt:270:9
 look-requires : tie.Need-look-requires
 look-requires c κs = search needs
 
--- src/lib.rt:271:24
 mul-look-2 : tie.Need-mul-look-2
 mul-look-2 c = search needs
 
--- src/lib.rt:271:24
 add-look-2 : tie.Need-add-look-2
 add-look-2 c = search needs
 
--- src/lib.rt:271:9
 look-requires-2 : tie.Need-look-requires-2
 look-requires-2 c κs = search needs
 
--- src/lib.rt:272:37
 add-find-end : tie.Need-add-find-end
 add-find-end c = search needs
 
--- src/lib.rt:272:9
 find-end-requires : tie.Need-find-end-requires
 find-end-requires c κs = can-find (c .before .before .before .before .before .before .pre .0) (c .before .before .before .before .before .before .pre .1 .0) (c .before .before .before .before .before .before .pre .1 .1) (c .before .look .result) (c .before .look .ensures .0)
 
--- src/lib.rt:273:42
 add-other-end : tie.Need-add-other-end
 add-other-end c = search needs
 
--- src/lib.rt:273:9
 other-end-requires : tie.Need-other-end-requires
 other-end-requires c κs = can-other (c .before .before .before .before .before .before .before .pre .0) (c .before .before .before .before .before .before .before .pre .1 .0) (c .before .before .before .before .before .before .before .pre .1 .1) (c .before .before .look .result) (c .before .before .look .ensures .0)
 
--- src/lib.rt:274:25
 add-push : tie.Need-add-push
 add-push c = search needs
 
--- src/lib.rt:274:5
 push-requires : tie.Need-push-requires
 push-requires c κs = search needs
 
--- src/lib.rt:281:15
 add-t16 : tie.Need-add-t16
 add-t16 c = search needs
 
--- src/lib.rt:282:15
 either-requires : tie.Need-either-requires
 either-requires c κs = search needs
 
--- src/lib.rt:284:5
 enter-requires : tie.Need-enter-requires
 enter-requires c κs = can-enter (c .before .before .before .before .before .before .before .before .before .before .before .before .before .before .before .pre .0) (c .before .before .before .before .before .before .before .before .before .before .before .before .before .before .before .pre .1 .0) (c .before .before .before .before .before .before .before .before .before .before .before .before .before .before .before .pre .1 .1) (c .before .before .before .before .before .before .before .before .before .before .look .result) (c .before .before .before .before .before .before .before .before .before .before .look .ensures .0) (c .before .before .before .before .before .before .before .before .before .look2 .result) (c .before .before .before .before .before .before .before .before .find-end .result) (c .before .either .result) (c .before .before .before .before .before .before .before .before .before .look2 .ensures .0) (c .before .before .before .before .before .before .before .before .find-end .ensures)
 
--- src/lib.rt:263:1
 same-length : tie.Need-same-length
 same-length c = search needs
 
--- src/lib.rt:263:1
 same-length-2 : tie.Need-same-length-2
 same-length-2 c = search needs
 
--- src/lib.rt:263:1
 returns : tie.Need-returns
 returns c = stepped (c .before .before .before .before .before .before .before .before .before .before .before .before .before .before .before .before .before .before .pre .0) (c .before .before .before .before .before .before .before .before .before .before .before .before .before .before .before .before .before .before .pre .1 .0) (c .before .before .before .before .before .before .before .before .before .before .before .before .before .before .before .before .before .before .pre .1 .1) (c .before .before .before .before .before .before .before .before .before .before .before .before .before .look .result) (c .before .before .before .before .before .before .before .before .before .before .before .before .before .look .ensures .0) (c .before .before .before .before .before .before .before .before .before .before .before .before .look2 .result) (c .before .before .before .before .before .before .before .before .before .before .before .find-end .result) (c .before .before .before .before .before .before .before .before .before .before .other-end .result) (c .before .before .before .before .either .result) (c .before .before .before .before .before .before .before .before .before .before .before .before .look2 .ensures .0) (c .before .before .before .before .before .before .before .before .before .before .before .find-end .ensures) (c .before .before .before .before .before .before .before .before .before .before .other-end .ensures) (c .before .before .before .before .before .before .before .before .push .ensures) (c .before .before .before .before .either .ensures) (c .before .before .enter .ensures)
 

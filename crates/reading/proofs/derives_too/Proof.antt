@@ -3,19 +3,13 @@ use Rattle.reading.proofs.Searches.{tells-no, tells-ne}
 use borrow.Author.Needs.{needs}
 use Rattle.reading.proofs.derives_too.Statement.{statement}
 use Rattle.reading.proofs.derives_too.Tie as tie
-use Rattle.reading.proofs.derives_too.Reads as reads
-use Rattle.reading.proofs.derives_too.Lts as lts
-use Rattle.reading.proofs.value.Reads as value-reads
 
--- src/lib.rt:126:9
 returns : tie.Need-returns
 returns c = tells-no (λ w. w .0 (c .if1 .taken))
 
--- src/lib.rt:128:5
 value-requires : tie.Need-value-requires
 value-requires c κs = search needs
 
--- src/lib.rt:121:1
 returns-2 : tie.Need-returns-2
 returns-2 c = tells-ne (c .value .result) 4294967295 (λ f. (c .before .if1 .left, λ e. f (c .value .ensures ∙ e))) (λ w e. w .1 (sym (c .value .ensures) ∙ e))
 

@@ -3,28 +3,19 @@ use Rattle.reading.proofs.Searches.{tells-no, tells-ne}
 use borrow.Author.Needs.{needs}
 use Rattle.reading.proofs.end_too.Statement.{statement}
 use Rattle.reading.proofs.end_too.Tie as tie
-use Rattle.reading.proofs.end_too.Reads as reads
-use Rattle.reading.proofs.end_too.Lts as lts
-use Rattle.reading.proofs.height.Reads as height-reads
-use Rattle.reading.proofs.value.Reads as value-reads
 
--- src/lib.rt:176:9
 returns : tie.Need-returns
 returns c = tells-no (λ w. w .other (c .if1 .taken))
 
--- src/lib.rt:178:8
 height-requires : tie.Need-height-requires
 height-requires c κs = search needs
 
--- src/lib.rt:179:9
 returns-2 : tie.Need-returns-2
 returns-2 c = tells-no (λ w. w .one (sym (c .before .height .ensures) ∙ c .if2 .taken))
 
--- src/lib.rt:181:5
 value-requires : tie.Need-value-requires
 value-requires c κs = search needs
 
--- src/lib.rt:171:1
 returns-3 : tie.Need-returns-3
 returns-3 c = tells-ne (c .value .result) 4294967295 (λ f. record { other = c .before .before .before .if1 .left; one = λ e. c .before .if2 .left (c .before .before .height .ensures ∙ e); others = λ e. f (c .value .ensures ∙ e) }) (λ w e. w .others (sym (c .value .ensures) ∙ e))
 

@@ -7,58 +7,40 @@ use Rattle.reading.proofs.Lines.{line-few}
 use borrow.Author.Needs.{needs}
 use Rattle.reading.proofs.enter.Statement.{statement}
 use Rattle.reading.proofs.enter.Tie as tie
-use Rattle.reading.proofs.enter.Reads as reads
-use Rattle.reading.proofs.enter.Lts as lts
-use Rattle.reading.proofs.either.Reads as either-reads
-use Rattle.reading.proofs.find_alternative.Reads as find-alternative-reads
-use Rattle.reading.proofs.height.Reads as height-reads
-use Rattle.reading.proofs.other_alternative.Reads as other-alternative-reads
 
--- src/lib.rt:242:17
 add-t15 : tie.Need-add-t15
 add-t15 c = search needs
 
--- src/lib.rt:237:9
 returns : tie.Need-returns
 returns c = full (omega (arith, c .before .before .before .before .pre .most)) refl refl (omega (arith, c .before .before .before .before .pre .most)) refl
 
--- src/lib.rt:247:9
 height-requires : tie.Need-height-requires
 height-requires c κs = search needs
 
--- src/lib.rt:248:9
 find-alternative-requires : tie.Need-find-alternative-requires
 find-alternative-requires c κs = let a = c .before .before .before .before .before .args in (c .before .before .before .before .before .pre .stretch, subst (λ (z : ℕ). SomeLow (now (a .code)) (now (a .main)) (a .n) (a .q) (a .h .i) (a .h .j) z) (sym (c .height .ensures)) (c .before .before .before .before .before .pre .some))
 
--- src/lib.rt:249:9
 other-alternative-requires : tie.Need-other-alternative-requires
 other-alternative-requires c κs = search needs
 
--- src/lib.rt:250:15
 cast-out : tie.Need-cast-out
 cast-out c = omega (arith, c .before .before .find-alternative .ensures .exists, line-few (c .before .before .find-alternative .ensures .line))
 
--- src/lib.rt:250:5
 mul-out : tie.Need-mul-out
 mul-out c = search needs
 
--- src/lib.rt:250:5
 slice-write-out : tie.Need-slice-write-out
 slice-write-out c = search needs
 
--- src/lib.rt:256:13
 add-t17 : tie.Need-add-t17
 add-t17 c = search needs
 
--- src/lib.rt:258:15
 either-requires : tie.Need-either-requires
 either-requires c κs = search needs
 
--- src/lib.rt:229:1
 same-length : tie.Need-same-length
 same-length c = search needs
 
--- src/lib.rt:229:1
 returns-2 : tie.Need-returns-2
 returns-2 c =
     let a = c .before .before .before .before .before .before .before .before .before .args in let r = c .before .before .before .find-alternative .result in

@@ -5,10 +5,6 @@ use denote.Ref.{now}
 use Rattle.reading.proofs.Alternatives.{along-position, along-ends, along-few, Trying, trying, try-follows, try-next, try-done}
 use Rattle.reading.proofs.find_alternative.Statement.{statement}
 use Rattle.reading.proofs.find_alternative.Tie as tie
-use Rattle.reading.proofs.find_alternative.Reads as reads
-use Rattle.reading.proofs.find_alternative.Lts as lts
-use Rattle.reading.proofs.next_alternative.Reads as next-alternative-reads
-use Rattle.reading.proofs.value.Reads as value-reads
 
 abbrev Inv-loop : tie.InvT-loop
 Inv-loop code main n first i j k q₀ a₀ q a = Trying code main n first i j k q a
@@ -16,35 +12,27 @@ Inv-loop code main n first i j k q₀ a₀ q a = Trying code main n first i j k 
 abbrev μ-loop : tie.MeasureT-loop
 μ-loop code main n first i j k q₀ a₀ q a = 512 - a
 
--- src/lib.rt:114:5
 loop-holds : tie.Need-loop-holds Inv-loop μ-loop
 loop-holds c = let a = c .before .before .args in trying (now (a .code)) (now (a .main)) (a .n) (a .first) (a .i) (a .j) (c .before .before .pre .1)
 
--- src/lib.rt:114:15
 value-requires : tie.Need-value-requires Inv-loop μ-loop
 value-requires c κs = let a = c .before .before .before .args in (along-position (now (a .code)) (now (a .main)) (a .n) (a .first) (c .loop .inv .at), c .before .before .before .pre .0)
 
--- src/lib.rt:115:13
 next-alternative-requires : tie.Need-next-alternative-requires Inv-loop μ-loop
 next-alternative-requires c κs = let a = c .before .before .before .before .before .args in along-ends (now (a .code)) (now (a .main)) (a .n) (a .first) (c .before .before .loop .inv .at)
 
--- src/lib.rt:115:13
 sub-q : tie.Need-sub-q Inv-loop μ-loop
 sub-q c = let a = c .before .before .before .before .before .before .args in let h = subst (λ (z : ℕ). a .k < z) (c .before .before .value .ensures) (c .before .if1 .taken) in let f : c .next-alternative .result ≡ 0 → ⊥ = try-follows (now (a .code)) (now (a .main)) (a .n) (a .first) (a .i) (a .j) (c .before .before .before .loop .inv) h (c .next-alternative .ensures) in omega arith
 
--- src/lib.rt:116:9
 add-a : tie.Need-add-a Inv-loop μ-loop
 add-a c = let a = c .before .before .before .before .before .before .args in omega (arith, along-few (now (a .code)) (now (a .main)) (a .n) (a .first) (c .before .before .before .loop .inv .at))
 
--- src/lib.rt:114:5
 loop-less : tie.Need-loop-less Inv-loop μ-loop
 loop-less c = let a = c .before .before .before .before .before .before .args in omega (arith, along-few (now (a .code)) (now (a .main)) (a .n) (a .first) (c .before .before .before .loop .inv .at))
 
--- src/lib.rt:114:5
 loop-again : tie.Need-loop-again Inv-loop μ-loop
 loop-again c = let a = c .before .before .before .before .before .before .args in let h = subst (λ (z : ℕ). a .k < z) (c .before .before .value .ensures) (c .before .if1 .taken) in try-next (now (a .code)) (now (a .main)) (a .n) (a .first) (a .i) (a .j) (c .before .before .before .loop .inv) h (c .next-alternative .ensures)
 
--- src/lib.rt:108:1
 returns : tie.Need-returns Inv-loop μ-loop
 returns c = let a = c .before .before .before .before .before .args in try-done (now (a .code)) (now (a .main)) (a .n) (a .first) (a .i) (a .j) (c .before .before .loop .inv) (subst (λ (z : ℕ). z ≤ a .k) (c .before .value .ensures) (c .if1 .left))
 

@@ -5,9 +5,6 @@ use Rattle.reading.specs.Walk.{LowEnd}
 use Rattle.reading.proofs.Searches.{Unmet, unmet, unmet-next, ahead, untold}
 use Rattle.reading.proofs.find_end.Statement.{statement}
 use Rattle.reading.proofs.find_end.Tie as tie
-use Rattle.reading.proofs.find_end.Reads as reads
-use Rattle.reading.proofs.find_end.Lts as lts
-use Rattle.reading.proofs.low_end.Reads as low-end-reads
 
 abbrev Inv-loop : tie.InvT-loop
 Inv-loop code main n p e i j k m₀ m = Unmet (LowEnd code main n p e i j k) i m
@@ -15,27 +12,21 @@ Inv-loop code main n p e i j k m₀ m = Unmet (LowEnd code main n p e i j k) i m
 abbrev μ-loop : tie.MeasureT-loop
 μ-loop code main n p e i j k m₀ m = j + 1 - m
 
--- src/lib.rt:165:5
 loop-holds : tie.Need-loop-holds Inv-loop μ-loop
 loop-holds c = unmet (c .before .before .args .i)
 
--- src/lib.rt:165:12
 low-end-requires : tie.Need-low-end-requires Inv-loop μ-loop
 low-end-requires c κs = let s = c .before .before .before .pre .1 .1 .1 in let l = ahead (c .loop .inv) (s .place) (s .after) (s .low) in let q = c .before .before .before .pre .1 .1 .0 in (c .before .before .before .pre .0, (c .before .before .before .pre .1 .0, (record { order = c .loop .inv .order; inside = omega (arith, s .before, q .inside); short = q .short }, record { order = omega (arith, s .before); inside = q .inside; short = q .short })))
 
--- src/lib.rt:166:9
 add-m : tie.Need-add-m Inv-loop μ-loop
 add-m c = let s = c .before .before .before .before .before .pre .1 .1 .1 in let l = ahead (c .before .before .loop .inv) (s .place) (s .after) (s .low) in let q = c .before .before .before .before .before .pre .1 .1 .0 in omega (arith, s .before, q .inside, q .short)
 
--- src/lib.rt:165:5
 loop-less : tie.Need-loop-less Inv-loop μ-loop
 loop-less c = let s = c .before .before .before .before .before .pre .1 .1 .1 in let l = ahead (c .before .before .loop .inv) (s .place) (s .after) (s .low) in omega (arith, s .before)
 
--- src/lib.rt:165:5
 loop-again : tie.Need-loop-again Inv-loop μ-loop
 loop-again c = unmet-next (c .before .before .loop .inv) (untold (c .before .low-end .ensures) (not-true (c .before .low-end .result) (c .if1 .taken)))
 
--- src/lib.rt:160:1
 returns : tie.Need-returns Inv-loop μ-loop
 returns c = let s = c .before .before .before .before .before .pre .1 .1 .1 in let l = ahead (c .before .before .loop .inv) (s .place) (s .after) (s .low) in record { after = c .before .before .loop .inv .order; before = omega (arith, s .before); low = c .before .low-end .ensures .holds (not-false (c .before .low-end .result) (c .if1 .left)); first = c .before .before .loop .inv .none }
 

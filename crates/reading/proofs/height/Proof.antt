@@ -7,23 +7,16 @@ use Rattle.code.proofs.Cells.{cell-lt}
 use borrow.Author.Needs.{needs}
 use Rattle.reading.proofs.height.Statement.{statement}
 use Rattle.reading.proofs.height.Tie as tie
-use Rattle.reading.proofs.height.Reads as reads
-use Rattle.reading.proofs.height.Lts as lts
-use Rattle.reading.proofs.cell.Reads as cell-reads
 
--- src/lib.rt:70:9
 cell-requires : tie.Need-cell-requires
 cell-requires c κs = search needs
 
--- src/lib.rt:71:5
 mul-result : tie.Need-mul-result
 mul-result c = let a = c .before .before .args in let s = c .before .before .pre .1 in omega (arith, c .cell .ensures, cell-lt (a .n) (a .p) (a .i) (a .j) (length (now (a .main))) (s .order) (s .inside) (c .before .before .pre .0 .cells))
 
--- src/lib.rt:71:5
 shared-slice-read-result : tie.Need-shared-slice-read-result
 shared-slice-read-result c = let a = c .before .before .before .args in let s = c .before .before .before .pre .1 in omega (arith, c .before .cell .ensures, cell-lt (a .n) (a .p) (a .i) (a .j) (length (now (a .main))) (s .order) (s .inside) (c .before .before .before .pre .0 .cells))
 
--- src/lib.rt:66:1
 returns : tie.Need-returns
 returns c = ap (λ (z : ℕ). getD (now (c .before .before .before .args .main)) z 0) (c .before .cell .ensures)
 

@@ -5,43 +5,31 @@ use lib.ListN.{getD}
 use borrow.Author.Needs.{needs}
 use Rattle.reading.proofs.leave.Statement.{statement}
 use Rattle.reading.proofs.leave.Tie as tie
-use Rattle.reading.proofs.leave.Reads as reads
-use Rattle.reading.proofs.leave.Lts as lts
-use Rattle.reading.proofs.look.Reads as look-reads
 
--- src/lib.rt:213:16
 sub-deep : tie.Need-sub-deep
 sub-deep c = search needs
 
--- src/lib.rt:214:13
 mul-b : tie.Need-mul-b
 mul-b c = search needs
 
--- src/lib.rt:215:9
 look-requires : tie.Need-look-requires
 look-requires c κs = search needs
 
--- src/lib.rt:216:25
 add-look : tie.Need-add-look
 add-look c = search needs
 
--- src/lib.rt:216:9
 look-requires-2 : tie.Need-look-requires-2
 look-requires-2 c κs = search needs
 
--- src/lib.rt:221:18
 add-t7 : tie.Need-add-t7
 add-t7 c = search needs
 
--- src/lib.rt:221:12
 mul-t8 : tie.Need-mul-t8
 mul-t8 c = search needs
 
--- src/lib.rt:221:12
 shared-slice-read-t10 : tie.Need-shared-slice-read-t10
 shared-slice-read-t10 c = search needs
 
--- src/lib.rt:209:1
 returns : tie.Need-returns
 returns c = let h = c .before .before .before .before .before .args .h in let st = now (c .before .before .before .before .before .args .stack) in λ ι. record { p = c .before .before .look .ensures .0 ι; i = h .j; j = c .before .look2 .ensures .0 ι; k = getD st (3 * (h .deep - 1) + 2) 0; at = h .at; deep = h .deep - 1; mark = h .mark }
 

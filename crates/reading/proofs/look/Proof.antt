@@ -3,22 +3,16 @@ use mathlib.Core.Path.{refl}
 use borrow.Author.Needs.{needs}
 use Rattle.reading.proofs.look.Statement.{statement}
 use Rattle.reading.proofs.look.Tie as tie
-use Rattle.reading.proofs.look.Reads as reads
-use Rattle.reading.proofs.look.Lts as lts
 
--- src/lib.rt:46:5
 mul-result : tie.Need-mul-result
 mul-result c = search needs
 
--- src/lib.rt:46:5
 shared-slice-read-result : tie.Need-shared-slice-read-result
 shared-slice-read-result c = search needs
 
--- src/lib.rt:46:5
 cast-result : tie.Need-cast-result
 cast-result c = omega (arith, c .shared-slice-known .given (c .before .args .at))
 
--- src/lib.rt:42:1
 returns : tie.Need-returns
 returns c = (refl, omega (arith, c .shared-slice-known .given (c .before .args .at)))
 

@@ -4,24 +4,16 @@ use Rattle.reading.proofs.Searches.{tells-no, tells-le}
 use borrow.Author.Needs.{needs}
 use Rattle.reading.proofs.low_end.Statement.{statement}
 use Rattle.reading.proofs.low_end.Tie as tie
-use Rattle.reading.proofs.low_end.Reads as reads
-use Rattle.reading.proofs.low_end.Lts as lts
-use Rattle.reading.proofs.height.Reads as height-reads
-use Rattle.reading.proofs.value.Reads as value-reads
 
--- src/lib.rt:154:8
 height-requires : tie.Need-height-requires
 height-requires c κs = search needs
 
--- src/lib.rt:155:16
 value-requires : tie.Need-value-requires
 value-requires c κs = search needs
 
--- src/lib.rt:155:9
 returns : tie.Need-returns
 returns c = tells-le (c .value .result) (c .before .before .before .before .before .args .k) (λ l. record { one = omega (arith, c .before .before .height .ensures, c .before .if1 .taken); others = omega (arith, c .value .ensures) }) (λ w. omega (arith, c .value .ensures, w .others))
 
--- src/lib.rt:150:1
 returns-2 : tie.Need-returns-2
 returns-2 c = tells-no (λ w. omega (arith, c .before .height .ensures, c .if1 .left, w .one))
 

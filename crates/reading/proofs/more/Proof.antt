@@ -3,31 +3,22 @@ use Prim.Native.Nat.{ℕ}
 use native.Mathlib.Omega.{arith}
 use Rattle.reading.proofs.more.Statement.{statement}
 use Rattle.reading.proofs.more.Tie as tie
-use Rattle.reading.proofs.more.Reads as reads
-use Rattle.reading.proofs.more.Lts as lts
-use Rattle.reading.proofs.look.Reads as look-reads
 
--- src/lib.rt:317:9
 returns : tie.Need-returns
 returns c = (λ e. absurd (let z : _≡_ {A = ℕ} 0 1 = cc in omega arith), λ e l. absurd (omega arith))
 
--- src/lib.rt:319:19
 mul-look : tie.Need-mul-look
 mul-look c = omega (arith, c .before .before .before .pre (omega arith))
 
--- src/lib.rt:319:8
 look-requires : tie.Need-look-requires
 look-requires c κs = c .before .before .before .pre (omega arith)
 
--- src/lib.rt:320:9
 returns-2 : tie.Need-returns-2
 returns-2 c = (λ e. (omega arith, λ o. c .if2 .taken (c .before .look .ensures .0 ∙ o (omega arith) .0)), λ e. absurd (let z : _≡_ {A = ℕ} 0 1 = cc in omega arith))
 
--- src/lib.rt:323:9
 returns-3 : tie.Need-returns-3
 returns-3 c = (λ e. absurd (let z : _≡_ {A = ℕ} 0 1 = cc in omega arith), λ e l. (sym (c .before .before .before .look .ensures .0) ∙ c .before .before .if2 .left, c .if3 .taken))
 
--- src/lib.rt:311:1
 returns-4 : tie.Need-returns-4
 returns-4 c = (λ e. (omega arith, λ o. c .if3 .left (o (omega arith) .1)), λ e. absurd (let z : _≡_ {A = ℕ} 0 1 = cc in omega arith))
 

@@ -5,10 +5,6 @@ use Rattle.reading.proofs.Searches.{untold}
 use Rattle.reading.proofs.Alternatives.{along-position, along-ends, along-few, Passing, passing, pass-next, pass-yes, pass-no}
 use Rattle.reading.proofs.other_alternative.Statement.{statement}
 use Rattle.reading.proofs.other_alternative.Tie as tie
-use Rattle.reading.proofs.other_alternative.Reads as reads
-use Rattle.reading.proofs.other_alternative.Lts as lts
-use Rattle.reading.proofs.derives_too.Reads as derives-too-reads
-use Rattle.reading.proofs.next_alternative.Reads as next-alternative-reads
 
 abbrev Inv-loop : tie.InvT-loop
 Inv-loop code main n first i j number q₀ a₀ q a = Passing code main n first i j number q a
@@ -16,39 +12,30 @@ Inv-loop code main n first i j number q₀ a₀ q a = Passing code main n first 
 abbrev μ-loop : tie.MeasureT-loop
 μ-loop code main n first i j number q₀ a₀ q a = 512 - a
 
--- src/lib.rt:137:5
 loop-holds : tie.Need-loop-holds Inv-loop μ-loop
 loop-holds c = let a = c .before .before .args in passing (now (a .code)) (now (a .main)) (a .n) (a .first) (a .i) (a .j) (c .before .before .pre .1)
 
--- src/lib.rt:138:12
 derives-too-requires : tie.Need-derives-too-requires Inv-loop μ-loop
 derives-too-requires c κs = let a = c .before .before .before .args in (along-position (now (a .code)) (now (a .main)) (a .n) (a .first) (c .loop .inv .at), c .before .before .before .pre .0)
 
--- src/lib.rt:139:13
 returns : tie.Need-returns Inv-loop μ-loop
 returns c = let a = c .before .before .before .before .before .args in pass-yes (now (a .code)) (now (a .main)) (a .n) (a .first) (a .i) (a .j) (c .before .before .loop .inv) (c .before .derives-too .ensures .holds (c .if1 .taken))
 
--- src/lib.rt:141:13
 next-alternative-requires : tie.Need-next-alternative-requires Inv-loop μ-loop
 next-alternative-requires c κs = let a = c .before .before .before .before .before .args in along-ends (now (a .code)) (now (a .main)) (a .n) (a .first) (c .before .before .loop .inv .at)
 
--- src/lib.rt:143:13
 returns-2 : tie.Need-returns-2 Inv-loop μ-loop
 returns-2 c = let a = c .before .before .before .before .before .before .before .args in pass-no (now (a .code)) (now (a .main)) (a .n) (a .first) (a .i) (a .j) (c .before .before .before .before .loop .inv) (untold (c .before .before .before .derives-too .ensures) (c .before .before .if1 .left)) (c .before .next-alternative .ensures) (c .if2 .taken)
 
--- src/lib.rt:145:13
 sub-q : tie.Need-sub-q Inv-loop μ-loop
 sub-q c = omega arith
 
--- src/lib.rt:146:9
 add-a : tie.Need-add-a Inv-loop μ-loop
 add-a c = let a = c .before .before .before .before .before .before .before .args in omega (arith, along-few (now (a .code)) (now (a .main)) (a .n) (a .first) (c .before .before .before .before .loop .inv .at))
 
--- src/lib.rt:137:5
 loop-less : tie.Need-loop-less Inv-loop μ-loop
 loop-less c = let a = c .before .before .before .before .before .before .before .args in omega (arith, along-few (now (a .code)) (now (a .main)) (a .n) (a .first) (c .before .before .before .before .loop .inv .at))
 
--- src/lib.rt:137:5
 loop-again : tie.Need-loop-again Inv-loop μ-loop
 loop-again c = let a = c .before .before .before .before .before .before .before .args in pass-next (now (a .code)) (now (a .main)) (a .n) (a .first) (a .i) (a .j) (c .before .before .before .before .loop .inv) (untold (c .before .before .before .derives-too .ensures) (c .before .before .if1 .left)) (c .before .next-alternative .ensures) (c .if2 .left)
 

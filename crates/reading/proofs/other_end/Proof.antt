@@ -4,9 +4,6 @@ use Rattle.reading.specs.Walk.{EndToo}
 use Rattle.reading.proofs.Searches.{Unmet, unmet, unmet-next, ahead, untold, tells-yes, tells-no}
 use Rattle.reading.proofs.other_end.Statement.{statement}
 use Rattle.reading.proofs.other_end.Tie as tie
-use Rattle.reading.proofs.other_end.Reads as reads
-use Rattle.reading.proofs.other_end.Lts as lts
-use Rattle.reading.proofs.end_too.Reads as end-too-reads
 
 abbrev Inv-loop : tie.InvT-loop
 Inv-loop code main n p e i j m l₀ l = Unmet (EndToo code main n p e i j m) i l
@@ -14,31 +11,24 @@ Inv-loop code main n p e i j m l₀ l = Unmet (EndToo code main n p e i j m) i l
 abbrev μ-loop : tie.MeasureT-loop
 μ-loop code main n p e i j m l₀ l = j + 1 - l
 
--- src/lib.rt:189:5
 loop-holds : tie.Need-loop-holds Inv-loop μ-loop
 loop-holds c = unmet (c .before .before .args .i)
 
--- src/lib.rt:190:12
 end-too-requires : tie.Need-end-too-requires Inv-loop μ-loop
 end-too-requires c κs = let q = c .before .before .before .before .pre .1 .1 in (c .before .before .before .before .pre .0, (c .before .before .before .before .pre .1 .0, (record { order = c .before .loop .inv .order; inside = omega (arith, q .inside); short = q .short }, record { order = omega arith; inside = q .inside; short = q .short })))
 
--- src/lib.rt:191:13
 returns : tie.Need-returns Inv-loop μ-loop
 returns c = tells-yes (record { place = c .before .before .before .loop .l; after = c .before .before .before .loop .inv .order; before = c .before .before .loop-test .taken; too = c .before .end-too .ensures .holds (c .if1 .taken) })
 
--- src/lib.rt:193:9
 add-l : tie.Need-add-l Inv-loop μ-loop
 add-l c = omega (arith, c .before .before .before .before .before .before .pre .1 .1 .inside, c .before .before .before .before .before .before .pre .1 .1 .short)
 
--- src/lib.rt:189:5
 loop-less : tie.Need-loop-less Inv-loop μ-loop
 loop-less c = omega arith
 
--- src/lib.rt:189:5
 loop-again : tie.Need-loop-again Inv-loop μ-loop
 loop-again c = unmet-next (c .before .before .before .loop .inv) (untold (c .before .end-too .ensures) (c .if1 .left))
 
--- src/lib.rt:184:1
 returns-2 : tie.Need-returns-2 Inv-loop μ-loop
 returns-2 c = tells-no (λ o. omega (arith, ahead (c .before .loop .inv) (o .place) (o .after) (o .too), o .before, c .loop-test .left))
 

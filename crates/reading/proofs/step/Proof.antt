@@ -5,69 +5,49 @@ use Rattle.reading.specs.Walk.{at-end, at-terminal}
 use borrow.Author.Needs.{needs}
 use Rattle.reading.proofs.step.Statement.{statement}
 use Rattle.reading.proofs.step.Tie as tie
-use Rattle.reading.proofs.step.Reads as reads
-use Rattle.reading.proofs.step.Lts as lts
-use Rattle.reading.proofs.cross.Reads as cross-reads
-use Rattle.reading.proofs.leave.Reads as leave-reads
-use Rattle.reading.proofs.look.Reads as look-reads
 
--- src/lib.rt:292:27
 mul-look : tie.Need-mul-look
 mul-look c = search needs
 
--- src/lib.rt:292:9
 look-requires : tie.Need-look-requires
 look-requires c κs = search needs
 
--- src/lib.rt:294:9
 leave-requires : tie.Need-leave-requires
 leave-requires c κs = (c .before .before .before .before .before .before .before .pre .back (sym (c .before .before .look .ensures .0) ∙ c .before .if1 .taken), omega (arith, c .before .before .before .before .before .before .before .pre .written, c .before .before .before .before .before .before .before .pre .most, c .before .before .before .before .before .before .before .pre .stack))
 
--- src/lib.rt:294:9
 same-length : tie.Need-same-length
 same-length c = search needs
 
--- src/lib.rt:294:9
 returns : tie.Need-returns
 returns c = at-end (sym (c .before .before .before .look .ensures .0) ∙ c .before .before .if1 .taken) refl refl (c .leave .ensures)
 
--- src/lib.rt:297:31
 mul-look-2 : tie.Need-mul-look-2
 mul-look-2 c = search needs
 
--- src/lib.rt:297:31
 add-look : tie.Need-add-look
 add-look c = search needs
 
--- src/lib.rt:297:13
 look-requires-2 : tie.Need-look-requires-2
 look-requires-2 c κs = search needs
 
--- src/lib.rt:299:16
 add-t14 : tie.Need-add-t14
 add-t14 c = search needs
 
--- src/lib.rt:300:16
 add-t15 : tie.Need-add-t15
 add-t15 c = search needs
 
--- src/lib.rt:298:9
 returns-2 : tie.Need-returns-2
 returns-2 c = let h = c .before .before .before .before .before .before .before .before .before .args .h in at-terminal (sym (c .before .before .before .before .look .ensures .0) ∙ c .before .before .if2 .taken) refl refl (λ ι. record { p = h .p + 1; i = h .i + c .before .look2 .ensures .0 ι; j = h .j; k = h .k; at = h .at; deep = h .deep; mark = h .mark })
 
--- src/lib.rt:308:5
 cross-requires : tie.Need-cross-requires
 cross-requires c κs = search needs
 
--- src/lib.rt:287:1
 same-length-2 : tie.Need-same-length-2
 same-length-2 c = search needs
 
--- src/lib.rt:287:1
 same-length-3 : tie.Need-same-length-3
 same-length-3 c = search needs
 
--- src/lib.rt:287:1
 returns-3 : tie.Need-returns-3
 returns-3 c = search needs
 

@@ -6,32 +6,22 @@ use Rattle.reading.proofs.Tables.{value-empty, value-cell}
 use borrow.Author.Needs.{needs}
 use Rattle.reading.proofs.value.Statement.{statement}
 use Rattle.reading.proofs.value.Tie as tie
-use Rattle.reading.proofs.value.Reads as reads
-use Rattle.reading.proofs.value.Lts as lts
-use Rattle.reading.proofs.height.Reads as height-reads
-use Rattle.reading.proofs.look.Reads as look-reads
 
--- src/lib.rt:79:19
 mul-look : tie.Need-mul-look
 mul-look c = search needs
 
--- src/lib.rt:79:8
 look-requires : tie.Need-look-requires
 look-requires c κs = search needs
 
--- src/lib.rt:81:13
 returns : tie.Need-returns
 returns c = let a = c .before .before .before .before .before .args in sym (value-empty (now (a .code)) (now (a .main)) (a .n) (a .p) (a .i) (a .j) (sym (c .before .before .look .ensures .0) ∙ c .before .if1 .taken) ∙ ap emptyOr (eq-eqb (a .i) (a .j) (c .if2 .taken)))
 
--- src/lib.rt:83:9
 returns-2 : tie.Need-returns-2
 returns-2 c = let a = c .before .before .before .before .before .args in sym (value-empty (now (a .code)) (now (a .main)) (a .n) (a .p) (a .i) (a .j) (sym (c .before .before .look .ensures .0) ∙ c .before .if1 .taken) ∙ ap emptyOr (ne-eqb (a .i) (a .j) (c .if2 .left)))
 
--- src/lib.rt:85:5
 height-requires : tie.Need-height-requires
 height-requires c κs = search needs
 
--- src/lib.rt:75:1
 returns-3 : tie.Need-returns-3
 returns-3 c = let a = c .before .before .before .before .before .args in c .height .ensures ∙ sym (value-cell (now (a .code)) (now (a .main)) (a .n) (a .p) (a .i) (a .j) (λ e. c .before .if1 .left (c .before .before .look .ensures .0 ∙ e)))
 

@@ -11,12 +11,6 @@ use Rattle.reading.proofs.Walks.{Stage, enter-stage}
 use Rattle.reading.proofs.Course.{weight, going, Root, rooted, unrooted, can-begin, begin, can-step, step-stage, step-falls, finish, finish-long}
 use Rattle.reading.proofs.walk.Statement.{statement}
 use Rattle.reading.proofs.walk.Tie as tie
-use Rattle.reading.proofs.walk.Reads as reads
-use Rattle.reading.proofs.walk.Lts as lts
-use Rattle.reading.proofs.enter.Reads as enter-reads
-use Rattle.reading.proofs.height.Reads as height-reads
-use Rattle.reading.proofs.more.Reads as more-reads
-use Rattle.reading.proofs.step.Reads as step-reads
 
 abbrev Inv-loop : tie.InvT-loop
 Inv-loop code main size n top first out₀ stack₀ h₀ out stack h = (length out ≡ length out₀) × (length stack ≡ length stack₀) × ((t : Finished code main size n top first) (w : Row) → Root t w → Stage t out stack h w)
@@ -24,59 +18,45 @@ Inv-loop code main size n top first out₀ stack₀ h₀ out stack h = (length o
 abbrev μ-loop : tie.MeasureT-loop
 μ-loop code main size n top first out₀ stack₀ h₀ out stack h = weight size h
 
--- src/lib.rt:333:8
 height-requires : tie.Need-height-requires Inv-loop μ-loop
 height-requires c κs = let t = c .before .before .before .before .pre .tables in (position t (c .before .before .before .before .args .top) (t .code .root-inside) .row, record { order = omega arith; inside = omega arith; short = short t })
 
--- src/lib.rt:334:9
 returns : tie.Need-returns Inv-loop μ-loop
 returns c = λ t. unrooted t (sym (c .before .height .ensures) ∙ c .if1 .taken)
 
--- src/lib.rt:345:9
 enter-requires : tie.Need-enter-requires Inv-loop μ-loop
 enter-requires c κs = can-begin (c .before .before .before .before .before .before .before .pre .tables) (now (c .before .before .before .before .before .before .before .args .out)) _ (c .before .before .before .before .before .before .before .pre .room) refl refl refl (λ e. c .before .if1 .left (c .before .before .height .ensures ∙ e))
 
--- src/lib.rt:346:5
 loop-holds : tie.Need-loop-holds Inv-loop μ-loop
 loop-holds c = (refl, refl, λ t w d. enter-stage t (begin t (c .before .before .before .before .before .before .before .before .before .before .pre .room) (c .before .before .before .before .before .before .before .before .before .before .pre .stack) d) (c .before .before .enter .ensures))
 
--- src/lib.rt:346:11
 more-requires : tie.Need-more-requires Inv-loop μ-loop
 more-requires c κs = λ l. let t = c .before .before .before .before .before .before .before .before .before .before .before .pre .tables in let w = rooted t (λ e. c .before .before .before .before .before .if1 .left (c .before .before .before .before .before .before .height .ensures ∙ e)) in let G = going t (c .loop .inv .2 t (w .0) (w .1)) l in omega (arith, position t (c .loop .h .p) (G .inside) .numbers)
 
--- src/lib.rt:347:9
 step-requires : tie.Need-step-requires Inv-loop μ-loop
 step-requires c κs = let t = c .before .before .before .before .before .before .before .before .before .before .before .before .before .before .before .pre .tables in let w = rooted t (λ e. c .before .before .before .before .before .before .before .before .before .if1 .left (c .before .before .before .before .before .before .before .before .before .before .height .ensures ∙ e)) in let m = c .before .before .before .more .ensures .0 (c .before .before .if2 .taken) in can-step t (going t (c .before .before .before .before .loop .inv .2 t (w .0) (w .1)) (m .0)) (m .1)
 
--- src/lib.rt:346:5
 loop-less : tie.Need-loop-less Inv-loop μ-loop
 loop-less c = let t = c .before .before .before .before .before .before .before .before .before .before .before .before .before .before .before .before .before .before .before .before .pre .tables in let w = rooted t (λ e. c .before .before .before .before .before .before .before .before .before .before .before .before .before .before .if1 .left (c .before .before .before .before .before .before .before .before .before .before .before .before .before .before .before .height .ensures ∙ e)) in let m = c .before .before .before .before .before .before .before .before .more .ensures .0 (c .before .before .before .before .before .before .before .if2 .taken) in step-falls t (going t (c .before .before .before .before .before .before .before .before .before .loop .inv .2 t (w .0) (w .1)) (m .0)) (m .1) (c .before .before .before .before .step .ensures)
 
--- src/lib.rt:346:5
 loop-again : tie.Need-loop-again Inv-loop μ-loop
 loop-again c = let m = c .before .before .before .before .before .before .before .before .more .ensures .0 (c .before .before .before .before .before .before .before .if2 .taken) in (omega (arith, c .before .before .before .before .before .before .before .before .before .loop .inv .0), omega (arith, c .before .before .before .before .before .before .before .before .before .loop .inv .1), λ t w d. step-stage t (going t (c .before .before .before .before .before .before .before .before .before .loop .inv .2 t w d) (m .0)) (m .1) (c .before .before .before .before .step .ensures))
 
--- src/lib.rt:350:9
 same-length : tie.Need-same-length Inv-loop μ-loop
 same-length c = omega (arith, c .before .before .before .before .loop .inv .0)
 
--- src/lib.rt:350:9
 same-length-2 : tie.Need-same-length-2 Inv-loop μ-loop
 same-length-2 c = omega (arith, c .before .before .before .before .loop .inv .1)
 
--- src/lib.rt:350:9
 returns-2 : tie.Need-returns-2 Inv-loop μ-loop
 returns-2 c = λ t. let w = rooted t (λ e. c .before .before .before .before .before .before .before .before .before .if1 .left (c .before .before .before .before .before .before .before .before .before .before .height .ensures ∙ e)) in finish-long t (c .before .before .before .before .loop .inv .2 t (w .0) (w .1)) (w .1) (c .if3 .taken)
 
--- src/lib.rt:329:1
 same-length-3 : tie.Need-same-length-3 Inv-loop μ-loop
 same-length-3 c = omega (arith, c .before .before .before .before .loop .inv .0)
 
--- src/lib.rt:329:1
 same-length-4 : tie.Need-same-length-4 Inv-loop μ-loop
 same-length-4 c = omega (arith, c .before .before .before .before .loop .inv .1)
 
--- src/lib.rt:329:1
 returns-3 : tie.Need-returns-3 Inv-loop μ-loop
 returns-3 c = λ t. let w = rooted t (λ e. c .before .before .before .before .before .before .before .before .before .if1 .left (c .before .before .before .before .before .before .before .before .before .before .height .ensures ∙ e)) in finish t (c .before .before .before .before .loop .inv .2 t (w .0) (w .1)) (w .1) (c .before .before .before .more .ensures .1 (c .before .before .if2 .left)) (c .if3 .left)
 
