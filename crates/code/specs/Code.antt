@@ -55,13 +55,15 @@ pub data Chain (c : List ℕ) (dots : List (List Symbol)) (e : ℕ) : ℕ → Li
   ch-last : {q : ℕ} → q < length dots → ownerAt c q ≡ e + 1 → q + length (behind dots q) ≡ e → goesAt c e ≡ 0 → Chain c dots e q (behind dots q ∷ [])
   ch-next : {q m : ℕ} {ts : List (List Symbol)} → q < length dots → ownerAt c q ≡ e + 1 → goesAt c (q + length (behind dots q)) ≡ m + 1 → Chain c dots e m ts → Chain c dots e q (behind dots q ∷ ts)
 
--- the alternative that an owner names
+-- the alternative that an owner names; every alternative of its rule is there
 pub record Owned (c : List ℕ) (g : Grammar) (dots : List (List Symbol)) (heads : List Symbol) (p e : ℕ) : Type 0 where
   pub number : ℕ
   pub exists : number < length (alts g (headOf g heads e))
   pub is : behind dots p ≡ alternative g (headOf g heads e) number
   pub inside : e < length dots
   pub last : kindAt c e ≡ 0
+  pub first : ℕ
+  pub chain : Chain c dots e first (alts g (headOf g heads e))
 
 -- c and f are the code of the grammar g on the record r; the root's rule is named top and begins at first
 pub record Coded (c f : List ℕ) (g : Grammar) (r : Text) (size top first : ℕ) : Type 0 where
