@@ -88,3 +88,15 @@ found (x ∷ xs) k e = go (found xs k) (same k x) refl
 pub class-found : (k : Text) → isClass k ≡ true → Found classes k
 unfolding isClass
 class-found k e = found classes k e
+
+-- a place inside the list is the text's
+pub place-below : (xs : List Text) (k : Text) → place xs k < length xs → getD xs (place xs k) [] ≡ k
+unfolding place
+place-below [] k h = absurd (not-suc-le-zero h)
+place-below (x ∷ xs) k h = go (place-below xs k) (same k x) refl
+  where
+    go : (place xs k < length xs → getD xs (place xs k) [] ≡ k) → (b : Bool) → same k x ≡ b → getD (x ∷ xs) (place (x ∷ xs) k) [] ≡ k
+    go ih true s = rw (s, place) (sym (same-is k x (isT s)))
+    go ih false s =
+        let e : place (x ∷ xs) k ≡ suc (place xs k) = rw (s, place) (add-one (place xs k)) in
+        rw e (ih (omega arith))

@@ -1,0 +1,4 @@
+pub mod Stretches
+pub mod Arrays
+pub mod Places
+pub mod Rows
