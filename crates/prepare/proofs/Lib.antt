@@ -2,3 +2,5 @@ pub mod Stretches
 pub mod Arrays
 pub mod Places
 pub mod Rows
+pub mod Dots
+pub mod Whole

@@ -270,3 +270,21 @@ fn code_items(table: &[u32], size: usize, code: &mut [u32])
         p += 1;
     }
 }
+
+// The code of the grammar whose items the table has, and where its terminals fit the record; the end of the root's rule.
+pub fn prepare(
+    table: &[u32],
+    size: usize,
+    root: usize,
+    text: &[u32],
+    code: &mut [u32],
+    fits: &mut [u8],
+) -> usize
+    requires { ⌜ Given (now table) size root (now text) (now code) (now fits) ⌝ }
+    ensures { λ r. ⌜ ((g : Grammar) → Ready (now (table .entry)) g size root → Coded (now (code .exit)) (now (fits .exit)) g (now (text .entry)) size r root) ⌝ }
+{
+    owners(table, size, code);
+    code_items(table, size, code);
+    fit_rows(table, size, text, fits);
+    wide(less_one(code[4 * root + 3]))
+}
