@@ -3,6 +3,7 @@ use mathlib.Core.Bool.{Bool, true, false}
 use mathlib.Core.List.{List, [], _∷_, _++_}
 use Prim.Native.Nat.{ℕ, _+_}
 use Prim.Native.String.{String}
+use lib.Dec.{eqb}
 use Rattle.text.specs.Lists.{Text, chars, pick, any, same, begins, among, Span, span, inside}
 
 -- the thirty two-letter Unicode categories; the place in this list is a category's number
@@ -60,6 +61,10 @@ classes = categories ++ (chars "L" ∷ chars "M" ∷ chars "N" ∷ chars "P" ∷
 
 unfoldable pub isClass : Text → Bool
 isClass k = any (same k) classes
+
+-- a class by its letters, 0 for a second that is not there
+abbrev pub letters : ℕ → ℕ → Text
+letters c d = pick (eqb d 0) (c ∷ []) (c ∷ d ∷ [])
 
 -- the code point is of the class: its category is one of LC's three, or begins with the class
 unfoldable pub inClass : Text → ℕ → Bool

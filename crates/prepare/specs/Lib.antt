@@ -1,0 +1,4 @@
+pub mod Blocks
+pub mod Sound
+pub mod Places
+pub mod Ready

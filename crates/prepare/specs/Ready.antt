@@ -1,0 +1,112 @@
+-- The items of a table as the engine's code: what each function promises of the arrays, by numbers alone, and what the
+-- stage is given.
+use mathlib.Core.List.{List}
+use mathlib.Core.Logic.{_⊎_}
+use mathlib.Core.Path.{_≡_}
+use Prim.Native.Nat.{ℕ, _+_, _*_, _-_, _<_, _≤_}
+use lib.Dec.{ltb, eqb}
+use lib.ListN.{length, getD, drop}
+use Rattle.text.specs.Limits.{mostSize, recordChars, grammarTable}
+use Rattle.text.specs.Lists.{Text, pick}
+use Rattle.tree.specs.Tree.{Terminal, Symbol, Grammar}
+use Rattle.plain.specs.Plain.{alts, fits}
+use Rattle.plain.specs.Plain as plain
+use Rattle.items.specs.Items.{kindAt, targetAt, tokenAt, Among, Items}
+use Rattle.code.specs.Code.{ownerAt, fitsAt, flag}
+use Rattle.prepare.specs.Blocks.{Blocks}
+use Rattle.prepare.specs.Sound.{SoundAlternatives}
+use Rattle.prepare.specs.Places.{TerminalHere, TerminalAt, widthBy}
+
+-- the first item from p on that ends a rule
+pub record Last (T : List ℕ) (p e : ℕ) : Type 0 where
+  pub from : p ≤ e
+  pub ends : kindAt T e ≡ 6
+  pub before : (q : ℕ) → p ≤ q → q < e → kindAt T q ≡ 6 → ⊥
+
+-- it, if `last` is that of the next item
+unfoldable pub lastOf : List ℕ → ℕ → ℕ → ℕ
+lastOf T p last = pick (eqb (kindAt T p) 6) p last
+
+-- the owner of an item, if its rule ends at e: an alternative begins at the first item, and behind each end
+unfoldable pub ownerOf : List ℕ → ℕ → ℕ → ℕ
+ownerOf T p e = pick (eqb p 0) (e + 1) (pick (ltb (getD T (12285 + 3 * p) 0) 5) 0 (e + 1))
+
+pub record Owners (T : List ℕ) (size : ℕ) (c c' : List ℕ) : Type 0 where
+  pub long : length c' ≡ length c
+  pub owner : (p e : ℕ) → p < size → Last T p e → e < size → ownerAt c' p ≡ ownerOf T p e
+
+-- three numbers of an item are put; all else is as it was
+pub record Put (c c' : List ℕ) (p kind goes rule : ℕ) : Type 0 where
+  pub long : length c' ≡ length c
+  pub kind-is : getD c' (4 * p) 0 ≡ kind
+  pub goes-is : getD c' (4 * p + 1) 0 ≡ goes
+  pub rule-is : getD c' (4 * p + 2) 0 ≡ rule
+  pub kept : (j : ℕ) → (j < 4 * p) ⊎ (4 * p + 2 < j) → getD c' j 0 ≡ getD c j 0
+
+-- by an item's kind k
+unfoldable pub kindOf : ℕ → ℕ
+kindOf k = pick (eqb k 1) 1 (pick (ltb k 5) 2 0)
+
+unfoldable pub goesOf : List ℕ → ℕ → ℕ → ℕ
+goesOf T p k = pick (eqb k 1) (widthBy (drop (tokenAt T p) T)) (pick (ltb k 5) (targetAt T p) (pick (eqb k 5) (p + 2) 0))
+
+unfoldable pub ruleOf : List ℕ → List ℕ → ℕ → ℕ → ℕ
+ruleOf T c p k = pick (eqb k 1) 0 (pick (ltb k 5) (ownerAt c (targetAt T p) - 1) 0)
+
+-- what an item reaches to is there
+pub record Reach (T : List ℕ) (size p : ℕ) : Type 0 where
+  pub token : kindAt T p ≡ 1 → tokenAt T p + 1 < length T
+  pub target : (kindAt T p ≡ 1 → ⊥) → kindAt T p < 5 → targetAt T p < size
+
+pub record Reaches (T : List ℕ) (size : ℕ) (c : List ℕ) : Type 0 where
+  pub long : length T ≡ grammarTable
+  pub small : size ≤ mostSize
+  pub room : 4 * size ≤ length c
+  pub reach : (p : ℕ) → p < size → Reach T size p
+
+pub record Item (T : List ℕ) (size : ℕ) (c : List ℕ) (p : ℕ) : Type 0 where
+  pub long : length T ≡ grammarTable
+  pub small : size ≤ mostSize
+  pub room : 4 * size ≤ length c
+  pub inside : p < size
+  pub reach : Reach T size p
+
+pub record Codes (T : List ℕ) (size : ℕ) (c c' : List ℕ) : Type 0 where
+  pub long : length c' ≡ length c
+  pub kind-is : (p : ℕ) → p < size → getD c' (4 * p) 0 ≡ kindOf (kindAt T p)
+  pub goes-is : (p : ℕ) → p < size → getD c' (4 * p + 1) 0 ≡ goesOf T p (kindAt T p)
+  pub rule-is : (p : ℕ) → p < size → getD c' (4 * p + 2) 0 ≡ ruleOf T c p (kindAt T p)
+  pub owner-is : (p : ℕ) → p < size → ownerAt c' p ≡ ownerAt c p
+
+-- where terminals fit
+pub record RowsReady (T : List ℕ) (size : ℕ) (R : Text) (f : List ℕ) : Type 0 where
+  pub long : length T ≡ grammarTable
+  pub small : size ≤ mostSize
+  pub short : length R ≤ recordChars
+  pub room : size * (recordChars + 1) ≤ length f
+  pub here : (p : ℕ) → p < size → kindAt T p ≡ 1 → TerminalHere T (tokenAt T p)
+
+pub record ItemRow (T : List ℕ) (R f f' : List ℕ) (p : ℕ) : Type 0 where
+  pub long : length f' ≡ length f
+  pub row : (x : Terminal) → kindAt T p ≡ 1 → TerminalAt T (tokenAt T p) x → (i : ℕ) → i ≤ length R → fitsAt f' p i ≡ flag (fits x (drop i R))
+  pub kept : (q i : ℕ) → (q ≡ p → ⊥) → i ≤ length R → fitsAt f' q i ≡ fitsAt f q i
+
+pub record Rows (T : List ℕ) (size : ℕ) (R f f' : List ℕ) : Type 0 where
+  pub long : length f' ≡ length f
+  pub rows : (p : ℕ) → p < size → (x : Terminal) → kindAt T p ≡ 1 → TerminalAt T (tokenAt T p) x → (i : ℕ) → i ≤ length R → fitsAt f' p i ≡ flag (fits x (drop i R))
+
+-- the table has the items of a grammar, in blocks, with sound terminals
+pub record Ready (T : List ℕ) (g : Grammar) (size root : ℕ) : Type 0 where
+  pub items : Items T g root
+  pub blocks : Blocks T g (items .starts)
+  pub sound : (x : ℕ) (s : Symbol) → Among x s (items .starts) → SoundAlternatives (alts g s)
+  pub count : size ≡ plain.size g
+
+pub record Given (T : List ℕ) (size root : ℕ) (R c f : List ℕ) : Type 0 where
+  pub grammar : Grammar
+  pub ready : Ready T grammar size root
+  pub long : length T ≡ grammarTable
+  pub small : size ≤ mostSize
+  pub short : length R ≤ recordChars
+  pub room : 4 * size ≤ length c
+  pub fits-room : size * (recordChars + 1) ≤ length f

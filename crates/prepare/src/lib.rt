@@ -1,0 +1,290 @@
+// The engine's code of a grammar and a record, from the items of the grammar.
+ghost use mathlib.Core.Bool.{Bool, _&&_};
+ghost use mathlib.Core.List.{List};
+ghost use mathlib.Core.Path.{_≡_};
+ghost use Prim.Native.Nat.{ℕ, _+_, _*_, _-_, _<_, _≤_};
+ghost use lib.Dec.{leb};
+ghost use lib.ListN.{length, take, drop};
+ghost use Rattle.text.specs.Limits.{grammarTable};
+ghost use Rattle.text.specs.Lists.{any, begins, among};
+ghost use Rattle.tree.specs.Tree.{Member, Terminal, Grammar};
+ghost use Rattle.plain.specs.Plain.{isMember, fits as fitting};
+ghost use Rattle.items.specs.Items.{kindAt};
+ghost use Rattle.code.specs.Code.{flag, Coded};
+ghost use Rattle.prepare.specs.Places.{matchOf, MemberHere, MembersAt, MembersHere, TerminalAt, widthBy, Row, Stretch, Beside, Testing, RowReady};
+ghost use Rattle.prepare.specs.Ready.{lastOf, ownerOf, Owners, Put, kindOf, goesOf, ruleOf, Reaches, Item, Codes, RowsReady, ItemRow, Rows, Ready, Given};
+
+fn wide(x: u32) -> usize
+    ensures { λ r. ⌜ r ≡ x ⌝ }
+{
+    x as usize
+}
+
+fn less_one(x: u32) -> u32
+    ensures { λ r. ⌜ r ≡ x - 1 ⌝ }
+{
+    if x == 0 {
+        return 0;
+    }
+    x - 1
+}
+
+fn flag_of(b: bool) -> u8
+    ensures { λ r. ⌜ r ≡ flag b ⌝ }
+{
+    if b {
+        return 1;
+    }
+    0
+}
+
+// The characters at a place of the table begin the record from `i` on.
+fn spells(table: &[u32], at: usize, n: usize, text: &[u32], i: usize) -> bool
+    requires { ⌜ Beside (now table) at n (now text) i ⌝ }
+    ensures { λ r. ⌜ r ≡ begins (take n (drop at (now (table .entry)))) (drop i (now (text .entry))) ⌝ }
+{
+    if text.len() - i < n {
+        return false;
+    }
+    let mut k = 0;
+    while k < n {
+        if table[at + k] != text[i + k] {
+            return false;
+        }
+        k += 1;
+    }
+    true
+}
+
+// The character is one of those at a place of the table.
+fn is_among(table: &[u32], at: usize, n: usize, c: u32) -> bool
+    requires { ⌜ Stretch (now table) at n ⌝ }
+    ensures { λ r. ⌜ r ≡ among c (take n (drop at (now (table .entry)))) ⌝ }
+{
+    let mut k = 0;
+    while k < n {
+        if table[at + k] == c {
+            return true;
+        }
+        k += 1;
+    }
+    false
+}
+
+fn between(low: u32, c: u32, high: u32) -> bool
+    ensures { λ r. ⌜ r ≡ leb low c && leb c high ⌝ }
+{
+    if c < low {
+        return false;
+    }
+    c <= high
+}
+
+// The member at a place matches a character.
+fn member_matches(table: &[u32], at: usize, c: u32) -> bool
+    requires { ⌜ MemberHere (now table) at ⌝ }
+    ensures { λ r. ⌜ r ≡ matchOf (drop at (now (table .entry))) c ⌝ }
+{
+    let kind = table[at];
+    if kind == 24 {
+        return is_among(table, at + 2, wide(table[at + 1]), c);
+    }
+    if kind == 25 {
+        return c == table[at + 1];
+    }
+    if kind == 26 {
+        return between(table[at + 2], c, table[at + 4]);
+    }
+    category::in_class(category::class_of(table[at + 1], table[at + 2]), c)
+}
+
+// One of the members from a place on matches a character.
+fn any_member(table: &[u32], from: usize, c: u32) -> bool
+    requires { ⌜ MembersHere (now table) from ⌝ }
+    ensures { λ r. ⌜ ((ms : List Member) → MembersAt (now (table .entry)) from ms → r ≡ any (isMember c) ms) ⌝ }
+{
+    let mut at = from;
+    while table[at] != 28 {
+        if member_matches(table, at, c) {
+            return true;
+        }
+        at = measure::token_end(table, at);
+    }
+    false
+}
+
+// The terminal at a place fits the record from `i` on.
+fn terminal_fits(table: &[u32], at: usize, text: &[u32], i: usize) -> bool
+    requires { ⌜ Testing (now table) at (now text) i ⌝ }
+    ensures { λ r. ⌜ ((x : Terminal) → TerminalAt (now (table .entry)) at x → r ≡ fitting x (drop i (now (text .entry)))) ⌝ }
+{
+    let kind = table[at];
+    if kind < 8 {
+        return spells(table, at + 2, wide(table[at + 1]), text, i);
+    }
+    if 20 <= kind {
+        return true;
+    }
+    if text.len() <= i {
+        return false;
+    }
+    let c = text[i];
+    if kind < 12 {
+        return table[at + 1] == c;
+    }
+    let found = any_member(table, at + 1, c);
+    if kind < 16 {
+        return found;
+    }
+    !found
+}
+
+// How many characters the terminal at a place takes.
+fn terminal_width(table: &[u32], at: usize) -> u32
+    requires { ⌜ (at + 1 < length (now table)) × (length (now table) ≤ grammarTable) ⌝ }
+    ensures { λ r. ⌜ r ≡ widthBy (drop at (now (table .entry))) ⌝ }
+{
+    let kind = table[at];
+    if kind < 8 {
+        return table[at + 1];
+    }
+    if kind < 20 {
+        return 1;
+    }
+    0
+}
+
+// A terminal's tests, at every place of the record.
+fn fit_row(table: &[u32], at: usize, text: &[u32], fits: &mut [u8], base: usize)
+    requires { ⌜ RowReady (now table) at (now text) (now fits) base ⌝ }
+    ensures { λ _. ⌜ Row (now (table .entry)) (now (text .entry)) (now (fits .entry)) (now (fits .exit)) at base ⌝ }
+{
+    let n = text.len();
+    let mut i = 0;
+    while i <= n {
+        fits[base + i] = flag_of(terminal_fits(table, at, text, i));
+        i += 1;
+    }
+}
+
+fn fit_item(table: &[u32], size: usize, p: usize, text: &[u32], fits: &mut [u8])
+    requires { ⌜ RowsReady (now table) size (now text) (now fits) × (p < size) ⌝ }
+    ensures { λ _. ⌜ ItemRow (now (table .entry)) (now (text .entry)) (now (fits .entry)) (now (fits .exit)) p ⌝ }
+{
+    if table[12288 + 3 * p] != 1 {
+        return;
+    }
+    fit_row(table, wide(table[12290 + 3 * p]), text, fits, p * 121);
+}
+
+fn fit_rows(table: &[u32], size: usize, text: &[u32], fits: &mut [u8])
+    requires { ⌜ RowsReady (now table) size (now text) (now fits) ⌝ }
+    ensures { λ _. ⌜ Rows (now (table .entry)) size (now (text .entry)) (now (fits .entry)) (now (fits .exit)) ⌝ }
+{
+    let mut p = 0;
+    while p < size {
+        fit_item(table, size, p, text, fits);
+        p += 1;
+    }
+}
+
+// The item that ends the rule of the item p, if `last` is that of the item behind it.
+fn last_at(table: &[u32], p: usize, last: u32) -> u32
+    requires { ⌜ (length (now table) ≡ grammarTable) × (p < 512) ⌝ }
+    ensures { λ r. ⌜ r ≡ lastOf (now (table .entry)) p last ⌝ }
+{
+    if table[12288 + 3 * p] == 6 {
+        return p as u32;
+    }
+    last
+}
+
+fn owner_at(table: &[u32], p: usize, last: u32) -> u32
+    requires { ⌜ (length (now table) ≡ grammarTable) × (p < 512) × (last < 512) ⌝ }
+    ensures { λ r. ⌜ r ≡ ownerOf (now (table .entry)) p last ⌝ }
+{
+    if p == 0 {
+        return last + 1;
+    }
+    if table[12285 + 3 * p] < 5 {
+        return 0;
+    }
+    last + 1
+}
+
+// The owner of each item, from the last item to the first.
+fn owners(table: &[u32], size: usize, code: &mut [u32])
+    requires { ⌜ Reaches (now table) size (now code) ⌝ }
+    ensures { λ _. ⌜ Owners (now (table .entry)) size (now (code .entry)) (now (code .exit)) ⌝ }
+{
+    let mut p = size;
+    let mut last = 0;
+    while 0 < p {
+        p -= 1;
+        last = last_at(table, p, last);
+        code[4 * p + 3] = owner_at(table, p, last);
+    }
+}
+
+fn put_item(code: &mut [u32], p: usize, kind: u32, goes: u32, rule: u32)
+    requires { ⌜ (4 * p + 3 < length (now code)) × (p < 512) ⌝ }
+    ensures { λ _. ⌜ Put (now (code .entry)) (now (code .exit)) p kind goes rule ⌝ }
+{
+    let at = 4 * p;
+    code[at] = kind;
+    code[at + 1] = goes;
+    code[at + 2] = rule;
+}
+
+// What an item is to the engine, once the owners are there.
+fn code_item(table: &[u32], size: usize, p: usize, code: &mut [u32])
+    requires { ⌜ Item (now table) size (now code) p ⌝ }
+    ensures { λ _. ⌜ Put (now (code .entry)) (now (code .exit)) p (kindOf (kindAt (now (table .entry)) p)) (goesOf (now (table .entry)) p (kindAt (now (table .entry)) p)) (ruleOf (now (table .entry)) (now (code .entry)) p (kindAt (now (table .entry)) p)) ⌝ }
+{
+    let kind = table[12288 + 3 * p];
+    if kind == 1 {
+        let width = terminal_width(table, wide(table[12290 + 3 * p]));
+        put_item(code, p, 1, width, 0);
+        return;
+    }
+    if kind < 5 {
+        let target = table[12289 + 3 * p];
+        let rule = less_one(code[4 * wide(target) + 3]);
+        put_item(code, p, 2, target, rule);
+        return;
+    }
+    if kind == 5 {
+        put_item(code, p, 0, p as u32 + 2, 0);
+        return;
+    }
+    put_item(code, p, 0, 0, 0);
+}
+
+fn code_items(table: &[u32], size: usize, code: &mut [u32])
+    requires { ⌜ Reaches (now table) size (now code) ⌝ }
+    ensures { λ _. ⌜ Codes (now (table .entry)) size (now (code .entry)) (now (code .exit)) ⌝ }
+{
+    let mut p = 0;
+    while p < size {
+        code_item(table, size, p, code);
+        p += 1;
+    }
+}
+
+// The code of the grammar whose items the table has, and where its terminals fit the record; the end of the root's rule.
+pub fn prepare(
+    table: &[u32],
+    size: usize,
+    root: usize,
+    text: &[u32],
+    code: &mut [u32],
+    fits: &mut [u8],
+) -> usize
+    requires { ⌜ Given (now table) size root (now text) (now code) (now fits) ⌝ }
+    ensures { λ r. ⌜ ((g : Grammar) → Ready (now (table .entry)) g size root → Coded (now (code .exit)) (now (fits .exit)) g (now (text .entry)) size r root) ⌝ }
+{
+    owners(table, size, code);
+    code_items(table, size, code);
+    fit_rows(table, size, text, fits);
+    wide(less_one(code[4 * root + 3]))
+}
