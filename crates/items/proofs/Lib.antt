@@ -6,3 +6,6 @@ pub mod Runs
 pub mod Trees
 pub mod Rules
 pub mod Scans
+pub mod Names
+pub mod Links
+pub mod Finals

@@ -10,6 +10,9 @@ ghost use Prim.Native.Nat.{ℕ, _+_, _*_, _<_, _≤_, _^_};
 ghost use lib.ListN.{length, take, drop, getD};
 ghost use lib.Seq.{sets};
 ghost use Rattle.tree.specs.Tree.{Grammar};
+ghost use Rattle.text.specs.Lists.{Text, same};
+ghost use Rattle.items.specs.Items.{Items};
+ghost use Rattle.items.specs.Linked.{Holding, Found, Linkable, Single, Linked};
 ghost use Rattle.items.specs.Scanned.{Prepared, Readable, Scanned};
 ghost use Rattle.items.specs.Machine.{dutyOf, lateDutyOf, entry, nums, entryAt, bothEnds, onceBlock, optionBlock, starBlock, restBlock, listBlock, oneBlock, oneCount, oneFirst, twoBlock, twoCount, twoFirst, laid, Room, Source, Space, Copied, Ready, Acts, kindBy};
 
@@ -345,7 +348,7 @@ fn step(table: &mut [u32], s: State, at: usize) -> State
 }
 
 // All items; names have no target yet.
-pub fn scan(table: &mut [u32], end: usize) -> State
+fn scan(table: &mut [u32], end: usize) -> State
     requires { ⌜ Prepared (now table) end ⌝ }
     ensures { λ r. ⌜ ((g : Grammar) → Readable (now (table .entry)) end g → Scanned g (take 12288 (now (table .entry))) (now (table .exit)) r) ⌝ }
 {
@@ -364,7 +367,7 @@ pub fn scan(table: &mut [u32], end: usize) -> State
 }
 
 // The kind of an item by the first numbers of the name and of its rule's head: the mark at the use wins.
-pub fn kind_by(used: u32, head: u32) -> u32
+fn kind_by(used: u32, head: u32) -> u32
     ensures { λ r. ⌜ r ≡ kindBy used head ⌝ }
 {
     if used == 3 {
@@ -383,4 +386,94 @@ pub fn kind_by(used: u32, head: u32) -> u32
         return 3;
     }
     2
+}
+
+// The tokens at two places have the same name. A place that can hold no name has none.
+fn same_name(table: &[u32], a: usize, b: usize) -> bool
+    requires { ⌜ length (now table) ≡ 16384 ⌝ }
+    ensures { λ r. ⌜ ((x y : Text) → Holding (now (table .entry)) a x → Holding (now (table .entry)) b y → r ≡ same x y) ⌝ }
+{
+    if 12287 <= a {
+        return false;
+    }
+    if 12287 <= b {
+        return false;
+    }
+    let n = table[a + 1] as usize;
+    if table[b + 1] as usize != n {
+        return false;
+    }
+    if 16382 - a < n {
+        return false;
+    }
+    if 16382 - b < n {
+        return false;
+    }
+    let mut i = 0;
+    while i < n {
+        if table[a + 2 + i] != table[b + 2 + i] {
+            return false;
+        }
+        i += 1;
+    }
+    true
+}
+
+// The first of the rules with the name of the token at `at`.
+fn find(table: &[u32], rules: usize, at: usize) -> usize
+    requires { ⌜ Linkable (now table) 0 rules ⌝ }
+    ensures { λ r. ⌜ Found (now (table .entry)) rules at r ⌝ }
+{
+    let mut i = 0;
+    while i < rules {
+        if same_name(table, at, table[13824 + 2 * i] as usize) {
+            return i;
+        }
+        i += 1;
+    }
+    i
+}
+
+// Item p; a name gets the kind by its marks, and the first item of its rule.
+fn resolve(table: &mut [u32], p: usize, rules: usize)
+    requires { ⌜ Linkable (now table) (p + 1) rules ⌝ }
+    ensures { λ r. ⌜ Single (now (table .entry)) rules (now (table .exit)) p ⌝ }
+{
+    if table[12288 + 3 * p] != 2 {
+        return;
+    }
+    let at = table[12290 + 3 * p] as usize;
+    let r = find(table, rules, at);
+    let head = table[13824 + 2 * r] as usize;
+    if 12288 <= at {
+        return;
+    }
+    if 12288 <= head {
+        return;
+    }
+    let kind = kind_by(table[at], table[head]);
+    let first = table[13825 + 2 * r];
+    table[12288 + 3 * p] = kind;
+    table[12289 + 3 * p] = first;
+}
+
+fn link(table: &mut [u32], items: usize, rules: usize)
+    requires { ⌜ Linkable (now table) items rules ⌝ }
+    ensures { λ r. ⌜ Linked (now (table .entry)) items rules (now (table .exit)) ⌝ }
+{
+    let mut p = 0;
+    while p < items {
+        resolve(table, p, rules);
+        p += 1;
+    }
+}
+
+// The plain rules of the grammar whose tokens are the first `end` numbers. The result is the first item of the root's rule.
+pub fn build_items(table: &mut [u32], end: usize) -> usize
+    requires { ⌜ Prepared (now table) end ⌝ }
+    ensures { λ r. ⌜ ((g : Grammar) → Readable (now (table .entry)) end g → (take end (now (table .exit)) ≡ take end (now (table .entry))) × Items (now (table .exit)) g r) ⌝ }
+{
+    let s = scan(table, end);
+    link(table, s.items, s.rules);
+    table[13825] as usize
 }
