@@ -143,14 +143,14 @@ module _ {T : List ℕ} {g : Grammar} {starts : Starts} where
       go (al-more sp k al) q = rw q at sp
 
 -- the width of a terminal, by its token
-mark-number : (m : Mark) → markNumber m ≤ 3
+pub mark-number : (m : Mark) → markNumber m ≤ 3
 mark-number unmarked = omega arith
 mark-number included = omega arith
 mark-number attribute = omega arith
 mark-number deleted = omega arith
 
 -- a terminal's token: its first number, and what follows that
-pub first-number : Terminal → ℕ
+unfoldable pub first-number : Terminal → ℕ
 first-number (literal m (string cs)) = 4 + markNumber m
 first-number (literal m (hex n)) = 8 + markNumber m
 first-number (inclusion m ms) = 12 + markNumber m

@@ -33,7 +33,7 @@ list-head p at a xs e =
 leaf-rest : {g : Grammar} {r : Text} {m i j : ℕ} {t : Row} {s : Symbol} {ss : List Symbol} → Derives g r (leaf m t) (s ∷ ss) i j → Derives g r t ss m j
 leaf-rest (d-leaf f d) = d
 
-node-inner : {g : Grammar} {r : Text} {a m i j : ℕ} {c t : Row} {s : Symbol} {ss : List Symbol} → Derives g r (node a m c t) (s ∷ ss) i j → Derives g r c (alternative g s a) i m
+pub node-inner : {g : Grammar} {r : Text} {a m i j : ℕ} {c t : Row} {s : Symbol} {ss : List Symbol} → Derives g r (node a m c t) (s ∷ ss) i j → Derives g r c (alternative g s a) i m
 node-inner (d-node l c d) = c
 
 node-rest : {g : Grammar} {r : Text} {a m i j : ℕ} {c t : Row} {s : Symbol} {ss : List Symbol} → Derives g r (node a m c t) (s ∷ ss) i j → Derives g r t ss m j
@@ -70,6 +70,9 @@ module _ {T P S : List ℕ} {r : Text} {g : Grammar} {starts : Starts} {e₁ i�
 
   pub place-inside : {h : Spot} {row : Row} {ss : List Symbol} {fs : List Frame} (W : Walk T P r S g starts e₁ i₁ h row ss fs) → (h .place ≤ W .to) × (W .to ≤ length r)
   place-inside W = (forward g r (W .derives), omega (arith, chain-last (W .chain), W .last))
+
+  pub node-last : {h : Spot} {a m : ℕ} {c t : Row} {s : Symbol} {ss : List Symbol} {fs : List Frame} → Walk T P r S g starts e₁ i₁ h (node a m c t) (s ∷ ss) fs → m ≤ length r
+  node-last W = omega (arith, forward g r (node-rest (W .derives)), chain-last (W .chain), W .last)
 
   pub walk-leaf : {h : Spot} {m : ℕ} {t : Row} {s : Symbol} {ss : List Symbol} {fs : List Frame} → Walk T P r S g starts e₁ i₁ h (leaf m t) (s ∷ ss) fs → Walk T P r S g starts e₁ i₁ (spot (h .item + 1) (h .entry) m (h .inner)) t ss fs
   walk-leaf W = record {

@@ -3,13 +3,13 @@ use mathlib.Core.Path.{_≡_}
 use mathlib.Core.Bool.{Bool, true, false}
 use mathlib.Core.List.{List, [], _∷_, _++_}
 use Prim.Native.Nat.{ℕ, _+_, _-_, _*_, _<_, _≤_}
-use lib.ListN.{length, getD, set}
+use lib.ListN.{length, getD, set, take, drop}
 use Rattle.text.specs.Lists.{Text}
 use Rattle.tree.specs.Tree.{Symbol, Terminal, Grammar}
-use Rattle.tree.specs.Tokens.{terminalTokens}
+use Rattle.tree.specs.Tokens.{terminalTokens, counted}
 use Rattle.plain.specs.Plain as plain
-use Rattle.derive.specs.Derive.{Row}
-use Rattle.items.specs.Items.{Starts, Spells, Alternatives, Reads, kindAt, targetAt}
+use Rattle.derive.specs.Derive.{Row, node}
+use Rattle.items.specs.Items.{Starts, Spells, Alternatives, Reads, kindAt, targetAt, tokenAt}
 use Rattle.ends.specs.Walk.{Frame, opened, Walk, weight}
 use Rattle.ends.specs.declared.Spot.{Spot}
 
@@ -50,6 +50,52 @@ pub record Leaves (S : List ℕ) (h : Spot) : Type 0 where
 pub record Left (S S' : List ℕ) (h r : Spot) : Type 0 where
   pub scratch : S' ≡ set (set S (2 * (h .inner - 1)) (h .entry)) (2 * (h .inner - 1) + 1) (h .place)
   pub spot : r ≡ record { item = getD S (2 * (h .inner - 1) + 1) 0 + 1; entry = h .entry; place = h .place; inner = getD S (2 * (h .inner - 1)) 0 }
+
+-- a token that holds a name stands at a place
+pub record Named (T : List ℕ) (token first : ℕ) (n : Text) : Type 0 where
+  pub more : List ℕ
+  pub stands : drop token (take 12288 T) ≡ first ∷ (counted n ++ more)
+
+pub record Small (h : Spot) : Type 0 where
+  pub item : h .item < 4294967296
+  pub entry : h .entry < 4294967296
+  pub place : h .place < 4294967296
+
+-- over a terminal
+pub record Skipped (T : List ℕ) (h r : Spot) : Type 0 where
+  pub w : ℕ
+  pub wide : Wide T (tokenAt T (h .item)) w
+  pub spot : r ≡ record { item = h .item + 1; entry = h .entry; place = h .place + w; inner = h .inner }
+
+-- over a node, by its notes
+abbrev pub jumped : List ℕ → Spot → Spot
+jumped S h = record { item = h .item + 1; entry = getD S (2 * h .entry) 0; place = getD S (2 * h .entry + 1) 0; inner = h .inner }
+
+-- before the children of a node, as a walk of its own
+pub record Inside (T P : List ℕ) (h r : Spot) : Type 0 where
+  pub spot : r ≡ record { item = r .item; entry = h .entry + 1; place = h .place; inner = 0 }
+  pub found : Found T (targetAt T (h .item)) (getD P (h .entry) 0) (r .item)
+
+-- a node of the symbol s begins at h, by the alternative a, with the children c; S has the notes, but for open nodes
+pub record Node (T P : List ℕ) (r : Text) (S : List ℕ) (h : Spot) (g : Grammar) (starts : Starts) (s : Symbol) (a : ℕ) (c : Row) : Type 0 where
+  pub S₀ : List ℕ
+  pub e₁ : ℕ
+  pub i₁ : ℕ
+  pub m : ℕ
+  pub t : Row
+  pub ss : List Symbol
+  pub fs : List Frame
+  pub walk : Walk T P r S₀ g starts e₁ i₁ h (node a m c t) (s ∷ ss) fs
+  pub scratch : S ≡ opened fs S₀
+  pub room : 2 * length P ≤ length S₀
+
+pub record SomeNode (T P : List ℕ) (r : Text) (S : List ℕ) (h : Spot) : Type 0 where
+  pub g : Grammar
+  pub starts : Starts
+  pub s : Symbol
+  pub a : ℕ
+  pub c : Row
+  pub node : Node T P r S h g starts s a c
 
 -- Entries are being noted as F has them: all that are before h and not open are.
 pub record Going (T P S : List ℕ) (h : Spot) (F : List ℕ) (e₁ i₁ : ℕ) : Type 0 where

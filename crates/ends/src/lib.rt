@@ -10,7 +10,7 @@ ghost use Rattle.derive.specs.Derive.{Row};
 ghost use Rattle.items.specs.Items.{kindAt, targetAt, tokenAt};
 ghost use Rattle.ends.specs.Noted.{Noted, Parsed, Room};
 ghost use Rattle.ends.specs.Walk.{Over};
-ghost use Rattle.ends.specs.Steps.{Symbolic, Passed, Found, Wide, Enters, Entered, Leaves, Left, Going, Stepped};
+ghost use Rattle.ends.specs.Steps.{Symbolic, Passed, Found, Wide, Enters, Entered, Leaves, Left, Small, Skipped, jumped, Inside, Going, Stepped};
 
 // Where a walk stands: the item of the next symbol, the next entry, the place in the record, and one more than the innermost
 // open entry (0: none is open).
@@ -144,6 +144,51 @@ pub fn leave(scratch: &mut [u32], h: Spot) -> Spot
         entry: h.entry,
         place: h.place,
         inner: link,
+    }
+}
+
+// Over a terminal.
+pub fn skip(table: &[u32], h: Spot) -> Spot
+    requires { ⌜ Small h ⌝ }
+    ensures { λ r. ⌜ Skipped (now (table .entry)) h r ⌝ }
+{
+    let w = width(table, token_at(table, h.item));
+    Spot {
+        item: h.item + 1,
+        entry: h.entry,
+        place: h.place + w,
+        inner: h.inner,
+    }
+}
+
+// Over a node, by what is noted of it.
+pub fn jump(scratch: &[u32], h: Spot) -> Spot
+    requires { ⌜ Small h ⌝ }
+    ensures { λ r. ⌜ r ≡ jumped (now (scratch .entry)) h ⌝ }
+{
+    let e = look(scratch, 2 * h.entry);
+    let m = look(scratch, 2 * h.entry + 1);
+    Spot {
+        item: h.item + 1,
+        entry: e,
+        place: m,
+        inner: h.inner,
+    }
+}
+
+// Before the children of a node, as a walk of its own.
+pub fn inside(table: &[u32], parse: &[u32], h: Spot) -> Spot
+    requires { ⌜ Small h ⌝ }
+    ensures { λ r. ⌜ Inside (now (table .entry)) (now (parse .entry)) h r ⌝ }
+{
+    let a = look(parse, h.entry);
+    let x = target_at(table, h.item);
+    let item = alternative(table, x, a);
+    Spot {
+        item,
+        entry: h.entry + 1,
+        place: h.place,
+        inner: 0,
     }
 }
 
