@@ -6,9 +6,11 @@ use Prim.Native.Nat.{ℕ, zero, suc, _+_, _*_, _-_, _<_, _≤_}
 use native.Mathlib.Omega.{arith}
 use lib.ListN.{length, length-append}
 use Rattle.text.proofs.Tests.{split}
-use Rattle.tree.specs.Tree.{Symbol, Grammar}
+use Rattle.tree.specs.Tree.{Symbol, Rule, Grammar}
 use Rattle.plain.specs.Plain.{alts, weight}
 use Rattle.items.specs.Items.{kindAt, Starts, Among, Stands, Spells, sp-end, sp-item, Alternatives, al-last, al-more, Spelt}
+use Rattle.items.specs.Scanned.{RuleCover, Clean, Cleans}
+use Rattle.items.specs.Built.{Cover}
 use Rattle.items.specs.Final.{Placed, PlacedAll, Final}
 use Rattle.items.proofs.Uses.{rule-spelt}
 
@@ -60,26 +62,68 @@ pub data Blocks (F : List ℕ) (g : Grammar) (S : Starts) : ℕ → List ℕ →
   b-none : {x : ℕ} → Blocks F g S x [] []
   b-rule : {x : ℕ} {s : Symbol} {xs ys : List ℕ} {B : Starts} → Rows F g S xs (alts g s) → Blocks F g S (x + weight (alts g s)) ys B → Blocks F g S x (xs ++ ys) ((x, s) ∷ B)
 
--- what a run added is sound: new rules have their alternatives, new items are in some alternative
-pub record Sound (F : List ℕ) (g : Grammar) (S : Starts) (from to : ℕ) (S₁ S₂ : Starts) : Type 0 where
+-- the last item of alternatives ends them
+pub alternatives-last : {F : List ℕ} {g : Grammar} {S : Starts} {x : ℕ} {ts : List (List Symbol)} → Alternatives F g S x ts → (y : ℕ) → x + weight ts ≡ y + 1 → kindAt F y ≡ 6
+alternatives-last {F} {x = x} (al-last {ss = ss} w k) y e = move F (let z : y ≡ x + length ss = omega arith in z) k
+alternatives-last (al-more w k v) y e = alternatives-last v y (omega arith)
+
+cover-left : (rs rs' : List Rule) (xs xs' : List ℕ) (p : ℕ) → RuleCover rs xs p → RuleCover (rs ++ rs') (xs ++ xs') p
+cover-left [] rs' xs xs' p c = absurd c
+cover-left (r ∷ rs) rs' [] xs' p c = absurd c
+cover-left (r ∷ rs) rs' (x ∷ xs) xs' p (inl c) = inl c
+cover-left (r ∷ rs) rs' (x ∷ xs) xs' p (inr c) = inr (cover-left rs rs' xs xs' p c)
+
+cover-right : (rs rs' : List Rule) (xs xs' : List ℕ) (p : ℕ) → length rs ≡ length xs → RuleCover rs' xs' p → RuleCover (rs ++ rs') (xs ++ xs') p
+cover-right [] rs' [] xs' p e c = c
+cover-right [] rs' (x ∷ xs) xs' p e c = absurd (let z : 0 ≡ suc (length xs) = e in omega arith)
+cover-right (r ∷ rs) rs' [] xs' p e c = absurd (let z : suc (length rs) ≡ 0 = e in omega arith)
+cover-right (r ∷ rs) rs' (x ∷ xs) xs' p e c = inr (cover-right rs rs' xs xs' p (let z : suc (length rs) ≡ suc (length xs) = e in omega arith) c)
+
+pub cover-later : {g : Grammar} {S S' : Starts} {p : ℕ} → ((x : ℕ) (s : Symbol) → Among x s S → Among x s S') → Cover g S p → Cover g S' p
+cover-later h c = record { first = c .first; symbol = c .symbol; among = h (c .first) (c .symbol) (c .among); above = c .above; under = c .under }
+
+cleans-append : (F : List ℕ) (n : ℕ) (xs xs' : List ℕ) → Cleans F n xs → Cleans F n xs' → Cleans F n (xs ++ xs')
+cleans-append F n [] xs' c d = d
+cleans-append F n (x ∷ xs) xs' c d = (c .0, cleans-append F n xs xs' (c .1) d)
+
+-- what is first from m on is first from n on, if what is before m ends a rule
+clean-lower : (F : List ℕ) (n m x : ℕ) → n ≤ m → ((y : ℕ) → m ≡ y + 1 → n ≤ y → kindAt F y ≡ 6) → Clean F m x → Clean F n x
+clean-lower F n m x h l c = ((let z = c .0 in omega arith), λ y e i. ⊎-elim (λ (b : y < m). l y (let z = c .0 in omega arith) i) (λ (b : m ≤ y). c .1 y e b) (split y m))
+
+cleans-lower : (F : List ℕ) (n m : ℕ) (xs : List ℕ) → n ≤ m → ((y : ℕ) → m ≡ y + 1 → n ≤ y → kindAt F y ≡ 6) → Cleans F m xs → Cleans F n xs
+cleans-lower F n m [] h l c = tt
+cleans-lower F n m (x ∷ xs) h l c = (clean-lower F n m x h l (c .0), cleans-lower F n m xs h l (c .1))
+
+-- what a run added is sound: new rules have their alternatives, new items are in some alternative, blocks stand side by side
+pub record Sound (F : List ℕ) (g : Grammar) (S : Starts) (from to : ℕ) (S₁ S₂ : Starts) (rs : List Rule) (xs : List ℕ) : Type 0 where
+  pub grew : from ≤ to
   pub rule : (x : ℕ) (s : Symbol) → Among x s S₂ → Among x s S₁ ⊎ (Alternatives F g S x (alts g s) × (x + weight (alts g s) ≤ to))
   pub spelt : (p : ℕ) → p < to → (p < from) ⊎ Spelt F g S p
+  pub covered : (p : ℕ) → p < to → (p < from) ⊎ (Cover g S₂ p ⊎ RuleCover rs xs p)
+  pub apart : (x : ℕ) (s : Symbol) → Among x s S₂ → Among x s S₁ ⊎ Clean F from x
+  pub clean : Cleans F from xs
+  pub last : (y : ℕ) → to ≡ y + 1 → from ≤ y → kindAt F y ≡ 6
 
 module _ {F : List ℕ} {g : Grammar} {S : Starts} where
-  pub sound-none : (n : ℕ) (S₁ : Starts) → Sound F g S n n S₁ S₁
-  sound-none n S₁ = record { rule = λ x s a. inl a; spelt = λ p h. inl h }
+  pub sound-none : (n : ℕ) (S₁ : Starts) → Sound F g S n n S₁ S₁ [] []
+  sound-none n S₁ = record { grew = omega arith; rule = λ x s a. inl a; spelt = λ p h. inl h; covered = λ p h. inl h; apart = λ x s a. inl a; clean = tt; last = λ y e h. absurd (omega arith) }
 
-  pub sound-then : {n m k : ℕ} {S₁ S₂ S₃ : Starts} → m ≤ k → Sound F g S n m S₁ S₂ → Sound F g S m k S₂ S₃ → Sound F g S n k S₁ S₃
-  sound-then h v w = record {
+  pub sound-then : {n m k : ℕ} {S₁ S₂ S₃ : Starts} {rs rs' : List Rule} {xs xs' : List ℕ} → ((x : ℕ) (s : Symbol) → Among x s S₂ → Among x s S₃) → length rs ≡ length xs → m ≤ k → Sound F g S n m S₁ S₂ rs xs → Sound F g S m k S₂ S₃ rs' xs' → Sound F g S n k S₁ S₃ (rs ++ rs') (xs ++ xs')
+  sound-then {n} {m} {k} {rs = rs} {rs' = rs'} {xs = xs} {xs' = xs'} later even h v w = record {
+    grew = omega (arith, v .grew);
     rule = λ x s a. ⊎-elim (λ b. ⊎-elim (λ c. inl c) (λ c. inr (c .0, (let z = c .1 in omega arith))) (v .rule x s b)) (λ b. inr b) (w .rule x s a);
     spelt = λ p l. ⊎-elim (λ b. v .spelt p b) (λ b. inr b) (w .spelt p l);
+    covered = λ p l. ⊎-elim (λ b. ⊎-elim (λ c. inl c) (λ c. inr (⊎-elim (λ d. inl (cover-later later d)) (λ d. inr (cover-left rs rs' xs xs' p d)) c)) (v .covered p b)) (λ b. inr (⊎-elim (λ d. inl d) (λ d. inr (cover-right rs rs' xs xs' p even d)) b)) (w .covered p l);
+    apart = λ x s a. ⊎-elim (λ b. v .apart x s b) (λ b. inr (clean-lower F n m x (v .grew) (v .last) b)) (w .apart x s a);
+    clean = cleans-append F n xs xs' (v .clean) (cleans-lower F n m xs' (v .grew) (v .last) (w .clean));
+    last = λ y e i. ⊎-elim (λ (b : y < m). v .last y (omega arith) i) (λ (b : m ≤ y). w .last y e b) (split y m);
   }
 
   among-here : {x y : ℕ} {s u : Symbol} → (y ≡ x) × (u ≡ s) → Alternatives F g S y (alts g u) → Alternatives F g S x (alts g s)
   among-here {x} {y} {s} {u} e w = subst (λ (v : Symbol). Alternatives F g S x (alts g v)) (e .1) (subst (λ (j : ℕ). Alternatives F g S j (alts g u)) (e .0) w)
 
-  pub blocks-sound : {x : ℕ} {xs : List ℕ} {B : Starts} (m : ℕ) (S₁ : Starts) → Blocks F g S x xs B → PlacedAll F g S x xs → length xs ≡ 3 * m → Sound F g S x (x + m) S₁ (B ++ S₁)
-  blocks-sound {x} m S₁ b-none w e = record { rule = λ y s a. inl a; spelt = λ p h. inl (let z : 3 * m ≡ 0 = sym e in omega arith) }
+  pub blocks-sound : {x : ℕ} {xs : List ℕ} {B : Starts} (m : ℕ) (S₁ : Starts) → Blocks F g S x xs B → PlacedAll F g S x xs → length xs ≡ 3 * m → Sound F g S x (x + m) S₁ (B ++ S₁) [] []
+  blocks-sound {x} m S₁ b-none w e = let z : 3 * m ≡ 0 = sym e in record { grew = omega arith; rule = λ y s a. inl a; spelt = λ p h. inl (omega arith); covered = λ p h. inl (omega arith); apart = λ y s a. inl a; clean = tt; last = λ y q h. absurd (omega arith) }
   blocks-sound {x} m S₁ (b-rule {s = u} {xs = xs} {ys = ys} {B = B} r b) w e =
       let l : length xs ≡ 3 * weight (alts g u) = rows-length r in
       let ll : length xs + length ys ≡ 3 * m = sym (length-append xs ys) ∙ e in
@@ -91,8 +135,19 @@ module _ {F : List ℕ} {g : Grammar} {S : Starts} where
             (λ q. inr (among-here q al, subst (λ (v : Symbol). y + weight (alts g v) ≤ x + m) (q .1) (let z = q .0 in omega arith)))
             (λ a'. ⊎-elim (λ b'. inl b') (λ b'. inr (b' .0, (let z = b' .1 in omega arith))) (rest .rule y s a'))
             a;
+        grew = omega arith;
         spelt = λ p h. ⊎-elim
             (λ c. inl c)
             (λ c. ⊎-elim (λ d. inr (rule-spelt al p c d)) (λ d. ⊎-elim (λ c'. absurd (omega arith)) (λ c'. inr c') (rest .spelt p (omega arith))) (split p (x + weight (alts g u))))
             (split p x);
+        covered = λ p h. ⊎-elim
+            (λ c. inl c)
+            (λ (c : x ≤ p). ⊎-elim (λ (d : p < x + weight (alts g u)). inr (inl (record { first = x; symbol = u; among = inl (refl, refl); above = c; under = d }))) (λ (d : x + weight (alts g u) ≤ p). ⊎-elim (λ c'. absurd (omega arith)) (λ c'. inr (⊎-elim (λ b'. inl (cover-later (λ y s a. inr a) b')) (λ b'. absurd b') c')) (rest .covered p (omega arith))) (split p (x + weight (alts g u))))
+            (split p x);
+        apart = λ y s a. ⊎-elim
+            (λ q. inr (let z = q .0 in omega arith, λ j f i. absurd (let z = q .0 in omega arith)))
+            (λ a'. ⊎-elim (λ b'. inl b') (λ b'. inr (clean-lower F x (x + weight (alts g u)) y (omega arith) (λ j f i. alternatives-last al j f) b')) (rest .apart y s a'))
+            a;
+        clean = tt;
+        last = λ y f i. ⊎-elim (λ (d : y < x + weight (alts g u)). alternatives-last al y (omega arith)) (λ (d : x + weight (alts g u) ≤ y). rest .last y (omega arith) d) (split y (x + weight (alts g u)));
       }

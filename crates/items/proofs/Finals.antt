@@ -9,19 +9,22 @@ use lib.Dec.{T, eqb}
 use lib.ListN.{length, getD, take, drop, length-append, length-take, length-drop}
 use lib.Seq.{getD-take, getD-drop, length-take-le, take-take, drop-drop}
 use borrow.Author.Tests.{eq-eqb, ne-eqb}
-use Rattle.text.specs.Lists.{Text, pick, any, same, concatMap}
+use Rattle.text.specs.Lists.{Text, pick, any, same, repeats, concatMap}
 use Rattle.text.proofs.Tests.{split, look, isT, same-is, clash}
 use Rattle.tree.specs.Tree.{Mark, unmarked, included, attribute, deleted, Symbol, nonterminal, Rule, Grammar, rules}
 use Rattle.tree.specs.Tokens.{Token, name, rule-head, encode, numbers, markNumber, counted}
 use Rattle.plain.specs.Written.{heads}
+use Rattle.plain.specs.Static.{duplicate}
 use Rattle.plain.specs.Plain.{alts, alternatives, ruleFor, weight, size}
 use Rattle.items.specs.declared.State.{State}
 use Rattle.items.specs.Items.{kindAt, targetAt, tokenAt, Reads, ruleMark, over, markKind, Starts, Among, Stands, st-name, Alternatives, Spelt, Items}
 use Rattle.items.specs.Machine.{Abs, Has, Rep, kindBy}
 use Rattle.items.specs.Final.{Known, Placed, PlacedAll, Final}
-use Rattle.items.specs.Scanned.{At, Listed, l-none, l-rule, Bodies, Whole, Scanned, Readable, Prepared}
+use Rattle.items.specs.Scanned.{At, Listed, l-none, l-rule, RuleCover, Clean, Cleans, Bodies, Whole, Scanned, Readable, Prepared}
 use Rattle.items.specs.Linked.{Holding, headAt, firstAt, Found, Linkable, Resolved, Beside, Linked}
+use Rattle.items.specs.Built.{Cover, Built}
 use Rattle.items.proofs.Links.{beside-first}
+use Rattle.items.proofs.Blocks.{cover-later}
 
 -- the first item of the first rule of a name
 abbrev firstFor : List Rule → List ℕ → Text → ℕ
@@ -175,6 +178,43 @@ placed-all F g S (k ∷ t ∷ q ∷ xs) p h = (
         (subst (λ (z : ℕ). Placed F g S (p + 1 + j) (getD (k ∷ t ∷ q ∷ xs) z 0) (getD (k ∷ t ∷ q ∷ xs) (3 * suc j + 1) 0) (getD (k ∷ t ∷ q ∷ xs) (3 * suc j + 2) 0)) b
         (subst (λ (z : ℕ). Placed F g S z (getD (k ∷ t ∷ q ∷ xs) (3 * suc j) 0) (getD (k ∷ t ∷ q ∷ xs) (3 * suc j + 1) 0) (getD (k ∷ t ∷ q ∷ xs) (3 * suc j + 2) 0)) a w)))
 
+-- an item of a rule of the grammar is one of a name's rule, where no name has two rules
+pub record NameCover (rs : List Rule) (xs : List ℕ) (p : ℕ) : Type 0 where
+  pub called : Text
+  pub known : any (same called) (concatMap (λ r. r .name ∷ []) rs) ≡ true
+  pub above : firstFor rs xs called ≤ p
+  pub under : p < firstFor rs xs called + weight (ruleFor rs called)
+
+or-left-false : (a b : Bool) → a || b ≡ false → a ≡ false
+or-left-false true b e = e
+or-left-false false b e = refl
+
+or-right-false : (a b : Bool) → a || b ≡ false → b ≡ false
+or-right-false true b e = absurd (clash e refl)
+or-right-false false b e = e
+
+name-cover : (rs : List Rule) (xs : List ℕ) (p : ℕ) → repeats (concatMap (λ r. r .name ∷ []) rs) ≡ false → RuleCover rs xs p → NameCover rs xs p
+name-cover [] xs p d c = absurd c
+name-cover (r ∷ rs) [] p d c = absurd c
+name-cover (r ∷ rs) (x ∷ xs) p d (inl c) = record { called = r .name; known = rw (same-refl (r .name)); above = rw (same-refl (r .name)) (c .0); under = rw (same-refl (r .name)) (c .1) }
+name-cover (r ∷ rs) (x ∷ xs) p d (inr c) = go (name-cover rs xs p (or-right-false (any (same (r .name)) (concatMap (λ r. r .name ∷ []) rs)) (repeats (concatMap (λ r. r .name ∷ []) rs)) d) c)
+  where
+    go : NameCover rs xs p → NameCover (r ∷ rs) (x ∷ xs) p
+    go w = by (same (w .called) (r .name)) refl
+      where
+        by : (b : Bool) → same (w .called) (r .name) ≡ b → NameCover (r ∷ rs) (x ∷ xs) p
+        by true q = absurd (clash (or-left-false (any (same (r .name)) (concatMap (λ r. r .name ∷ []) rs)) (repeats (concatMap (λ r. r .name ∷ []) rs)) d) (subst (λ (n : Text). any (same n) (concatMap (λ r. r .name ∷ []) rs) ≡ true) (same-is (w .called) (r .name) (isT q)) (w .known)))
+        by false q = record { called = w .called; known = rw q (w .known); above = rw q (w .above); under = rw q (w .under) }
+
+first-clean : (F : List ℕ) (rs : List Rule) (xs : List ℕ) (n : Text) → Cleans F 0 xs → Clean F 0 (firstFor rs xs n)
+first-clean F [] xs n c = (omega arith, λ y e h. absurd (omega arith))
+first-clean F (r ∷ rs) [] n c = (omega arith, λ y e h. absurd (omega arith))
+first-clean F (r ∷ rs) (x ∷ xs) n c = by (first-clean F rs xs n (c .1)) (same n (r .name))
+  where
+    by : Clean F 0 (firstFor rs xs n) → (b : Bool) → Clean F 0 (pick b x (firstFor rs xs n))
+    by d true = c .0
+    by d false = d
+
 -- where all rules begin
 abbrev allStarts : (g : Grammar) → Starts → List ℕ → Starts
 allStarts g S firsts = S ++ nameStarts (firstFor (rules g) firsts) (rules g)
@@ -269,13 +309,41 @@ module _ {g : Grammar} {K T : List ℕ} {s : State} (w : Scanned g K T s) where
     root-place : getD F 13825 0 ≡ firstFor (rules g) (w .firsts) (g .root .name)
     root-place = beside-first (l .beside) 0 ∙ first-row 0 (omega arith) ∙ root-first (w .listed)
 
-    pub scanned-items : (root : ℕ) → root ≡ getD F 13825 0 → Items F g root
+    abbrev scanned-items : (root : ℕ) → root ≡ getD F 13825 0 → Items F g root
     scanned-items root e = record {
       starts = allStarts g (w .starts) (w .firsts);
       rule = λ x y m. rule-there x y m .0;
       below = λ x y m. omega (arith, rule-there x y m .1, w .count);
       begins = among-right root (nonterminal unmarked (g .root .name)) (w .starts) (nameStarts (firstFor (rules g) (w .firsts)) (rules g)) (subst (λ (z : ℕ). Among z (nonterminal unmarked (g .root .name)) (nameStarts (firstFor (rules g) (w .firsts)) (rules g))) (sym (e ∙ root-place)) (name-among (firstFor (rules g) (w .firsts)) (g .root .name) (rules g) root-known));
       spelt = λ p h. scanned-whole .spelt p (omega (arith, w .count));
+    }
+
+    rule-clean : (x : ℕ) (y : Symbol) → Among x y (allStarts g (w .starts) (w .firsts)) → Clean F 0 x
+    rule-clean x y m = ⊎-elim (λ a. scanned-whole .apart x y a) (λ b. named (among-named (firstFor (rules g) (w .firsts)) (rules g) x y b)) (among-split x y (w .starts) (nameStarts (firstFor (rules g) (w .firsts)) (rules g)) m)
+      where
+        named : Named (firstFor (rules g) (w .firsts)) (rules g) x y → Clean F 0 x
+        named v = subst (Clean F 0) (v .place) (first-clean F (rules g) (w .firsts) (v .called) (scanned-whole .clean))
+
+    named-cover : (p : ℕ) → NameCover (rules g) (w .firsts) p → Cover g (allStarts g (w .starts) (w .firsts)) p
+    named-cover p v = record {
+      first = firstFor (rules g) (w .firsts) (v .called);
+      symbol = nonterminal unmarked (v .called);
+      among = among-right (firstFor (rules g) (w .firsts) (v .called)) (nonterminal unmarked (v .called)) (w .starts) (nameStarts (firstFor (rules g) (w .firsts)) (rules g)) (name-among (firstFor (rules g) (w .firsts)) (v .called) (rules g) (v .known));
+      above = v .above;
+      under = v .under;
+    }
+
+    scanned-covered : duplicate g ≡ false → (p : ℕ) → p < w .state .items → Cover g (allStarts g (w .starts) (w .firsts)) p
+    unfolding duplicate
+    scanned-covered d p h = ⊎-elim (λ a. cover-later (λ x y m. among-left x y (w .starts) (nameStarts (firstFor (rules g) (w .firsts)) (rules g)) m) a) (λ b. named-cover p (name-cover (rules g) (w .firsts) p d b)) (scanned-whole .covered p h)
+
+    pub scanned-built : (root : ℕ) → root ≡ getD F 13825 0 → Built F g root
+    scanned-built root e = record {
+      items = scanned-items root e;
+      blocks = record {
+        covered = λ d p h. scanned-covered d p (omega (arith, w .count));
+        apart = λ x y s m q. rule-clean x s m .1 y q (omega arith);
+      };
     }
 
     pub scanned-tokens : (T₀ : List ℕ) (end : ℕ) → K ≡ take 12288 T₀ → end ≤ 12288 → take end F ≡ take end T₀

@@ -23,7 +23,7 @@ use Rattle.items.specs.Machine.{Entry, entry, nums, Abs, pushed, Act, Fi
 use Rattle.items.specs.Scanned.{At, Listed, l-none, l-rule, Bodies, Whole}
 use Rattle.items.specs.Final.{Final, PlacedAll}
 use Rattle.items.proofs.Reps.{act-as}
-use Rattle.items.proofs.Blocks.{Rows, rows-alternatives, rows-length, placed-append, Sound, sound-none, sound-then}
+use Rattle.items.proofs.Blocks.{Rows, rows-alternatives, rows-length, placed-append, Sound, sound-none, sound-then, alternatives-last}
 use Rattle.items.proofs.Uses.{rule-spelt}
 use Rattle.items.proofs.Runs.{Trace, t-done, t-step, trace-append, at-left, at-right, Ok, Run, shorter}
 use Rattle.items.proofs.Trees.{KnownAll, known-append, Bod, body-run, opened, three-more, ok-pushed, at-head, skip-run}
@@ -46,7 +46,7 @@ pub record Ruled (g : Grammar) (K : List ℕ) (us : List Token) (rs : List Rule)
   pub listed : Listed K table rs firsts
   pub later : (x : ℕ) (s : Symbol) → Among x s S → Among x s starts
   pub cost : after .items + after .depth ≡ a .items + a .depth + costs us
-  pub sound : (F : List ℕ) (T : Starts) → Final g K (after .list) starts F T → Sound F g T (a .items) (after .items) S starts × Bodies F g T (after .items) rs firsts
+  pub sound : (F : List ℕ) (T : Starts) → Final g K (after .list) starts F T → Sound F g T (a .items) (after .items) S starts rs firsts × Bodies F g T (after .items) rs firsts
 
 head-duty : (m : Mark) (n : Text) → dutyOf (firstNumber (rule-head m n)) ≡ Open
 unfolding dutyOf
@@ -84,6 +84,10 @@ bodies-append g K F T n rs' xs' (l-rule w l) b c = (b .0, bodies-append g K F T 
 listed-append : {K ys ys' : List ℕ} {rs rs' : List Rule} {xs xs' : List ℕ} → Listed K ys rs xs → Listed K ys' rs' xs' → Listed K (ys ++ ys') (rs ++ rs') (xs ++ xs')
 listed-append l-none m = m
 listed-append (l-rule w l) m = l-rule w (listed-append l m)
+
+listed-even : {K ys : List ℕ} {rs : List Rule} {xs : List ℕ} → Listed K ys rs xs → length rs ≡ length xs
+listed-even l-none = refl
+listed-even (l-rule w l) = omega (arith, listed-even l)
 
 module _ {g : Grammar} {K : List ℕ} where
   rule-run : (r : Rule) → ProperBody (r .body) → KnownAll g (withinBody (r .body)) → (at : ℕ) (a : Abs) (S : Starts) → At K at (ruleTokens r) → Ok K a → a .rules ≤ a .items → a .items + a .depth + costs (ruleTokens r) ≤ 512 → Ruled g K (ruleTokens r) (r ∷ []) at a S
@@ -130,8 +134,13 @@ module _ {g : Grammar} {K : List ℕ} where
             let pp = placed-append F g T (q .after .list) (q .entries ++ nums (entry 6 0 0)) (q .after .items) 0 (q .run .ok .list) (f .placed) in
             let al : Alternatives F g T (q .after .items) (alternatives (r .body)) = rows-alternatives (q .after .items) rows (subst (λ (k : ℕ). PlacedAll F g T k (q .entries ++ nums (entry 6 0 0))) (let z : 0 + q .after .items ≡ q .after .items = omega arith in z) (pp .1)) in
             let wt : q .count + 1 ≡ weight (alternatives (r .body)) = let z = rows-length rows in omega arith in (
-              sound-then (let z : q .after .items ≤ q .after .items + (q .count + 1) = omega arith in z) (q .run .sound F T f') (record {
+              sound-then {rs = []} {rs' = r ∷ []} {xs = []} {xs' = q .after .items ∷ []} (λ x s m. m) refl (let z : q .after .items ≤ q .after .items + (q .count + 1) = omega arith in z) (q .run .sound F T f') (record {
+                grew = omega arith;
                 rule = λ x s m. inl m;
+                covered = λ j l. ⊎-elim (λ (b : j < q .after .items). inl b) (λ (b : q .after .items ≤ j). inr (inr (inl (b, omega arith)))) (split j (q .after .items));
+                apart = λ x s m. inl m;
+                clean = ((omega arith, λ y e i. absurd (omega arith)), tt);
+                last = λ y e i. alternatives-last al y (omega arith);
                 spelt = λ j l. ⊎-elim (λ b. inl b) (λ b. inr (rule-spelt al j b (omega arith))) (split j (q .after .items));
               }),
               ((al, omega arith), tt),
@@ -160,7 +169,7 @@ module _ {g : Grammar} {K : List ℕ} where
         let f' = shorter (r .more) (q .ok) (r .list) (r .later) F T f in
         let x = q .sound F T f' in
         let y = r .sound F T f in
-        (sound-then (r .grew) (x .0) (y .0), bodies-append g K F T (r .after .items) rs' (r .firsts) (q .listed) (bodies-more g F T (q .after .items) (r .after .items) rs (q .firsts) (r .grew) (x .1)) (y .1));
+        (sound-then (r .later) (listed-even (q .listed)) (r .grew) (x .0) (y .0), bodies-append g K F T (r .after .items) rs' (r .firsts) (q .listed) (bodies-more g F T (q .after .items) (r .after .items) rs (q .firsts) (r .grew) (x .1)) (y .1));
   }
 
   ruled-quiet : {at : ℕ} {a : Abs} (us : List Token) (S : Starts) → Trace us at a a → Ok K a → costs us ≡ 0 → Ruled g K us [] at a S

@@ -55,7 +55,7 @@ pub record Run (g : Grammar) (K : List ℕ) (us : List Token) (at : ℕ) (a b : 
   pub rules : b .rules ≡ a .rules
   pub base : b .base ≡ a .base
   pub later : (x : ℕ) (s : Symbol) → Among x s S → Among x s S'
-  pub sound : (F : List ℕ) (T : Starts) → Final g K (b .list) S' F T → Sound F g T (a .items) (b .items) S S'
+  pub sound : (F : List ℕ) (T : Starts) → Final g K (b .list) S' F T → Sound F g T (a .items) (b .items) S S' [] []
 
 pub among-later : (B S : Starts) (x : ℕ) (s : Symbol) → Among x s S → Among x s (B ++ S)
 among-later [] S x s m = m
@@ -83,7 +83,7 @@ module _ {g : Grammar} {K : List ℕ} where
     rules = w .rules ∙ v .rules;
     base = w .base ∙ v .base;
     later = λ x s m. w .later x s (v .later x s m);
-    sound = λ F T f. sound-then (w .grew) (v .sound F T (shorter (w .more) (v .ok) (w .list) (w .later) F T f)) (w .sound F T f);
+    sound = λ F T f. sound-then {rs = []} {rs' = []} {xs = []} {xs' = []} (w .later) refl (w .grew) (v .sound F T (shorter (w .more) (v .ok) (w .list) (w .later) F T f)) (w .sound F T f);
   }
 
   -- a token that adds no item
@@ -98,12 +98,12 @@ module _ {g : Grammar} {K : List ℕ} where
     rules = u;
     base = e;
     later = λ y s m. m;
-    sound = λ F T f. subst (λ (n : ℕ). Sound F g T (a .items) n S S) (sym i) (sound-none (a .items) S);
+    sound = λ F T f. subst (λ (n : ℕ). Sound F g T (a .items) n S S [] []) (sym i) (sound-none (a .items) S);
   }
 
   -- a block of items
-  pub sound-block : {a : Abs} (b : Abs) (S B : Starts) (xs : List ℕ) (m : ℕ) → Ok K a → b .list ≡ a .list ++ xs → length xs ≡ 3 * m → b .items ≡ a .items + m → (F : List ℕ) (T : Starts) → Final g K (b .list) (B ++ S) F T → Blocks F g T (a .items) xs B → Sound F g T (a .items) (b .items) S (B ++ S)
-  sound-block {a} b S B xs m k l w i F T f bl = subst (λ (n : ℕ). Sound F g T (a .items) n S (B ++ S)) (sym i) (blocks-sound m S bl (subst (λ (p : ℕ). PlacedAll F g T p xs) (let z : 0 + a .items ≡ a .items = omega arith in z) (placed-append F g T (a .list) xs (a .items) 0 (k .list) (subst (λ (l : List ℕ). PlacedAll F g T 0 l) l (f .placed)) .1)) w)
+  pub sound-block : {a : Abs} (b : Abs) (S B : Starts) (xs : List ℕ) (m : ℕ) → Ok K a → b .list ≡ a .list ++ xs → length xs ≡ 3 * m → b .items ≡ a .items + m → (F : List ℕ) (T : Starts) → Final g K (b .list) (B ++ S) F T → Blocks F g T (a .items) xs B → Sound F g T (a .items) (b .items) S (B ++ S) [] []
+  sound-block {a} b S B xs m k l w i F T f bl = subst (λ (n : ℕ). Sound F g T (a .items) n S (B ++ S) [] []) (sym i) (blocks-sound m S bl (subst (λ (p : ℕ). PlacedAll F g T p xs) (let z : 0 + a .items ≡ a .items = omega arith in z) (placed-append F g T (a .list) xs (a .items) 0 (k .list) (subst (λ (l : List ℕ). PlacedAll F g T 0 l) l (f .placed)) .1)) w)
 
   -- a token that adds a block
   pub run-block : {at : ℕ} {a b : Abs} (t : Token) (S B : Starts) (xs : List ℕ) (m : ℕ) → Act (dutyOf (firstNumber t)) at a b → Ok K a → Ok K b → b .list ≡ a .list ++ xs → length xs ≡ 3 * m → b .items ≡ a .items + m → b .rows ≡ a .rows → b .rules ≡ a .rules → b .base ≡ a .base → ((F : List ℕ) (T : Starts) → Final g K (b .list) (B ++ S) F T → Blocks F g T (a .items) xs B) → Run g K (t ∷ []) at a b S (B ++ S)

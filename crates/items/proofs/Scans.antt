@@ -132,5 +132,8 @@ going-done {T₀} {T} {end} {at} {g} {s} size h r l w =
             rule = λ y u m. ⊎-elim (λ b. absurd b) (λ b. b) (x .0 .rule y u m);
             bodies = x .1;
             spelt = λ p k. ⊎-elim (λ b. absurd (let e : p < 0 = b in omega arith)) (λ b. b) (x .0 .spelt p k);
+            covered = λ p k. ⊎-elim (λ b. absurd (let e : p < 0 = b in omega arith)) (λ b. b) (x .0 .covered p k);
+            apart = λ y u m. ⊎-elim (λ b. absurd b) (λ b. b) (x .0 .apart y u m);
+            clean = x .0 .clean;
           };
     }

@@ -325,7 +325,7 @@ module _ {g : Grammar} {K : List ℕ} where
           later = λ y s m. inr (r .run .later y s m);
           sound = λ F T f.
               let f' = shorter (r .entries ++ nums (entry 6 0 0)) (r .run .ok) refl (among-later ((r .after .items, group x) ∷ []) (r .starts)) F T f in
-              sound-then (let z : r .after .items ≤ r .after .items + (r .count + 1) = omega arith in z) (r .run .sound F T f') (sound-block (afterClose a (r .after) (r .entries) (r .count)) (r .starts) ((r .after .items, group x) ∷ []) (r .entries ++ nums (entry 6 0 0)) (r .count + 1) (r .run .ok) refl wide refl F T f (subst (λ (l : List ℕ). Blocks F g T (r .after .items) l ((r .after .items, group x) ∷ [])) (append-nil (r .entries ++ nums (entry 6 0 0))) (b-rule {s = group x} {ys = []} (r .rows F T f') b-none)));
+              sound-then {rs = []} {rs' = []} {xs = []} {xs' = []} (λ y s m. inr m) refl (let z : r .after .items ≤ r .after .items + (r .count + 1) = omega arith in z) (r .run .sound F T f') (sound-block (afterClose a (r .after) (r .entries) (r .count)) (r .starts) ((r .after .items, group x) ∷ []) (r .entries ++ nums (entry 6 0 0)) (r .count + 1) (r .run .ok) refl wide refl F T f (subst (λ (l : List ℕ). Blocks F g T (r .after .items) l ((r .after .items, group x) ∷ [])) (append-nil (r .entries ++ nums (entry 6 0 0))) (b-rule {s = group x} {ys = []} (r .rows F T f') b-none)));
         };
         stack = refl;
         depth = ap (λ (n : ℕ). n + 1) based;

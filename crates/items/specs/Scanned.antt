@@ -1,6 +1,7 @@
 -- What one pass over the tokens leaves: the items, where each rule begins, and that a table that takes them over has the plain rules.
 use mathlib.Core.Bool.{false}
 use mathlib.Core.List.{List, [], _∷_, _++_}
+use mathlib.Core.Logic.{_⊎_}
 use mathlib.Core.Path.{_≡_}
 use Prim.Native.Nat.{ℕ, _+_, _<_, _≤_}
 use lib.ListN.{length, take, drop}
@@ -10,9 +11,10 @@ use Rattle.plain.specs.Static.{undefined}
 use Rattle.plain.specs.Plain.{alts, alternatives, weight, size}
 use Rattle.measure.specs.Walk.{Holds}
 use Rattle.items.specs.declared.State.{State}
-use Rattle.items.specs.Items.{Starts, Among, Alternatives, Spelt}
+use Rattle.items.specs.Items.{kindAt, Starts, Among, Alternatives, Spelt}
 use Rattle.items.specs.Machine.{Abs, Rep}
 use Rattle.items.specs.Final.{Final}
+use Rattle.items.specs.Built.{Cover}
 
 -- tokens at a place of the token region
 pub record At (K : List ℕ) (at : ℕ) (us : List Token) : Type 0 where
@@ -24,6 +26,20 @@ pub data Listed (K : List ℕ) : List ℕ → List Rule → List ℕ → Type 0 
   l-none : Listed K [] [] []
   l-rule : {at x : ℕ} {ys : List ℕ} {r : Rule} {rs : List Rule} {xs : List ℕ} → At K at (rule-head (r .mark) (r .name) ∷ []) → Listed K ys rs xs → Listed K (at ∷ x ∷ ys) (r ∷ rs) (x ∷ xs)
 
+-- the item is one of a rule of the grammar
+abbrev pub RuleCover : List Rule → List ℕ → ℕ → Type 0
+RuleCover [] xs p = ⊥
+RuleCover (r ∷ rs) [] p = ⊥
+RuleCover (r ∷ rs) (x ∷ xs) p = ((x ≤ p) × (p < x + weight (alternatives (r .body)))) ⊎ RuleCover rs xs p
+
+-- an item from `from` on that is first: one that is before it ends a rule
+abbrev pub Clean : List ℕ → ℕ → ℕ → Type 0
+Clean F from x = (from ≤ x) × ((y : ℕ) → x ≡ y + 1 → from ≤ y → kindAt F y ≡ 6)
+
+abbrev pub Cleans : List ℕ → ℕ → List ℕ → Type 0
+Cleans F from [] = Unit {0}
+Cleans F from (x ∷ xs) = Clean F from x × Cleans F from xs
+
 -- each rule has its alternatives from its first item on, below n
 abbrev pub Bodies : List ℕ → Grammar → Starts → ℕ → List Rule → List ℕ → Type 0
 Bodies F g T n [] xs = Unit {0}
@@ -34,6 +50,9 @@ pub record Whole (F : List ℕ) (g : Grammar) (T : Starts) (starts : Starts) (fi
   pub rule : (x : ℕ) (s : Symbol) → Among x s starts → Alternatives F g T x (alts g s) × (x + weight (alts g s) ≤ n)
   pub bodies : Bodies F g T n (rules g) firsts
   pub spelt : (p : ℕ) → p < n → Spelt F g T p
+  pub covered : (p : ℕ) → p < n → Cover g starts p ⊎ RuleCover (rules g) firsts p
+  pub apart : (x : ℕ) (s : Symbol) → Among x s starts → Clean F 0 x
+  pub clean : Cleans F 0 firsts
 
 pub record Scanned (g : Grammar) (K T : List ℕ) (s : State) : Type 0 where
   pub state : Abs

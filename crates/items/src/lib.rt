@@ -11,7 +11,7 @@ ghost use lib.ListN.{length, take, drop, getD};
 ghost use lib.Seq.{sets};
 ghost use Rattle.tree.specs.Tree.{Grammar};
 ghost use Rattle.text.specs.Lists.{Text, same};
-ghost use Rattle.items.specs.Items.{Items};
+ghost use Rattle.items.specs.Built.{Built};
 ghost use Rattle.items.specs.Linked.{Holding, Found, Linkable, Single, Linked};
 ghost use Rattle.items.specs.Scanned.{Prepared, Readable, Scanned};
 ghost use Rattle.items.specs.Machine.{dutyOf, lateDutyOf, entry, nums, entryAt, bothEnds, onceBlock, optionBlock, starBlock, restBlock, listBlock, oneBlock, oneCount, oneFirst, twoBlock, twoCount, twoFirst, laid, Room, Source, Space, Copied, Ready, Acts, kindBy};
@@ -471,7 +471,7 @@ fn link(table: &mut [u32], items: usize, rules: usize)
 // The plain rules of the grammar whose tokens are the first `end` numbers. The result is the first item of the root's rule.
 pub fn build_items(table: &mut [u32], end: usize) -> usize
     requires { ⌜ Prepared (now table) end ⌝ }
-    ensures { λ r. ⌜ ((g : Grammar) → Readable (now (table .entry)) end g → (take end (now (table .exit)) ≡ take end (now (table .entry))) × Items (now (table .exit)) g r) ⌝ }
+    ensures { λ r. ⌜ ((g : Grammar) → Readable (now (table .entry)) end g → (take end (now (table .exit)) ≡ take end (now (table .entry))) × Built (now (table .exit)) g r) ⌝ }
 {
     let s = scan(table, end);
     link(table, s.items, s.rules);

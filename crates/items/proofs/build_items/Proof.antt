@@ -2,7 +2,7 @@ use native.Mathlib.Omega.{arith}
 use mathlib.Core.Path.{_≡_, refl, sym, ap, _∙_}
 use Prim.Native.Nat.{ℕ, _+_, _*_, _-_, _<_, _≤_}
 use lib.ListN.{length, getD}
-use Rattle.items.proofs.Finals.{scanned-linkable, scanned-items, scanned-tokens}
+use Rattle.items.proofs.Finals.{scanned-linkable, scanned-built, scanned-tokens}
 use borrow.Author.Needs.{needs}
 use Rattle.items.proofs.build_items.Statement.{statement}
 use Rattle.items.proofs.build_items.Tie as tie
@@ -33,7 +33,7 @@ same-length c = search needs
 
 -- src/lib.rt:152:1
 returns : tie.Need-returns
-returns c = λ g r. (scanned-tokens (c .before .before .before .before .before .before .before .scan .ensures g r) (c .before .before .before .link .ensures) (c .before .before .before .before .before .before .before .before .before .before .args .table .now) (c .before .before .before .before .before .before .before .before .before .before .args .end) refl (c .before .before .before .before .before .before .before .before .before .before .pre .inside), scanned-items (c .before .before .before .before .before .before .before .scan .ensures g r) (c .before .before .before .link .ensures) _ refl)
+returns c = λ g r. (scanned-tokens (c .before .before .before .before .before .before .before .scan .ensures g r) (c .before .before .before .link .ensures) (c .before .before .before .before .before .before .before .before .before .before .args .table .now) (c .before .before .before .before .before .before .before .before .before .before .args .end) refl (c .before .before .before .before .before .before .before .before .before .before .pre .inside), scanned-built (c .before .before .before .before .before .before .before .scan .ensures g r) (c .before .before .before .link .ensures) _ refl)
 
 pub build-items-spec : {M : Type 1} → statement M
 build-items-spec =
