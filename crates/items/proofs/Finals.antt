@@ -1,27 +1,27 @@
 -- Where rules begin, with the names; the table after names were linked takes the scanned items over.
 use mathlib.Core.Bool.{Bool, true, false, _||_}
-use mathlib.Core.List.{List, [], _∷_, _++_, append-nil, append-assoc}
+use mathlib.Core.List.{List, [], _∷_, _++_, append-nil}
 use mathlib.Core.Logic.{_⊎_, inl, inr, ⊎-elim}
 use mathlib.Core.Path.{_≡_, refl, sym, ap, ap₂, _∙_, subst}
 use Prim.Native.Nat.{ℕ, zero, suc, _+_, _*_, _-_, _<_, _≤_}
 use native.Mathlib.Omega.{arith}
-use lib.Dec.{T, eqb}
-use lib.ListN.{length, getD, take, drop, length-append, length-take, length-drop}
+use lib.Dec.{T}
+use lib.ListN.{length, getD, take, drop, length-drop}
 use lib.Seq.{getD-take, getD-drop, length-take-le, take-take, drop-drop}
-use borrow.Author.Tests.{eq-eqb, ne-eqb}
+use borrow.Author.Tests.{eq-eqb}
 use Rattle.text.specs.Lists.{Text, pick, any, same, repeats, concatMap}
-use Rattle.text.proofs.Tests.{split, look, isT, same-is, clash}
+use Rattle.text.proofs.Tests.{isT, same-is, clash}
 use Rattle.tree.specs.Tree.{Mark, unmarked, included, attribute, deleted, Symbol, nonterminal, Rule, Grammar, rules}
-use Rattle.tree.specs.Tokens.{Token, name, rule-head, encode, numbers, markNumber, counted}
+use Rattle.tree.specs.Tokens.{name, rule-head, markNumber, counted}
 use Rattle.plain.specs.Written.{heads}
 use Rattle.plain.specs.Static.{duplicate}
 use Rattle.plain.specs.Plain.{alts, alternatives, ruleFor, weight, size}
 use Rattle.items.specs.declared.State.{State}
-use Rattle.items.specs.Items.{kindAt, targetAt, tokenAt, Reads, ruleMark, over, markKind, Starts, Among, Stands, st-name, Alternatives, Spelt, Items}
-use Rattle.items.specs.Machine.{Abs, Has, Rep, kindBy}
-use Rattle.items.specs.Final.{Known, Placed, PlacedAll, Final}
-use Rattle.items.specs.Scanned.{At, Listed, l-none, l-rule, RuleCover, Clean, Cleans, Bodies, Whole, Scanned, Readable, Prepared}
-use Rattle.items.specs.Linked.{Holding, headAt, firstAt, Found, Linkable, Resolved, Beside, Linked}
+use Rattle.items.specs.Items.{kindAt, targetAt, tokenAt, Reads, ruleMark, over, markKind, Starts, Among, st-name, Alternatives, Items}
+use Rattle.items.specs.Machine.{kindBy}
+use Rattle.items.specs.Final.{Placed, PlacedAll, Final}
+use Rattle.items.specs.Scanned.{At, Listed, l-none, l-rule, RuleCover, Clean, Cleans, Bodies, Whole, Scanned}
+use Rattle.items.specs.Linked.{Holding, headAt, firstAt, Linkable, Resolved, Linked}
 use Rattle.items.specs.Built.{Cover, Built}
 use Rattle.items.proofs.Links.{beside-first}
 use Rattle.items.proofs.Blocks.{cover-later}

@@ -1,17 +1,16 @@
 -- The table while names are linked.
-use mathlib.Core.Bool.{Bool, true, false}
-use mathlib.Core.List.{List, [], _∷_, _++_}
-use mathlib.Core.Logic.{_⊎_, inl, inr, ⊎-elim}
+use mathlib.Core.List.{List}
+use mathlib.Core.Logic.{⊎-elim}
 use mathlib.Core.Path.{_≡_, refl, sym, ap, ap₂, _∙_, subst}
-use Prim.Native.Nat.{ℕ, zero, suc, _+_, _*_, _-_, _<_, _≤_}
+use Prim.Native.Nat.{ℕ, _+_, _*_, _<_, _≤_}
 use native.Mathlib.Omega.{arith}
-use lib.ListN.{length, getD, take, drop, set, length-set}
+use lib.ListN.{length, getD, drop, set, length-set}
 use lib.Seq.{getD-take, getD-drop, getD-set-other, getD-set-same, take-set-le, drop-set-lt}
-use Rattle.text.specs.Lists.{Text, same}
+use Rattle.text.specs.Lists.{Text}
 use Rattle.text.proofs.Tests.{split}
 use Rattle.items.specs.Items.{kindAt, targetAt, tokenAt}
 use Rattle.items.specs.Machine.{kindBy}
-use Rattle.items.specs.Linked.{Holding, headAt, firstAt, Found, Linkable, Resolved, Beside, Single, Linked}
+use Rattle.items.specs.Linked.{Holding, headAt, firstAt, Found, Resolved, Beside, Single, Linked}
 
 pub beside-row : {T T' : List ℕ} → Beside T T' → (j : ℕ) → getD T' (13824 + j) 0 ≡ getD T (13824 + j) 0
 beside-row {T} {T'} b j = sym (getD-drop 13824 T' j 0) ∙ ap (λ (l : List ℕ). getD l j 0) (b .rows) ∙ getD-drop 13824 T j 0

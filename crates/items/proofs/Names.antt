@@ -1,19 +1,18 @@
 -- Names in the tokens, and the first rule of a name.
-use mathlib.Core.Bool.{Bool, true, false, _&&_, and-false}
-use mathlib.Core.List.{List, [], _∷_, _++_, append-nil}
-use mathlib.Core.Logic.{_⊎_, inl, inr, ⊎-elim}
+use mathlib.Core.Bool.{Bool, true, false, and-false}
+use mathlib.Core.List.{List, [], _∷_, _++_}
+use mathlib.Core.Logic.{⊎-elim}
 use mathlib.Core.Path.{_≡_, refl, sym, ap, _∙_, subst}
-use Prim.Native.Nat.{ℕ, zero, suc, _+_, _*_, _-_, _<_, _≤_}
-use native.Mathlib.Nat.{add-suc, suc-add, add-zero}
+use Prim.Native.Nat.{ℕ, zero, suc, _+_, _-_, _<_, _≤_}
 use native.Mathlib.Omega.{arith}
 use borrow.Author.Tests.{eq-eqb, ne-eqb}
 use lib.Dec.{eqb}
-use lib.ListN.{length, getD, take, drop, length-append, length-take, length-drop, List·getD-append}
+use lib.ListN.{length, getD, take, drop, length-append, length-drop, List·getD-append}
 use lib.Seq.{getD-take, getD-drop, length-take-le}
 use Rattle.text.specs.Lists.{Text, same}
 use Rattle.text.proofs.Lists.{same-lengths}
 use Rattle.text.proofs.Tests.{split}
-use Rattle.items.specs.Linked.{Holding, headAt, Found, Linkable, Beside}
+use Rattle.items.specs.Linked.{Holding, headAt, Found}
 
 -- what a token that holds a text says
 module _ (T : List ℕ) (a : ℕ) (x : Text) (size : length T ≡ 16384) (h : Holding T a x) where
