@@ -23,12 +23,18 @@ rule-mark (r ∷ rs) n = ap (λ (m : Mark). pick (same n (r .name)) (r .mark) m)
 by-kind : Grammar → Kind → Mark
 by-kind g k = elim k [ atom x ↦ deleted | named m n ↦ over m (ruleMark (rules g) n) | made ↦ deleted ]
 
+pub name-mark : (g : Grammar) (m : Mark) (n : Text) → markKind (items.over m (items.ruleMark (rules g) n)) ≡ markKind (markOf g (nonterminal m n))
+name-mark g m n = ap (λ (x : Mark). markKind (over m x)) (rule-mark (rules g) n)
+
+pub made-mark : (g : Grammar) (s : Symbol) → kind s ≡ made → 4 ≡ markKind (markOf g s)
+unfolding by-kind
+made-mark g s q = sym (ap (λ (x : Kind). markKind (by-kind g x)) q)
+
 module _ {T : List ℕ} {g : Grammar} {starts : Starts} where
   pub node-mark : {p a : ℕ} {s : Symbol} → Stands T g starts p s → a < length (alts g s) → kindAt T p ≡ markKind (markOf g s)
-  unfolding by-kind
   node-mark (st-terminal k r) l = absurd (omega arith)
-  node-mark (st-name {m = m} {n = n} k r a) l = k ∙ ap (λ (x : Mark). markKind (over m x)) (rule-mark (rules g) n)
-  node-mark (st-made q k a) l = k ∙ sym (ap (λ (x : Kind). markKind (by-kind g x)) q)
+  node-mark (st-name {m = m} {n = n} k r a) l = k ∙ name-mark g m n
+  node-mark (st-made {s = s} q k a) l = k ∙ made-mark g s q
 
   pub node-named : {p : ℕ} {s : Symbol} → Stands T g starts p s → 2 ≤ kindAt T p → kindAt T p ≤ 3 → (k : ℕ) × Named T (tokenAt T p) k (nameOf s)
   node-named (st-terminal k r) a b = absurd (omega arith)

@@ -1,0 +1,45 @@
+-- The document as a whole.
+use mathlib.Core.Path.{_≡_}
+use mathlib.Core.Bool.{Bool, true, false}
+use mathlib.Core.List.{List, [], _∷_, _++_}
+use Prim.Native.Nat.{ℕ, _+_, _*_, _<_, _≤_}
+use lib.ListN.{length, drop}
+use Rattle.text.specs.Lists.{Text}
+use Rattle.tree.specs.Tree.{Grammar}
+use Rattle.tree.specs.Tokens.{grammarTokens}
+use Rattle.derive.specs.Derive.{Row}
+use Rattle.items.specs.Items.{Reads}
+use Rattle.xml.specs.Document.{document, misnamed, unwritable, notOne}
+use Rattle.xml.specs.Bytes.{bytes}
+use Rattle.ends.specs.Noted.{Noted, Parsed}
+use Rattle.spell.specs.Out.{Wrote}
+use Rattle.spell.specs.Tags.{stateOf}
+use Rattle.writer.specs.Content.{stated}
+use Rattle.writer.specs.declared.Written.{Written}
+use Rattle.writer.specs.declared.Written.the-variants.{Xml, TooLong}
+
+-- a derivation that the list names, with its notes and the grammar's tokens
+pub record Job (T : List ℕ) (root : ℕ) (P : List ℕ) (r : Text) (S : List ℕ) (g : Grammar) (t : Row) : Type 0 where
+  pub parsed : Parsed T root P g r t
+  pub noted : Noted S 0 t
+  pub tokens : Reads T 0 (grammarTokens g)
+
+pub record Some (T : List ℕ) (root : ℕ) (P : List ℕ) (r : Text) (S : List ℕ) : Type 0 where
+  pub g : Grammar
+  pub t : Row
+  pub job : Job T root P r S g t
+
+-- 18, 19 and 21 forbid nothing of it
+pub record Writable (g : Grammar) (r : Text) (t : Row) : Type 0 where
+  pub names : misnamed (document g r t) ≡ false
+  pub chars : unwritable (document g r t) ≡ false
+  pub one : notOne (document g r t) ≡ false
+
+-- the bytes, if they fit; else nothing
+pub record Answered (bs old new : List ℕ) (a : Written) : Type 0 where
+  pub fits : length bs ≤ length old → (a ≡ Xml (length bs)) × (new ≡ bs ++ drop (length bs) old)
+  pub long : length old < length bs → (a ≡ TooLong) × (new ≡ old)
+
+pub record Documented (T : List ℕ) (root : ℕ) (P : List ℕ) (r : Text) (due : ℕ) (S S' out out' : List ℕ) (limit q : ℕ) : Type 0 where
+  pub kept : S' ≡ S
+  pub wrote : (g : Grammar) (t : Row) → Job T root P r S g t → Wrote limit 0 out q out' (stated (stateOf due) (document g r t))
