@@ -73,11 +73,11 @@ unfolding categoryNumber place categories
 not-known c h = rw (unknown c h)
 
 -- a test of every number below m
-abbrev below : ℕ → (ℕ → Bool) → Bool
+abbrev pub below : ℕ → (ℕ → Bool) → Bool
 below zero p = true
 below (suc m) p = p m && below m p
 
-below-at : (m : ℕ) (p : ℕ → Bool) → T (below m p) → (n : ℕ) → n < m → T (p n)
+pub below-at : (m : ℕ) (p : ℕ → Bool) → T (below m p) → (n : ℕ) → n < m → T (p n)
 below-at zero p t n h = absurd (not-suc-le-zero h)
 below-at (suc m) p t n h = elim (ℕ-discrete n m) as (λ _. T (p n)) [
   | yes e ↦ subst (λ (k : ℕ). T (p k)) (sym e) (and-left (p m) (below m p) t)

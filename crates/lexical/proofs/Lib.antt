@@ -1,4 +1,5 @@
 pub mod Tests
+pub mod Ascii
 pub mod Places
 pub mod Spacing
 pub mod Table

@@ -68,6 +68,7 @@ pub fn peek(text: &[u32], p: CharPlace) -> u32
     END
 }
 
+// Tests by comparison come before those by the table, which cost more.
 fn between(c: u32, first: u32, last: u32) -> bool
     ensures { λ r. ⌜ r ≡ (leb first c && leb c last) ⌝ }
 {
@@ -80,6 +81,9 @@ fn between(c: u32, first: u32, last: u32) -> bool
 pub fn whitespace(c: u32) -> bool
     ensures { λ r. ⌜ r ≡ Whitespace c ⌝ }
 {
+    if between(c, 0x21, 0x7e) {
+        return false;
+    }
     if category::in_class(22, c) {
         return true;
     }
@@ -107,6 +111,9 @@ fn plain(q: u32, c: u32) -> bool
 {
     if c == q {
         return false;
+    }
+    if between(c, 0x20, 0x7e) {
+        return true;
     }
     !category::in_class(25, c)
 }
@@ -188,6 +195,9 @@ fn mark_number(c: u32) -> u32
 pub fn name_start(c: u32) -> bool
     ensures { λ r. ⌜ r ≡ namestart c ⌝ }
 {
+    if letter(c) {
+        return true;
+    }
     if c == 0x5f {
         return true;
     }
@@ -216,6 +226,9 @@ fn connector(c: u32) -> bool
 fn name_follower(c: u32) -> bool
     ensures { λ r. ⌜ r ≡ namefollower c ⌝ }
 {
+    if between(c, 0x30, 0x39) {
+        return true;
+    }
     if name_start(c) {
         return true;
     }

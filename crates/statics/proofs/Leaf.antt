@@ -10,7 +10,8 @@ use lib.ListN.{length, getD}
 use borrow.Author.Tests.{lt-ltb, le-ltb, eq-eqb, ne-eqb}
 use Rattle.text.specs.Lists.{Text, pick, any, same}
 use Rattle.text.proofs.Lists.{or-false, any-append}
-use Rattle.statics.specs.Parts.{Part, used, headed, code, between, classed, other, sortOf, sizeOf, lettersOf, partOf, sizeAt, nameAt, partAt, usedIn, headsIn, endCodes, codesIn, lacking, badCode, badCodes, backward, classless}
+use Rattle.category.specs.Category.{letters}
+use Rattle.statics.specs.Parts.{Part, used, headed, code, between, classed, other, sortOf, sizeOf, partOf, sizeAt, nameAt, partAt, usedIn, headsIn, endCodes, codesIn, lacking, badCode, badCodes, backward, classless}
 
 size-some : (s c : ℕ) → 0 < sizeOf s c
 unfolding sizeOf
@@ -52,7 +53,7 @@ module _ (t : List ℕ) (k : ℕ) (h : k + sizeAt t k ≤ length t) where
 
 -- the cases of a part
 by-sort : (P : Part → Type 0) (s : ℕ) (n : Text) (v w x y : ℕ) → (s ≡ 0 → P (used n)) → (s ≡ 1 → P (headed n)) → (s ≡ 3 → P (code v)) → (s ≡ 4 → P (between v w x y))
-    → (s ≡ 5 → P (classed (lettersOf v w))) → P other → P (partOf s n v w x y)
+    → (s ≡ 5 → P (classed (letters v w))) → P other → P (partOf s n v w x y)
 unfolding partOf
 by-sort P s n v w x y h₀ h₁ h₃ h₄ h₅ h = elim (ℕ-discrete s 0) as (λ _. P (partOf s n v w x y)) [
   | yes e ↦ rw (eq-eqb s 0 e) (h₀ e)
@@ -91,7 +92,7 @@ module _ (t : List ℕ) (k s : ℕ) (e : s ≡ sortOf (getD t k 0)) where
   unfolding partOf
   is-range f = at-sort ∙ rw f
 
-  pub is-class : s ≡ 5 → partAt t k ≡ classed (lettersOf (getD t (k + 1) 0) (getD t (k + 2) 0))
+  pub is-class : s ≡ 5 → partAt t k ≡ classed (letters (getD t (k + 1) 0) (getD t (k + 2) 0))
   unfolding partOf
   is-class f = at-sort ∙ rw f
 

@@ -1,16 +1,17 @@
 -- Names in a table, compared and looked up.
-use mathlib.Core.Path.{_≡_, refl, sym, ap, _∙_}
+use mathlib.Core.Path.{_≡_, refl, sym, ap, _∙_, subst}
 use mathlib.Core.Bool.{Bool, true, false, _&&_, _||_}
 use mathlib.Core.List.{List, [], _∷_, _++_}
 use Prim.Native.Nat.{ℕ, zero, suc, _+_, _-_, _≤_, _<_, min}
 use native.Mathlib.Omega.{arith}
 use native.Mathlib.Numerals.{add-one}
-use lib.Dec.{eqb}
+use lib.Dec.{T, eqb}
 use lib.ListN.{length, getD, take, drop, length-take, length-drop, drop-of-length-le}
 use lib.Seq.{drop-cons, getD-take, getD-drop, slice, slice-cons, slice-empty}
 use borrow.Author.Tests.{eq-eqb, ne-eqb}
 use Rattle.text.specs.Lists.{Text, any, same, repeats, chars}
 use Rattle.text.proofs.Lists.{same-lengths}
+use Rattle.text.proofs.Tests.{same-is}
 use Rattle.statics.specs.Parts.{nameAt}
 use Rattle.statics.specs.Scan.{Named, Names, Listing, namesAt}
 
@@ -37,6 +38,23 @@ module _ (t : List ℕ) (a b : ℕ) (h : Names t a b) where
 
   pub start : (x y : ℕ) → x ≡ getD t (a + 1) 0 → y ≡ getD t (b + 1) 0 → y ≡ x → SameAt t a b x 0
   start x y e f g = record { low = omega arith; left = e; right = sym g ∙ f; on = refl }
+
+  -- names of one length that differ at their last characters
+  pub last-differs : (x y : ℕ) → x ≡ getD t (a + 1) 0 → y ≡ getD t (b + 1) 0 → y ≡ x → (getD t (a + 1 + x) 0 ≡ getD t (b + 1 + x) 0 → ⊥) → false ≡ same (nameAt t a) (nameAt t b)
+  last-differs x y e f g d = by (same (nameAt t a) (nameAt t b)) refl
+    where
+      at-last : nameAt t a ≡ nameAt t b → (n : ℕ) → x ≡ n → getD t (a + 1 + n) 0 ≡ getD t (b + 1 + n) 0
+      at-last q zero z = ap (λ (i : ℕ). getD t i 0) (let w : a + 1 + 0 ≡ a + 1 = omega arith in w) ∙ sym e ∙ sym g ∙ f ∙ ap (λ (i : ℕ). getD t i 0) (let w : b + 1 ≡ b + 1 + 0 = omega arith in w)
+      at-last q (suc n) z =
+          ap (λ (i : ℕ). getD t i 0) (let w : a + 1 + suc n ≡ a + 2 + n = omega arith in w)
+          ∙ sym (name-at t a (h .left) n (omega arith))
+          ∙ ap (λ (l : Text). getD l n 0) q
+          ∙ name-at t b (h .right) n (omega arith)
+          ∙ ap (λ (i : ℕ). getD t i 0) (let w : b + 2 + n ≡ b + 1 + suc n = omega arith in w)
+
+      by : (r : Bool) → same (nameAt t a) (nameAt t b) ≡ r → false ≡ r
+      by true q = absurd (d (at-last (same-is (nameAt t a) (nameAt t b) (subst T (sym q) tt)) x refl))
+      by false q = refl
 
   module _ (count i : ℕ) (w : SameAt t a b count i) where
     pub done : count ≤ i → true ≡ same (nameAt t a) (nameAt t b)

@@ -14,8 +14,9 @@ use Rattle.text.specs.Lists.{Text, pick, all}
 use Rattle.text.proofs.Table.{and-left, and-right}
 use Rattle.tree.specs.Tree.{Mark, unmarked, included, attribute, deleted, Chars, string, hex}
 use Rattle.tree.specs.Tokens.{Token, name, quoted, coded, include, exclude, member-quoted, member-coded, member-range, member-class, set-end, insert-quoted, insert-coded, open-group, close-group, next-alternative, to-option, to-repeat0, to-repeat1, to-repeat0sep, to-repeat1sep, rule-head, rule-end, version-is, markNumber, capped, counted, endNumbers, numbers, encode}
+use Rattle.category.specs.Category.{letters}
 use Rattle.statics.specs.Held.{single, lettered}
-use Rattle.statics.specs.Parts.{Part, used, headed, code, between, classed, other, lateSort, sortOf, sizeOf, lettersOf, partOf, sizeAt, nameAt, partAt, part}
+use Rattle.statics.specs.Parts.{Part, used, headed, code, between, classed, other, lateSort, sortOf, sizeOf, partOf, sizeAt, nameAt, partAt, part}
 use Rattle.statics.specs.Scan.{sound, Tokens}
 
 pub by-mark : (P : ℕ → Type 0) → P 0 → P 1 → P 2 → P 3 → (m : Mark) → P (markNumber m)
@@ -140,10 +141,10 @@ range-is (hex m) (string (d ∷ [])) s v r = rw (r 1 (omega arith), r 2 (omega a
 range-is (hex m) (string (d ∷ e ∷ ds)) s v r = absurd s
 range-is (hex m) (hex n) s v r = rw (r 1 (omega arith), r 2 (omega arith), r 3 (omega arith), r 4 (omega arith))
 
-class-is : (k : Text) → T (lettered k) → (v : ℕ → ℕ) → Reads (member-class k) v → lettersOf (v 1) (v 2) ≡ k
+class-is : (k : Text) → T (lettered k) → (v : ℕ → ℕ) → Reads (member-class k) v → letters (v 1) (v 2) ≡ k
 class-is [] s v r = absurd s
 class-is (c ∷ []) s v r = rw (r 1 (omega arith), r 2 (omega arith))
-class-is (c ∷ d ∷ []) s v r = rw (r 1 (omega arith), r 2 (omega arith)) (elim (ℕ-discrete d 0) as (λ _. lettersOf c d ≡ c ∷ d ∷ []) [
+class-is (c ∷ d ∷ []) s v r = rw (r 1 (omega arith), r 2 (omega arith)) (elim (ℕ-discrete d 0) as (λ _. letters c d ≡ c ∷ d ∷ []) [
   | yes e ↦ absurd (nonzero d s e)
   | no e ↦ rw (ne-eqb d 0 e)
 ])

@@ -5,7 +5,7 @@ use Prim.Native.Nat.{ℕ, _+_}
 use lib.Dec.{ltb, leb, eqb}
 use lib.ListN.{getD, take, drop}
 use Rattle.text.specs.Lists.{Text, pick, any, same, all}
-use Rattle.category.specs.Category.{isClass}
+use Rattle.category.specs.Category.{isClass, letters}
 use Rattle.tree.specs.Tree.{Chars, string, hex}
 use Rattle.tree.specs.Tokens.{Token, name, quoted, coded, include, exclude, member-quoted, member-coded, member-range, member-class, set-end, insert-quoted, insert-coded, open-group, close-group, next-alternative, to-option, to-repeat0, to-repeat1, to-repeat0sep, to-repeat1sep, rule-head, rule-end, version-is, capped}
 use Rattle.plain.specs.Static.{unassignable}
@@ -30,16 +30,13 @@ sortOf n = pick (ltb n 4) 0 (pick (ltb n 8) 2 (pick (ltb n 12) 3 (pick (ltb n 20
 unfoldable pub sizeOf : ℕ → ℕ → ℕ
 sizeOf s count = pick (ltb s 3) (count + 2) (pick (eqb s 3) 2 (pick (eqb s 4) 5 (pick (eqb s 5) 3 1)))
 
-abbrev pub lettersOf : ℕ → ℕ → Text
-lettersOf c d = pick (eqb d 0) (c ∷ []) (c ∷ d ∷ [])
-
 unfoldable pub partOf : ℕ → Text → ℕ → ℕ → ℕ → ℕ → Part
 partOf s n v w x y =
     pick (eqb s 0) (used n)
     (pick (eqb s 1) (headed n)
     (pick (eqb s 3) (code v)
     (pick (eqb s 4) (between v w x y)
-    (pick (eqb s 5) (classed (lettersOf v w)) other))))
+    (pick (eqb s 5) (classed (letters v w)) other))))
 
 -- the token at the place k of a table: its size, its characters, its part
 abbrev pub sizeAt : List ℕ → ℕ → ℕ

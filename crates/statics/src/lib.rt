@@ -5,107 +5,17 @@ ghost use Prim.Native.Nat.{ℕ, _+_, _≤_};
 ghost use lib.ListN.{length, take};
 ghost use lib.Seq.{slice};
 ghost use Rattle.text.specs.Lists.{any, same, repeats, chars, span, inside};
-ghost use Rattle.category.specs.Category.{classes, place};
 ghost use Rattle.plain.specs.Static.{unassignable as noCharacter};
 ghost use Rattle.tree.specs.Tree.{Grammar};
 ghost use Rattle.tree.specs.Tokens.{Token};
-ghost use Rattle.statics.specs.Parts.{sortOf, lateSort, sizeAt, nameAt, partAt, lettersOf, lacking, badCode, endCodes, badCodes, backward, classless, failing};
+ghost use Rattle.statics.specs.Parts.{sortOf, lateSort, sizeAt, nameAt, partAt, lacking, badCode, endCodes, badCodes, backward, classless, failing};
 ghost use Rattle.statics.specs.Scan.{Tokens, Named, Names, Listing, Looking, Finding, Noting, Noted, Indexing, Indexed, Scanning, namesAt, fails, nameRefusal, codeRefusal, refusalOf};
 ghost use Rattle.statics.specs.Held.{Holds, Held, staticOf, mismatched};
-
-// The letters of the classes, in the order of the definition's list; 0 for none.
-const LETTER: [u8; 38] = [
-    76,
-    76,
-    76,
-    76,
-    76,
-    77,
-    77,
-    77,
-    78,
-    78,
-    78,
-    80,
-    80,
-    80,
-    80,
-    80,
-    80,
-    80,
-    83,
-    83,
-    83,
-    83,
-    90,
-    90,
-    90,
-    67,
-    67,
-    67,
-    67,
-    67,
-    76,
-    77,
-    78,
-    80,
-    83,
-    90,
-    67,
-    76,
-];
-
-const SECOND: [u8; 38] = [
-    117,
-    108,
-    116,
-    109,
-    111,
-    110,
-    99,
-    101,
-    100,
-    108,
-    111,
-    99,
-    100,
-    115,
-    101,
-    105,
-    102,
-    111,
-    109,
-    99,
-    107,
-    111,
-    115,
-    108,
-    112,
-    99,
-    102,
-    115,
-    111,
-    110,
-    0,
-    0,
-    0,
-    0,
-    0,
-    0,
-    0,
-    67,
-];
 
 fn wide(x: u32) -> usize
     ensures { λ r. ⌜ r ≡ x ⌝ }
 {
     x as usize
-}
-
-fn byte(x: u8) -> u32
-    ensures { λ r. ⌜ r ≡ x ⌝ }
-{
-    x as u32
 }
 
 // What a token's first number stands for: 0 a name, 1 a rule's head, 2 another with characters, 3 a hex number, 4 a range, 5 a class, 6 any other.
@@ -187,6 +97,10 @@ fn same_name(table: &[u32], a: usize, b: usize) -> bool
     if wide(table[b + 1]) != count {
         return false;
     }
+    // Names that are made by counting differ at their ends.
+    if table[a + 1 + count] != table[b + 1 + count] {
+        return false;
+    }
     let mut i = 0;
     while i < count {
         if table[a + 2 + i] != table[b + 2 + i] {
@@ -225,31 +139,6 @@ fn repeated(table: &[u32], index: &[u32], n: usize) -> bool
         i += 1;
     }
     false
-}
-
-// The place of the class of one letter or two in the definition's list; 38 for no class.
-pub fn class_of(c: u32, d: u32) -> usize
-    ensures { λ r. ⌜ r ≡ place classes (lettersOf c d) ⌝ }
-{
-    let letter = LETTER;
-    let second = SECOND;
-    let mut i = 0;
-    while i < 38 {
-        if is_class(byte(letter[i]), byte(second[i]), c, d) {
-            return i;
-        }
-        i += 1;
-    }
-    38
-}
-
-fn is_class(x: u32, y: u32, c: u32, d: u32) -> bool
-    ensures { λ r. ⌜ r ≡ same (lettersOf c d) (lettersOf x y) ⌝ }
-{
-    if c != x {
-        return false;
-    }
-    d == y
 }
 
 fn within(v: u32, from: u32, to: u32) -> bool
@@ -328,7 +217,7 @@ fn no_class(table: &[u32], k: usize) -> bool
     if sort(table[k]) != 5 {
         return false;
     }
-    38 <= class_of(table[k + 1], table[k + 2])
+    38 <= category::class_of(table[k + 1], table[k + 2])
 }
 
 fn lacks(table: &[u32], k: usize, index: &[u32], n: usize) -> bool

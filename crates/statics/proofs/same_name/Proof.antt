@@ -39,47 +39,74 @@ wide-requires-2 c κs = search needs
 returns : tie.Need-returns Inv-loop μ-loop
 returns c = law.differ (now (c .before .before .before .before .before .before .args .table)) (c .before .before .before .before .before .before .args .a) (c .before .before .before .before .before .before .args .b) (c .before .before .before .before .before .before .pre) (c .before .before .before .wide .result) (c .before .wide2 .result) (c .before .before .before .wide .ensures) (c .before .wide2 .ensures) (c .if1 .taken)
 
-loop-holds : tie.Need-loop-holds Inv-loop μ-loop
-loop-holds c = law.start (now (c .before .before .before .before .before .before .args .table)) (c .before .before .before .before .before .before .args .a) (c .before .before .before .before .before .before .args .b) (c .before .before .before .before .before .before .pre) (c .before .before .before .wide .result) (c .before .wide2 .result) (c .before .before .before .wide .ensures) (c .before .wide2 .ensures) (c .if1 .left)
-
 add-if2 : tie.Need-add-if2 Inv-loop μ-loop
-add-if2 c = let h = c .before .before .before .before .before .before .before .before .pre .left in let g = c .before .before .before .before .before .before .before .before .pre .right in let l = c .loop-test .taken in let x = c .before .loop .inv .left in let y = c .before .loop .inv .right in omega arith
+add-if2 c = let h = c .before .before .before .before .before .before .pre .left in let g = c .before .before .before .before .before .before .pre .right in let x = c .before .before .before .wide .ensures in let y = c .before .wide2 .ensures in let e = c .if1 .left in omega arith
 
 add-if2-2 : tie.Need-add-if2-2 Inv-loop μ-loop
-add-if2-2 c = let h = c .before .before .before .before .before .before .before .before .pre .left in let g = c .before .before .before .before .before .before .before .before .pre .right in let l = c .loop-test .taken in let x = c .before .loop .inv .left in let y = c .before .loop .inv .right in omega arith
+add-if2-2 c = let h = c .before .before .before .before .before .before .pre .left in let g = c .before .before .before .before .before .before .pre .right in let x = c .before .before .before .wide .ensures in let y = c .before .wide2 .ensures in let e = c .if1 .left in omega arith
 
 mul-if2 : tie.Need-mul-if2 Inv-loop μ-loop
-mul-if2 c = let h = c .before .before .before .before .before .before .before .before .pre .left in let g = c .before .before .before .before .before .before .before .before .pre .right in let l = c .loop-test .taken in let x = c .before .loop .inv .left in let y = c .before .loop .inv .right in omega arith
+mul-if2 c = let h = c .before .before .before .before .before .before .pre .left in let g = c .before .before .before .before .before .before .pre .right in let x = c .before .before .before .wide .ensures in let y = c .before .wide2 .ensures in let e = c .if1 .left in omega arith
 
 shared-slice-read-if2 : tie.Need-shared-slice-read-if2 Inv-loop μ-loop
-shared-slice-read-if2 c = let h = c .before .before .before .before .before .before .before .before .before .pre .left in let g = c .before .before .before .before .before .before .before .before .before .pre .right in let l = c .before .loop-test .taken in let x = c .before .before .loop .inv .left in let y = c .before .before .loop .inv .right in omega arith
+shared-slice-read-if2 c = let h = c .before .before .before .before .before .before .before .pre .left in let g = c .before .before .before .before .before .before .before .pre .right in let x = c .before .before .before .before .wide .ensures in let y = c .before .before .wide2 .ensures in let e = c .before .if1 .left in omega arith
 
 add-if2-3 : tie.Need-add-if2-3 Inv-loop μ-loop
-add-if2-3 c = let h = c .before .before .before .before .before .before .before .before .before .pre .left in let g = c .before .before .before .before .before .before .before .before .before .pre .right in let l = c .before .loop-test .taken in let x = c .before .before .loop .inv .left in let y = c .before .before .loop .inv .right in omega arith
+add-if2-3 c = let h = c .before .before .before .before .before .before .before .pre .left in let g = c .before .before .before .before .before .before .before .pre .right in let x = c .before .before .before .before .wide .ensures in let y = c .before .before .wide2 .ensures in let e = c .before .if1 .left in omega arith
 
 add-if2-4 : tie.Need-add-if2-4 Inv-loop μ-loop
-add-if2-4 c = let h = c .before .before .before .before .before .before .before .before .before .pre .left in let g = c .before .before .before .before .before .before .before .before .before .pre .right in let l = c .before .loop-test .taken in let x = c .before .before .loop .inv .left in let y = c .before .before .loop .inv .right in omega arith
+add-if2-4 c = let h = c .before .before .before .before .before .before .before .pre .left in let g = c .before .before .before .before .before .before .before .pre .right in let x = c .before .before .before .before .wide .ensures in let y = c .before .before .wide2 .ensures in let e = c .before .if1 .left in omega arith
 
 mul-if2-2 : tie.Need-mul-if2-2 Inv-loop μ-loop
-mul-if2-2 c = let h = c .before .before .before .before .before .before .before .before .before .pre .left in let g = c .before .before .before .before .before .before .before .before .before .pre .right in let l = c .before .loop-test .taken in let x = c .before .before .loop .inv .left in let y = c .before .before .loop .inv .right in omega arith
+mul-if2-2 c = let h = c .before .before .before .before .before .before .before .pre .left in let g = c .before .before .before .before .before .before .before .pre .right in let x = c .before .before .before .before .wide .ensures in let y = c .before .before .wide2 .ensures in let e = c .before .if1 .left in omega arith
 
 shared-slice-read-if2-2 : tie.Need-shared-slice-read-if2-2 Inv-loop μ-loop
-shared-slice-read-if2-2 c = let h = c .before .before .before .before .before .before .before .before .before .before .pre .left in let g = c .before .before .before .before .before .before .before .before .before .before .pre .right in let l = c .before .before .loop-test .taken in let x = c .before .before .before .loop .inv .left in let y = c .before .before .before .loop .inv .right in omega arith
+shared-slice-read-if2-2 c = let h = c .before .before .before .before .before .before .before .before .pre .left in let g = c .before .before .before .before .before .before .before .before .pre .right in let x = c .before .before .before .before .before .wide .ensures in let y = c .before .before .before .wide2 .ensures in let e = c .before .before .if1 .left in omega arith
 
 returns-2 : tie.Need-returns-2 Inv-loop μ-loop
-returns-2 c = law.parts (now (c .before .before .before .before .before .before .before .before .before .before .before .args .table)) (c .before .before .before .before .before .before .before .before .before .before .before .args .a) (c .before .before .before .before .before .before .before .before .before .before .before .args .b) (c .before .before .before .before .before .before .before .before .before .before .before .pre) (c .before .before .before .before .before .before .before .before .wide .result) (c .before .before .before .before .loop .i) (c .before .before .before .before .loop .inv) (c .before .before .before .loop-test .taken) (c .if2 .taken)
+returns-2 c = law.last-differs (now (c .before .before .before .before .before .before .before .before .before .args .table)) (c .before .before .before .before .before .before .before .before .before .args .a) (c .before .before .before .before .before .before .before .before .before .args .b) (c .before .before .before .before .before .before .before .before .before .pre) (c .before .before .before .before .before .before .wide .result) (c .before .before .before .before .wide2 .result) (c .before .before .before .before .before .before .wide .ensures) (c .before .before .before .before .wide2 .ensures) (c .before .before .before .if1 .left) (c .if2 .taken)
+
+loop-holds : tie.Need-loop-holds Inv-loop μ-loop
+loop-holds c = law.start (now (c .before .before .before .before .before .before .before .before .before .args .table)) (c .before .before .before .before .before .before .before .before .before .args .a) (c .before .before .before .before .before .before .before .before .before .args .b) (c .before .before .before .before .before .before .before .before .before .pre) (c .before .before .before .before .before .before .wide .result) (c .before .before .before .before .wide2 .result) (c .before .before .before .before .before .before .wide .ensures) (c .before .before .before .before .wide2 .ensures) (c .before .before .before .if1 .left)
+
+add-if3 : tie.Need-add-if3 Inv-loop μ-loop
+add-if3 c = let h = c .before .before .before .before .before .before .before .before .before .before .before .pre .left in let g = c .before .before .before .before .before .before .before .before .before .before .before .pre .right in let l = c .loop-test .taken in let x = c .before .loop .inv .left in let y = c .before .loop .inv .right in omega arith
+
+add-if3-2 : tie.Need-add-if3-2 Inv-loop μ-loop
+add-if3-2 c = let h = c .before .before .before .before .before .before .before .before .before .before .before .pre .left in let g = c .before .before .before .before .before .before .before .before .before .before .before .pre .right in let l = c .loop-test .taken in let x = c .before .loop .inv .left in let y = c .before .loop .inv .right in omega arith
+
+mul-if3 : tie.Need-mul-if3 Inv-loop μ-loop
+mul-if3 c = let h = c .before .before .before .before .before .before .before .before .before .before .before .pre .left in let g = c .before .before .before .before .before .before .before .before .before .before .before .pre .right in let l = c .loop-test .taken in let x = c .before .loop .inv .left in let y = c .before .loop .inv .right in omega arith
+
+shared-slice-read-if3 : tie.Need-shared-slice-read-if3 Inv-loop μ-loop
+shared-slice-read-if3 c = let h = c .before .before .before .before .before .before .before .before .before .before .before .before .pre .left in let g = c .before .before .before .before .before .before .before .before .before .before .before .before .pre .right in let l = c .before .loop-test .taken in let x = c .before .before .loop .inv .left in let y = c .before .before .loop .inv .right in omega arith
+
+add-if3-3 : tie.Need-add-if3-3 Inv-loop μ-loop
+add-if3-3 c = let h = c .before .before .before .before .before .before .before .before .before .before .before .before .pre .left in let g = c .before .before .before .before .before .before .before .before .before .before .before .before .pre .right in let l = c .before .loop-test .taken in let x = c .before .before .loop .inv .left in let y = c .before .before .loop .inv .right in omega arith
+
+add-if3-4 : tie.Need-add-if3-4 Inv-loop μ-loop
+add-if3-4 c = let h = c .before .before .before .before .before .before .before .before .before .before .before .before .pre .left in let g = c .before .before .before .before .before .before .before .before .before .before .before .before .pre .right in let l = c .before .loop-test .taken in let x = c .before .before .loop .inv .left in let y = c .before .before .loop .inv .right in omega arith
+
+mul-if3-2 : tie.Need-mul-if3-2 Inv-loop μ-loop
+mul-if3-2 c = let h = c .before .before .before .before .before .before .before .before .before .before .before .before .pre .left in let g = c .before .before .before .before .before .before .before .before .before .before .before .before .pre .right in let l = c .before .loop-test .taken in let x = c .before .before .loop .inv .left in let y = c .before .before .loop .inv .right in omega arith
+
+shared-slice-read-if3-2 : tie.Need-shared-slice-read-if3-2 Inv-loop μ-loop
+shared-slice-read-if3-2 c = let h = c .before .before .before .before .before .before .before .before .before .before .before .before .before .pre .left in let g = c .before .before .before .before .before .before .before .before .before .before .before .before .before .pre .right in let l = c .before .before .loop-test .taken in let x = c .before .before .before .loop .inv .left in let y = c .before .before .before .loop .inv .right in omega arith
+
+returns-3 : tie.Need-returns-3 Inv-loop μ-loop
+returns-3 c = law.parts (now (c .before .before .before .before .before .before .before .before .before .before .before .before .before .before .args .table)) (c .before .before .before .before .before .before .before .before .before .before .before .before .before .before .args .a) (c .before .before .before .before .before .before .before .before .before .before .before .before .before .before .args .b) (c .before .before .before .before .before .before .before .before .before .before .before .before .before .before .pre) (c .before .before .before .before .before .before .before .before .before .before .before .wide .result) (c .before .before .before .before .loop .i) (c .before .before .before .before .loop .inv) (c .before .before .before .loop-test .taken) (c .if3 .taken)
 
 add-i : tie.Need-add-i Inv-loop μ-loop
-add-i c = let h = c .before .before .before .before .before .before .before .before .before .before .before .pre .left in let g = c .before .before .before .before .before .before .before .before .before .before .before .pre .right in let l = c .before .before .before .loop-test .taken in let x = c .before .before .before .before .loop .inv .left in let y = c .before .before .before .before .loop .inv .right in omega arith
+add-i c = let h = c .before .before .before .before .before .before .before .before .before .before .before .before .before .before .pre .left in let g = c .before .before .before .before .before .before .before .before .before .before .before .before .before .before .pre .right in let l = c .before .before .before .loop-test .taken in let x = c .before .before .before .before .loop .inv .left in let y = c .before .before .before .before .loop .inv .right in omega arith
 
 loop-less : tie.Need-loop-less Inv-loop μ-loop
 loop-less c = let l = c .before .before .before .loop-test .taken in omega arith
 
 loop-again : tie.Need-loop-again Inv-loop μ-loop
-loop-again c = law.next (now (c .before .before .before .before .before .before .before .before .before .before .before .args .table)) (c .before .before .before .before .before .before .before .before .before .before .before .args .a) (c .before .before .before .before .before .before .before .before .before .before .before .args .b) (c .before .before .before .before .before .before .before .before .before .before .before .pre) (c .before .before .before .before .before .before .before .before .wide .result) (c .before .before .before .before .loop .i) (c .before .before .before .before .loop .inv) (c .before .before .before .loop-test .taken) (c .if2 .left)
+loop-again c = law.next (now (c .before .before .before .before .before .before .before .before .before .before .before .before .before .before .args .table)) (c .before .before .before .before .before .before .before .before .before .before .before .before .before .before .args .a) (c .before .before .before .before .before .before .before .before .before .before .before .before .before .before .args .b) (c .before .before .before .before .before .before .before .before .before .before .before .before .before .before .pre) (c .before .before .before .before .before .before .before .before .before .before .before .wide .result) (c .before .before .before .before .loop .i) (c .before .before .before .before .loop .inv) (c .before .before .before .loop-test .taken) (c .if3 .left)
 
-returns-3 : tie.Need-returns-3 Inv-loop μ-loop
-returns-3 c = law.done (now (c .before .before .before .before .before .before .before .before .args .table)) (c .before .before .before .before .before .before .before .before .args .a) (c .before .before .before .before .before .before .before .before .args .b) (c .before .before .before .before .before .before .before .before .pre) (c .before .before .before .before .before .wide .result) (c .before .loop .i) (c .before .loop .inv) (c .loop-test .left)
+returns-4 : tie.Need-returns-4 Inv-loop μ-loop
+returns-4 c = law.done (now (c .before .before .before .before .before .before .before .before .before .before .before .args .table)) (c .before .before .before .before .before .before .before .before .before .before .before .args .a) (c .before .before .before .before .before .before .before .before .before .before .before .args .b) (c .before .before .before .before .before .before .before .before .before .before .before .pre) (c .before .before .before .before .before .before .before .before .wide .result) (c .before .loop .i) (c .before .loop .inv) (c .loop-test .left)
 
 pub same-name-spec : {M : Type 1} → statement M
 same-name-spec =
@@ -96,7 +123,6 @@ same-name-spec =
     shared-slice-read-wide-2
     wide-requires-2
     returns
-    loop-holds
     add-if2
     add-if2-2
     mul-if2
@@ -106,7 +132,17 @@ same-name-spec =
     mul-if2-2
     shared-slice-read-if2-2
     returns-2
+    loop-holds
+    add-if3
+    add-if3-2
+    mul-if3
+    shared-slice-read-if3
+    add-if3-3
+    add-if3-4
+    mul-if3-2
+    shared-slice-read-if3-2
+    returns-3
     add-i
     loop-less
     loop-again
-    returns-3)
+    returns-4)
