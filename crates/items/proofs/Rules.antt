@@ -20,10 +20,10 @@ use Rattle.measure.proofs.Sizes.{costs-append, size-costs}
 use Rattle.items.specs.declared.Duty.the-variants.{Skip, Push, Open, Operator, Close, Finish}
 use Rattle.items.specs.Items.{Starts, Among, Alternatives, Spelt}
 use Rattle.items.specs.Machine.{Entry, entry, nums, Abs, pushed, Act, Fit, dutyOf, lateDutyOf}
-use Rattle.items.specs.Scanned.{At, Listed, l-none, l-rule, Bodies, Whole}
+use Rattle.items.specs.Scanned.{At, Listed, l-none, l-rule, Begins, Bodies, Whole}
 use Rattle.items.specs.Final.{Final, PlacedAll}
 use Rattle.items.proofs.Reps.{act-as}
-use Rattle.items.proofs.Blocks.{Rows, rows-alternatives, rows-length, placed-append, Sound, sound-none, sound-then, alternatives-last}
+use Rattle.items.proofs.Blocks.{Rows, rows-alternatives, rows-length, placed-append, Under, Sound, sound-none, sound-then, alternatives-last}
 use Rattle.items.proofs.Uses.{rule-spelt}
 use Rattle.items.proofs.Runs.{Trace, t-done, t-step, trace-append, at-left, at-right, Ok, Run, shorter}
 use Rattle.items.proofs.Trees.{KnownAll, known-append, Bod, body-run, opened, three-more, ok-pushed, at-head, skip-run}
@@ -89,6 +89,19 @@ listed-even : {K ys : List ℕ} {rs : List Rule} {xs : List ℕ} → Listed K ys
 listed-even l-none = refl
 listed-even (l-rule w l) = omega (arith, listed-even l)
 
+-- one rule that begins behind all others
+one-under : {n m : ℕ} {S : Starts} {r : Rule} → n < m → Under n S → (x : ℕ) (s : Symbol) → Begins x s S (r ∷ []) (n ∷ []) → x < m
+one-under h u x s (inl a) = omega (arith, u x s a)
+one-under h u x s (inr (inl e)) = omega (arith, e .0)
+one-under h u x s (inr (inr b)) = absurd b
+
+one-single : {n : ℕ} {S : Starts} {r : Rule} → Under n S → (x : ℕ) (s t : Symbol) → n ≤ x → Begins x s S (r ∷ []) (n ∷ []) → Begins x t S (r ∷ []) (n ∷ []) → s ≡ t
+one-single u x s t l (inl a) b = absurd (omega (arith, u x s a))
+one-single u x s t l a (inl b) = absurd (omega (arith, u x t b))
+one-single u x s t l (inr (inr a)) b = absurd a
+one-single u x s t l a (inr (inr b)) = absurd b
+one-single u x s t l (inr (inl d)) (inr (inl e)) = sym (d .1) ∙ e .1
+
 module _ {g : Grammar} {K : List ℕ} where
   rule-run : (r : Rule) → ProperBody (r .body) → KnownAll g (withinBody (r .body)) → (at : ℕ) (a : Abs) (S : Starts) → At K at (ruleTokens r) → Ok K a → a .rules ≤ a .items → a .items + a .depth + costs (ruleTokens r) ≤ 512 → Ruled g K (ruleTokens r) (r ∷ []) at a S
   rule-run r p n at a S w o few h =
@@ -142,6 +155,8 @@ module _ {g : Grammar} {K : List ℕ} where
                 clean = ((omega arith, λ y e i. absurd (omega arith)), tt);
                 last = λ y e i. alternatives-last al y (omega arith);
                 spelt = λ j l. ⊎-elim (λ b. inl b) (λ b. inr (rule-spelt al j b (omega arith))) (split j (q .after .items));
+                under = one-under (omega arith);
+                single = one-single;
               }),
               ((al, omega arith), tt),
             );
@@ -218,4 +233,4 @@ grammar-run g K p n h w =
     let c = costs-append (prologTokens (g .prolog)) (concatMap ruleTokens (rules g)) in
     let z = size-costs g p in
     let q = prolog-run {g = g} {at = 0} (g .prolog) [] (ok-start K) in
-    ruled-then q (rules-run (rules g) p n (0 + length (encode (prologTokens (g .prolog)))) (q .after) (q .starts) (at-right (prologTokens (g .prolog)) (concatMap ruleTokens (rules g)) w) (q .ok) (omega (arith, q .rules)) (omega (arith, q .cost)))
+    ruled-then q (rules-run (rules g) p (n, λ x m. m) (0 + length (encode (prologTokens (g .prolog)))) (q .after) (q .starts) (at-right (prologTokens (g .prolog)) (concatMap ruleTokens (rules g)) w) (q .ok) (omega (arith, q .rules)) (omega (arith, q .cost)))
