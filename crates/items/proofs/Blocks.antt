@@ -130,17 +130,17 @@ pub record Sound (F : List ℕ) (g : Grammar) (S : Starts) (from to : ℕ) (S₁
   pub single : Under from S₁ → (x : ℕ) (s t : Symbol) → from ≤ x → Begins x s S₂ rs xs → Begins x t S₂ rs xs → s ≡ t
 
 -- a run that adds nothing, in numbers
-none-under : {n m : ℕ} {S₁ : Starts} → n ≤ m → Under n S₁ → (x : ℕ) (s : Symbol) → Begins x s S₁ [] [] → x < m
-none-under h u x s (inl a) = omega (arith, u x s a)
-none-under h u x s (inr a) = absurd a
+none-under : {n m : ℕ} (S₁ : Starts) → n ≤ m → Under n S₁ → (x : ℕ) (s : Symbol) → Begins x s S₁ [] [] → x < m
+none-under S₁ h u x s (inl a) = omega (arith, u x s a)
+none-under S₁ h u x s (inr a) = absurd a
 
-none-single : {n : ℕ} {S₁ : Starts} → Under n S₁ → (x : ℕ) (s t : Symbol) → n ≤ x → Begins x s S₁ [] [] → Begins x t S₁ [] [] → s ≡ t
-none-single u x s t l (inl a) b = absurd (omega (arith, u x s a))
-none-single u x s t l (inr a) b = absurd a
+none-single : {n : ℕ} (S₁ : Starts) → Under n S₁ → (x : ℕ) (s t : Symbol) → n ≤ x → Begins x s S₁ [] [] → Begins x t S₁ [] [] → s ≡ t
+none-single S₁ u x s t l (inl a) b = absurd (omega (arith, u x s a))
+none-single S₁ u x s t l (inr a) b = absurd a
 
 module _ {F : List ℕ} {g : Grammar} {S : Starts} where
   pub sound-none : (n : ℕ) (S₁ : Starts) → Sound F g S n n S₁ S₁ [] []
-  sound-none n S₁ = record { grew = omega arith; rule = λ x s a. inl a; spelt = λ p h. inl h; covered = λ p h. inl h; apart = λ x s a. inl a; clean = tt; last = λ y e h. absurd (omega arith); under = none-under (omega arith); single = none-single }
+  sound-none n S₁ = record { grew = omega arith; rule = λ x s a. inl a; spelt = λ p h. inl h; covered = λ p h. inl h; apart = λ x s a. inl a; clean = tt; last = λ y e h. absurd (omega arith); under = none-under S₁ (omega arith); single = none-single S₁ }
 
   -- a rule of two runs that begins before the second run is one of the first; one that begins behind it is one of the second
   module _ {n m k : ℕ} {S₁ S₂ S₃ : Starts} {rs rs' : List Rule} {xs xs' : List ℕ} (even : length rs ≡ length xs) (v : Sound F g S n m S₁ S₂ rs xs) (w : Sound F g S m k S₂ S₃ rs' xs') where
@@ -178,25 +178,25 @@ module _ {F : List ℕ} {g : Grammar} {S : Starts} where
   among-here {x} {y} {s} {u} e w = subst (λ (v : Symbol). Alternatives F g S x (alts g v)) (e .1) (subst (λ (j : ℕ). Alternatives F g S j (alts g u)) (e .0) w)
 
   -- one block more in front
-  module _ {n m k : ℕ} {S₁ S₂ : Starts} {u : Symbol} (some : n < m) (w : Sound F g S m k S₁ S₂ [] []) where
-    front-under : Under n S₁ → (x : ℕ) (s : Symbol) → Begins x s ((n, u) ∷ S₂) [] [] → x < k
+  module _ {n m k : ℕ} {S₁ S₂ : Starts} (some : n < m) (w : Sound F g S m k S₁ S₂ [] []) where
+    front-under : {u : Symbol} → Under n S₁ → (x : ℕ) (s : Symbol) → Begins x s ((n, u) ∷ S₂) [] [] → x < k
     front-under h x s (inl (inl e)) = let z = e .0 in omega (arith, w .grew)
     front-under h x s (inl (inr a)) = w .under (λ y t b. (let z = h y t b in omega arith)) x s (inl a)
     front-under h x s (inr b) = absurd b
 
-    front-new : Under n S₁ → (x : ℕ) (s : Symbol) → n ≤ x → Among x s S₂ → m ≤ x
-    front-new h x s l a = ⊎-elim (λ b. absurd (let z = h x s b in omega arith)) (λ b. b .0) (w .apart x s a)
+    front-new : {u : Symbol} → Under n S₁ → (x : ℕ) (s : Symbol) → n ≤ x → Begins x s ((n, u) ∷ S₂) [] [] → ((n ≡ x) × (u ≡ s)) ⊎ ((m ≤ x) × Among x s S₂)
+    front-new h x s l (inl (inl e)) = inl e
+    front-new h x s l (inl (inr a)) = inr (⊎-elim (λ b. absurd (let z = h x s b in omega arith)) (λ b. b .0) (w .apart x s a), a)
+    front-new h x s l (inr b) = absurd b
 
-    front-single : Under n S₁ → (x : ℕ) (s t : Symbol) → n ≤ x → Begins x s ((n, u) ∷ S₂) [] [] → Begins x t ((n, u) ∷ S₂) [] [] → s ≡ t
-    front-single h x s t l (inr a) b = absurd a
-    front-single h x s t l a (inr b) = absurd b
-    front-single h x s t l (inl (inl d)) (inl (inl e)) = sym (d .1) ∙ e .1
-    front-single h x s t l (inl (inl d)) (inl (inr b)) = absurd (let z = d .0 in let y = front-new h x t l b in omega arith)
-    front-single h x s t l (inl (inr a)) (inl (inl e)) = absurd (let z = e .0 in let y = front-new h x s l a in omega arith)
-    front-single h x s t l (inl (inr a)) (inl (inr b)) = w .single (λ y q c. (let z = h y q c in omega arith)) x s t (front-new h x s l a) (inl a) (inl b)
+    front-single : {u : Symbol} → Under n S₁ → (x : ℕ) (s t : Symbol) → n ≤ x → Begins x s ((n, u) ∷ S₂) [] [] → Begins x t ((n, u) ∷ S₂) [] [] → s ≡ t
+    front-single h x s t l a b = ⊎-elim
+        (λ d. ⊎-elim (λ e. sym (d .1) ∙ e .1) (λ e. absurd (let y = d .0 in let z = e .0 in omega arith)) (front-new h x t l b))
+        (λ d. ⊎-elim (λ e. absurd (let y = d .0 in let z = e .0 in omega arith)) (λ e. w .single (λ y q c. (let z = h y q c in omega arith)) x s t (d .0) (inl (d .1)) (inl (e .1))) (front-new h x t l b))
+        (front-new h x s l a)
 
   pub blocks-sound : {x : ℕ} {xs : List ℕ} {B : Starts} (m : ℕ) (S₁ : Starts) → Blocks F g S x xs B → PlacedAll F g S x xs → length xs ≡ 3 * m → Sound F g S x (x + m) S₁ (B ++ S₁) [] []
-  blocks-sound {x} m S₁ b-none w e = let z : 3 * m ≡ 0 = sym e in record { grew = omega arith; rule = λ y s a. inl a; spelt = λ p h. inl (omega arith); covered = λ p h. inl (omega arith); apart = λ y s a. inl a; clean = tt; last = λ y q h. absurd (omega arith); under = none-under (omega arith); single = none-single }
+  blocks-sound {x} m S₁ b-none w e = let z : 3 * m ≡ 0 = sym e in record { grew = omega arith; rule = λ y s a. inl a; spelt = λ p h. inl (omega arith); covered = λ p h. inl (omega arith); apart = λ y s a. inl a; clean = tt; last = λ y q h. absurd (omega arith); under = none-under S₁ (omega arith); single = none-single S₁ }
   blocks-sound {x} m S₁ (b-rule {s = u} {xs = xs} {ys = ys} {B = B} r b) w e =
       let l : length xs ≡ 3 * weight (alts g u) = rows-length r in
       let ll : length xs + length ys ≡ 3 * m = sym (length-append xs ys) ∙ e in

@@ -8,7 +8,7 @@ use native.Mathlib.Omega.{arith}
 use lib.ListN.{length, length-append, take, drop}
 use Rattle.text.specs.Lists.{Text, concatMap}
 use Rattle.text.proofs.Tests.{split}
-use Rattle.tree.specs.Tree.{Mark, Symbol, Body, Rule, Prolog, no-prolog, version, Grammar, rules}
+use Rattle.tree.specs.Tree.{Mark, unmarked, Symbol, nonterminal, Body, Rule, Prolog, no-prolog, version, Grammar, rules}
 use Rattle.tree.specs.Tokens.{Token, rule-head, rule-end, version-is, encode, numbers, bodyTokens, ruleTokens, prologTokens, grammarTokens}
 use Rattle.plain.specs.Written.{withinBody, written}
 use Rattle.plain.specs.Static.{undefined}
@@ -90,17 +90,18 @@ listed-even l-none = refl
 listed-even (l-rule w l) = omega (arith, listed-even l)
 
 -- one rule that begins behind all others
-one-under : {n m : ℕ} {S : Starts} {r : Rule} → n < m → Under n S → (x : ℕ) (s : Symbol) → Begins x s S (r ∷ []) (n ∷ []) → x < m
-one-under h u x s (inl a) = omega (arith, u x s a)
-one-under h u x s (inr (inl e)) = omega (arith, e .0)
-one-under h u x s (inr (inr b)) = absurd b
+one-under : {n m : ℕ} (S : Starts) (r : Rule) → n < m → Under n S → (x : ℕ) (s : Symbol) → Begins x s S (r ∷ []) (n ∷ []) → x < m
+one-under S r h u x s (inl a) = omega (arith, u x s a)
+one-under S r h u x s (inr (inl e)) = omega (arith, e .0)
+one-under S r h u x s (inr (inr b)) = absurd b
 
-one-single : {n : ℕ} {S : Starts} {r : Rule} → Under n S → (x : ℕ) (s t : Symbol) → n ≤ x → Begins x s S (r ∷ []) (n ∷ []) → Begins x t S (r ∷ []) (n ∷ []) → s ≡ t
-one-single u x s t l (inl a) b = absurd (omega (arith, u x s a))
-one-single u x s t l a (inl b) = absurd (omega (arith, u x t b))
-one-single u x s t l (inr (inr a)) b = absurd a
-one-single u x s t l a (inr (inr b)) = absurd b
-one-single u x s t l (inr (inl d)) (inr (inl e)) = sym (d .1) ∙ e .1
+one-new : {n : ℕ} (S : Starts) (r : Rule) → Under n S → (x : ℕ) (s : Symbol) → n ≤ x → Begins x s S (r ∷ []) (n ∷ []) → nonterminal unmarked (r .name) ≡ s
+one-new S r u x s l (inl a) = absurd (omega (arith, u x s a))
+one-new S r u x s l (inr (inl e)) = e .1
+one-new S r u x s l (inr (inr b)) = absurd b
+
+one-single : {n : ℕ} (S : Starts) (r : Rule) → Under n S → (x : ℕ) (s t : Symbol) → n ≤ x → Begins x s S (r ∷ []) (n ∷ []) → Begins x t S (r ∷ []) (n ∷ []) → s ≡ t
+one-single S r u x s t l a b = sym (one-new S r u x s l a) ∙ one-new S r u x t l b
 
 module _ {g : Grammar} {K : List ℕ} where
   rule-run : (r : Rule) → ProperBody (r .body) → KnownAll g (withinBody (r .body)) → (at : ℕ) (a : Abs) (S : Starts) → At K at (ruleTokens r) → Ok K a → a .rules ≤ a .items → a .items + a .depth + costs (ruleTokens r) ≤ 512 → Ruled g K (ruleTokens r) (r ∷ []) at a S
@@ -155,8 +156,8 @@ module _ {g : Grammar} {K : List ℕ} where
                 clean = ((omega arith, λ y e i. absurd (omega arith)), tt);
                 last = λ y e i. alternatives-last al y (omega arith);
                 spelt = λ j l. ⊎-elim (λ b. inl b) (λ b. inr (rule-spelt al j b (omega arith))) (split j (q .after .items));
-                under = one-under (omega arith);
-                single = one-single;
+                under = one-under (q .starts) r (omega arith);
+                single = one-single (q .starts) r;
               }),
               ((al, omega arith), tt),
             );
