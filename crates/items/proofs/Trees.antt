@@ -8,6 +8,7 @@ use native.Mathlib.Omega.{arith}
 use borrow.Author.Tests.{not-false}
 use lib.ListN.{length, length-append}
 use Rattle.text.specs.Lists.{Text, any, same, concatMap}
+use Rattle.text.proofs.Lists.{concat-append}
 use Rattle.tree.specs.Tree.{Mark, Chars, string, hex, Member, chars, range, class, Terminal, literal, inclusion, exclusion, insertion}
 use Rattle.tree.specs.Tree.{Symbol, terminal, nonterminal, group, option, repeat0, repeat1, repeat0sep, repeat1sep, rest, Alternative, nil, cons, Body, one, also, Grammar}
 use Rattle.tree.specs.Tokens.{Token, include, exclude, set-end, open-group, close-group, next-alternative, to-option, to-repeat0, to-repeat1, to-repeat0sep, to-repeat1sep, encode, numbers}
@@ -45,10 +46,6 @@ any-append f (x ∷ xs) ys e =
     let h = or-false (f x) (any f (xs ++ ys)) e in
     let k = any-append f xs ys (h .1) in
     (rw (h .0) (k .0), k .1)
-
-concat-append : {B : Type 0} (f : Symbol → List B) (xs ys : List Symbol) → concatMap f (xs ++ ys) ≡ concatMap f xs ++ concatMap f ys
-concat-append f [] ys = refl
-concat-append {B} f (x ∷ xs) ys = ap (λ (l : List B). f x ++ l) (concat-append f xs ys) ∙ sym (append-assoc (f x) (concatMap f xs) (concatMap f ys))
 
 pub known-append : (g : Grammar) (xs ys : List Symbol) → KnownAll g (xs ++ ys) → KnownAll g xs × KnownAll g ys
 known-append g xs ys e =
