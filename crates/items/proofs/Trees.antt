@@ -29,6 +29,7 @@ use Rattle.items.proofs.Reps.{act-as, one-length, two-length}
 use Rattle.items.proofs.Blocks.{Rows, r-last, r-more, r-item, Blocks, b-none, b-rule, sound-then}
 use Rattle.items.proofs.Runs.{Trace, t-done, t-step, trace-append, sound-block, at-left, at-right, Ok, Run, shorter, run-none, run-then, run-quiet, run-block, reads-final, means-made, among-later}
 
+-- the name has no rule
 abbrev pub Bad : Grammar → Text → Bool
 Bad g n = not (any (same n) (heads g))
 

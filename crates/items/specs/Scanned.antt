@@ -32,12 +32,13 @@ RuleCover [] xs p = ⊥
 RuleCover (r ∷ rs) [] p = ⊥
 RuleCover (r ∷ rs) (x ∷ xs) p = ((x ≤ p) × (p < x + weight (alternatives (r .body)))) ⊎ RuleCover rs xs p
 
--- the rule of a name begins there; that of a made symbol or of a name does
+-- the rule of a name begins at the item x
 abbrev pub RuleBegins : ℕ → Symbol → List Rule → List ℕ → Type 0
 RuleBegins x s [] ys = ⊥
 RuleBegins x s (r ∷ rs) [] = ⊥
 RuleBegins x s (r ∷ rs) (y ∷ ys) = ((y ≡ x) × (nonterminal unmarked (r .name) ≡ s)) ⊎ RuleBegins x s rs ys
 
+-- the rule of a made symbol or of a name does
 abbrev pub Begins : ℕ → Symbol → Starts → List Rule → List ℕ → Type 0
 Begins x s S rs ys = Among x s S ⊎ RuleBegins x s rs ys
 
