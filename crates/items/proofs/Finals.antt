@@ -20,7 +20,7 @@ use Rattle.items.specs.declared.State.{State}
 use Rattle.items.specs.Items.{kindAt, targetAt, tokenAt, Reads, ruleMark, over, markKind, Starts, Among, st-name, Alternatives, Items}
 use Rattle.items.specs.Machine.{kindBy}
 use Rattle.items.specs.Final.{Placed, PlacedAll, Final}
-use Rattle.items.specs.Scanned.{At, Listed, l-none, l-rule, RuleCover, Clean, Cleans, Bodies, Whole, Scanned}
+use Rattle.items.specs.Scanned.{At, Listed, l-none, l-rule, RuleCover, RuleBegins, Begins, Clean, Cleans, Bodies, Whole, Scanned}
 use Rattle.items.specs.Linked.{Holding, headAt, firstAt, Linkable, Resolved, Linked}
 use Rattle.items.specs.Built.{Cover, Built}
 use Rattle.items.proofs.Links.{beside-first}
@@ -206,6 +206,15 @@ name-cover (r ∷ rs) (x ∷ xs) p d (inr c) = go (name-cover rs xs p (or-right-
         by true q = absurd (clash (or-left-false (any (same (r .name)) (concatMap (λ r. r .name ∷ []) rs)) (repeats (concatMap (λ r. r .name ∷ []) rs)) d) (subst (λ (n : Text). any (same n) (concatMap (λ r. r .name ∷ []) rs) ≡ true) (same-is (w .called) (r .name) (isT q)) (w .known)))
         by false q = record { called = w .called; known = rw q (w .known); above = rw q (w .above); under = rw q (w .under) }
 
+-- the first rule of a name begins there
+first-begins : {K ys : List ℕ} {rs : List Rule} {xs : List ℕ} → Listed K ys rs xs → (n : Text) → any (same n) (concatMap (λ r. r .name ∷ []) rs) ≡ true → RuleBegins (firstFor rs xs n) (nonterminal unmarked n) rs xs
+first-begins l-none n e = absurd (clash refl e)
+first-begins (l-rule {x = x} {r = r} {rs = rs} {xs = xs} w l) n e = go (λ t. first-begins l n t) (same n (r .name)) refl
+  where
+    go : (any (same n) (concatMap (λ r. r .name ∷ []) rs) ≡ true → RuleBegins (firstFor rs xs n) (nonterminal unmarked n) rs xs) → (b : Bool) → same n (r .name) ≡ b → RuleBegins (firstFor (r ∷ rs) (x ∷ xs) n) (nonterminal unmarked n) (r ∷ rs) (x ∷ xs)
+    go ih true p = inl (rw p, ap (nonterminal unmarked) (sym (same-is n (r .name) (isT p))))
+    go ih false p = inr (rw p (ih (rw p at e)))
+
 first-clean : (F : List ℕ) (rs : List Rule) (xs : List ℕ) (n : Text) → Cleans F 0 xs → Clean F 0 (firstFor rs xs n)
 first-clean F [] xs n c = (omega arith, λ y e h. absurd (omega arith))
 first-clean F (r ∷ rs) [] n c = (omega arith, λ y e h. absurd (omega arith))
@@ -337,12 +346,19 @@ module _ {g : Grammar} {K T : List ℕ} {s : State} (w : Scanned g K T s) where
     unfolding duplicate
     scanned-covered d p h = ⊎-elim (λ a. cover-later (λ x y m. among-left x y (w .starts) (nameStarts (firstFor (rules g) (w .firsts)) (rules g)) m) a) (λ b. named-cover p (name-cover (rules g) (w .firsts) p d b)) (scanned-whole .covered p h)
 
+    start-begins : (x : ℕ) (y : Symbol) → Among x y (allStarts g (w .starts) (w .firsts)) → Begins x y (w .starts) (rules g) (w .firsts)
+    start-begins x y m = ⊎-elim (λ a. inl a) (λ b. inr (named (among-named (firstFor (rules g) (w .firsts)) (rules g) x y b))) (among-split x y (w .starts) (nameStarts (firstFor (rules g) (w .firsts)) (rules g)) m)
+      where
+        named : Named (firstFor (rules g) (w .firsts)) (rules g) x y → RuleBegins x y (rules g) (w .firsts)
+        named v = subst (λ (z : Symbol). RuleBegins x z (rules g) (w .firsts)) (v .symbol) (subst (λ (z : ℕ). RuleBegins z (nonterminal unmarked (v .called)) (rules g) (w .firsts)) (v .place) (first-begins (w .listed) (v .called) (v .known)))
+
     pub scanned-built : (root : ℕ) → root ≡ getD F 13825 0 → Built F g root
     scanned-built root e = record {
       items = scanned-items root e;
       blocks = record {
         covered = λ d p h. scanned-covered d p (omega (arith, w .count));
         apart = λ x y s m q. rule-clean x s m .1 y q (omega arith);
+        single = λ x y z m n. scanned-whole .single x y z (start-begins x y m) (start-begins x z n);
       };
     }
 

@@ -8,7 +8,7 @@ use native.Mathlib.Omega.{arith}
 use lib.ListN.{length, length-append, take, drop}
 use Rattle.text.specs.Lists.{Text, concatMap}
 use Rattle.text.proofs.Tests.{split}
-use Rattle.tree.specs.Tree.{Mark, Symbol, Body, Rule, Prolog, no-prolog, version, Grammar, rules}
+use Rattle.tree.specs.Tree.{Mark, unmarked, Symbol, nonterminal, Body, Rule, Prolog, no-prolog, version, Grammar, rules}
 use Rattle.tree.specs.Tokens.{Token, rule-head, rule-end, version-is, encode, numbers, bodyTokens, ruleTokens, prologTokens, grammarTokens}
 use Rattle.plain.specs.Written.{withinBody, written}
 use Rattle.plain.specs.Static.{undefined}
@@ -20,10 +20,10 @@ use Rattle.measure.proofs.Sizes.{costs-append, size-costs}
 use Rattle.items.specs.declared.Duty.the-variants.{Skip, Push, Open, Operator, Close, Finish}
 use Rattle.items.specs.Items.{Starts, Among, Alternatives, Spelt}
 use Rattle.items.specs.Machine.{Entry, entry, nums, Abs, pushed, Act, Fit, dutyOf, lateDutyOf}
-use Rattle.items.specs.Scanned.{At, Listed, l-none, l-rule, Bodies, Whole}
+use Rattle.items.specs.Scanned.{At, Listed, l-none, l-rule, Begins, Bodies, Whole}
 use Rattle.items.specs.Final.{Final, PlacedAll}
 use Rattle.items.proofs.Reps.{act-as}
-use Rattle.items.proofs.Blocks.{Rows, rows-alternatives, rows-length, placed-append, Sound, sound-none, sound-then, alternatives-last}
+use Rattle.items.proofs.Blocks.{Rows, rows-alternatives, rows-length, placed-append, Under, Sound, sound-none, sound-then, alternatives-last}
 use Rattle.items.proofs.Uses.{rule-spelt}
 use Rattle.items.proofs.Runs.{Trace, t-done, t-step, trace-append, at-left, at-right, Ok, Run, shorter}
 use Rattle.items.proofs.Trees.{KnownAll, known-append, Bod, body-run, opened, three-more, ok-pushed, at-head, skip-run}
@@ -89,6 +89,20 @@ listed-even : {K ys : List ℕ} {rs : List Rule} {xs : List ℕ} → Listed K ys
 listed-even l-none = refl
 listed-even (l-rule w l) = omega (arith, listed-even l)
 
+-- one rule that begins behind all others
+one-under : {n m : ℕ} (S : Starts) (r : Rule) → n < m → Under n S → (x : ℕ) (s : Symbol) → Begins x s S (r ∷ []) (n ∷ []) → x < m
+one-under S r h u x s (inl a) = omega (arith, u x s a)
+one-under S r h u x s (inr (inl e)) = omega (arith, e .0)
+one-under S r h u x s (inr (inr b)) = absurd b
+
+one-new : {n : ℕ} (S : Starts) (r : Rule) → Under n S → (x : ℕ) (s : Symbol) → n ≤ x → Begins x s S (r ∷ []) (n ∷ []) → nonterminal unmarked (r .name) ≡ s
+one-new S r u x s l (inl a) = absurd (omega (arith, u x s a))
+one-new S r u x s l (inr (inl e)) = e .1
+one-new S r u x s l (inr (inr b)) = absurd b
+
+one-single : {n : ℕ} (S : Starts) (r : Rule) → Under n S → (x : ℕ) (s t : Symbol) → n ≤ x → Begins x s S (r ∷ []) (n ∷ []) → Begins x t S (r ∷ []) (n ∷ []) → s ≡ t
+one-single S r u x s t l a b = sym (one-new S r u x s l a) ∙ one-new S r u x t l b
+
 module _ {g : Grammar} {K : List ℕ} where
   rule-run : (r : Rule) → ProperBody (r .body) → KnownAll g (withinBody (r .body)) → (at : ℕ) (a : Abs) (S : Starts) → At K at (ruleTokens r) → Ok K a → a .rules ≤ a .items → a .items + a .depth + costs (ruleTokens r) ≤ 512 → Ruled g K (ruleTokens r) (r ∷ []) at a S
   rule-run r p n at a S w o few h =
@@ -142,6 +156,8 @@ module _ {g : Grammar} {K : List ℕ} where
                 clean = ((omega arith, λ y e i. absurd (omega arith)), tt);
                 last = λ y e i. alternatives-last al y (omega arith);
                 spelt = λ j l. ⊎-elim (λ b. inl b) (λ b. inr (rule-spelt al j b (omega arith))) (split j (q .after .items));
+                under = one-under (q .starts) r (omega arith);
+                single = one-single (q .starts) r;
               }),
               ((al, omega arith), tt),
             );
@@ -218,4 +234,4 @@ grammar-run g K p n h w =
     let c = costs-append (prologTokens (g .prolog)) (concatMap ruleTokens (rules g)) in
     let z = size-costs g p in
     let q = prolog-run {g = g} {at = 0} (g .prolog) [] (ok-start K) in
-    ruled-then q (rules-run (rules g) p n (0 + length (encode (prologTokens (g .prolog)))) (q .after) (q .starts) (at-right (prologTokens (g .prolog)) (concatMap ruleTokens (rules g)) w) (q .ok) (omega (arith, q .rules)) (omega (arith, q .cost)))
+    ruled-then q (rules-run (rules g) p (n, λ x m. m) (0 + length (encode (prologTokens (g .prolog)))) (q .after) (q .starts) (at-right (prologTokens (g .prolog)) (concatMap ruleTokens (rules g)) w) (q .ok) (omega (arith, q .rules)) (omega (arith, q .cost)))

@@ -135,5 +135,6 @@ going-done {T₀} {T} {end} {at} {g} {s} size h r l w =
             covered = λ p k. ⊎-elim (λ b. absurd (let e : p < 0 = b in omega arith)) (λ b. b) (x .0 .covered p k);
             apart = λ y u m. ⊎-elim (λ b. absurd b) (λ b. b) (x .0 .apart y u m);
             clean = x .0 .clean;
+            single = λ y u v a b. x .0 .single (λ p q m. absurd m) y u v (omega arith) a b;
           };
     }

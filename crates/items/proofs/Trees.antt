@@ -1,6 +1,6 @@
 -- The machine runs over a tree's tokens: each symbol leaves one entry that stands for it.
 use mathlib.Core.Bool.{Bool, true, false, not, _||_}
-use mathlib.Core.List.{List, [], _∷_, _++_, append-assoc, append-nil}
+use mathlib.Core.List.{List, [], _∷_, _++_, append-assoc, append-nil, List·Memᴰ as In, List·Memᴰ·head as in-head, Memᴰ·append-left as in-left, Memᴰ·append-right as in-right}
 use mathlib.Core.Logic.{_⊎_, inl, inr}
 use mathlib.Core.Path.{_≡_, refl, sym, ap, _∙_, subst}
 use Prim.Native.Nat.{ℕ, _+_, _*_, _<_, _≤_}
@@ -8,11 +8,12 @@ use native.Mathlib.Omega.{arith}
 use borrow.Author.Tests.{not-false}
 use lib.ListN.{length, length-append}
 use Rattle.text.specs.Lists.{Text, any, same, concatMap}
+use Rattle.text.proofs.Lists.{concat-append}
 use Rattle.tree.specs.Tree.{Mark, Chars, string, hex, Member, chars, range, class, Terminal, literal, inclusion, exclusion, insertion}
 use Rattle.tree.specs.Tree.{Symbol, terminal, nonterminal, group, option, repeat0, repeat1, repeat0sep, repeat1sep, rest, Alternative, nil, cons, Body, one, also, Grammar}
 use Rattle.tree.specs.Tokens.{Token, include, exclude, set-end, open-group, close-group, next-alternative, to-option, to-repeat0, to-repeat1, to-repeat0sep, to-repeat1sep, encode, numbers}
 use Rattle.tree.specs.Tokens.{memberToken, memberTokens, terminalTokens, symbolTokens, alternativeTokens, bodyTokens}
-use Rattle.plain.specs.Written.{heads, namesIn, within, withinAlternative, withinBody, kind, made}
+use Rattle.plain.specs.Written.{heads, terminals, namesIn, terminalsIn, within, withinAlternative, withinBody, kind, made}
 use Rattle.plain.specs.Plain.{symbols, alternatives, alts}
 use Rattle.measure.specs.Proper.{Proper, ProperAlternative, ProperBody}
 use Rattle.measure.specs.Walk.{firstNumber, cost, costs, costOf, repeatCostOf}
@@ -28,12 +29,13 @@ use Rattle.items.proofs.Reps.{act-as, one-length, two-length}
 use Rattle.items.proofs.Blocks.{Rows, r-last, r-more, r-item, Blocks, b-none, b-rule, sound-then}
 use Rattle.items.proofs.Runs.{Trace, t-done, t-step, trace-append, sound-block, at-left, at-right, Ok, Run, shorter, run-none, run-then, run-quiet, run-block, reads-final, means-made, among-later}
 
--- every name in the symbols has a rule
+-- the name has no rule
 abbrev pub Bad : Grammar → Text → Bool
 Bad g n = not (any (same n) (heads g))
 
+-- every name in the symbols has a rule, and every terminal is one of g
 abbrev pub KnownAll : Grammar → List Symbol → Type 0
-KnownAll g ss = any (Bad g) (concatMap namesIn ss) ≡ false
+KnownAll g ss = (any (Bad g) (concatMap namesIn ss) ≡ false) × ((x : Terminal) → In x (concatMap terminalsIn ss) → In x (terminals g))
 
 or-false : (a b : Bool) → (a || b) ≡ false → (a ≡ false) × (b ≡ false)
 or-false true b e = (e, (let z : _≡_ {A = ℕ} 0 1 = cc in absurd (let y : 0 < 0 = omega arith in omega arith)))
@@ -46,12 +48,11 @@ any-append f (x ∷ xs) ys e =
     let k = any-append f xs ys (h .1) in
     (rw (h .0) (k .0), k .1)
 
-concat-append : (f : Symbol → List Text) (xs ys : List Symbol) → concatMap f (xs ++ ys) ≡ concatMap f xs ++ concatMap f ys
-concat-append f [] ys = refl
-concat-append f (x ∷ xs) ys = ap (λ (l : List Text). f x ++ l) (concat-append f xs ys) ∙ sym (append-assoc (f x) (concatMap f xs) (concatMap f ys))
-
 pub known-append : (g : Grammar) (xs ys : List Symbol) → KnownAll g (xs ++ ys) → KnownAll g xs × KnownAll g ys
-known-append g xs ys e = any-append (Bad g) (concatMap namesIn xs) (concatMap namesIn ys) (sym (ap (any (Bad g)) (concat-append namesIn xs ys)) ∙ e)
+known-append g xs ys e =
+    let k = any-append (Bad g) (concatMap namesIn xs) (concatMap namesIn ys) (sym (ap (any (Bad g)) (concat-append namesIn xs ys)) ∙ e .0) in
+    let c : (x : Terminal) → In x (concatMap terminalsIn xs ++ concatMap terminalsIn ys) → In x (terminals g) = λ x m. e .1 x (subst (λ (l : List Terminal). In x l) (sym (concat-append terminalsIn xs ys)) m) in
+    ((k .0, λ x m. c x (in-left (concatMap terminalsIn ys) m)), (k .1, λ x m. c x (in-right (concatMap terminalsIn xs) m)))
 
 in-first : (B S : Starts) (x : ℕ) (s : Symbol) → Among x s B → Among x s (B ++ S)
 in-first [] S x s m = absurd m
@@ -144,8 +145,8 @@ module _ {g : Grammar} {K : List ℕ} where
   terminal-run (insertion (string cs)) S o h = push-run (Rattle.tree.specs.Tokens.insert-quoted cs) 1 S refl o h
   terminal-run (insertion (hex n)) S o h = push-run (Rattle.tree.specs.Tokens.insert-coded n) 1 S refl o h
 
-  terminal-sym : (x : Terminal) (at : ℕ) (a : Abs) (S : Starts) → At K at (terminalTokens x) → Ok K a → a .items + a .depth + costs (terminalTokens x) ≤ 512 → Sym g K (terminal x) at a S
-  terminal-sym x at a S w o h = record {
+  terminal-sym : (x : Terminal) (at : ℕ) (a : Abs) (S : Starts) → In x (terminals g) → At K at (terminalTokens x) → Ok K a → a .items + a .depth + costs (terminalTokens x) ≤ 512 → Sym g K (terminal x) at a S
+  terminal-sym x at a S i w o h = record {
     after = pushed a (entry 1 0 at) (a .base);
     starts = S;
     e = entry 1 0 at;
@@ -153,7 +154,7 @@ module _ {g : Grammar} {K : List ℕ} where
     stack = refl;
     depth = refl;
     cost = omega (arith, terminal-costs x);
-    means = λ F T f p v. let k = v .kept (λ e. omega arith) in st-terminal (k .0) (subst (λ (q : ℕ). Reads F q (terminalTokens x)) (sym (k .2)) (reads-final w F T f));
+    means = λ F T f p v. let k = v .kept (λ e. omega arith) in st-terminal (k .0) (subst (λ (q : ℕ). Reads F q (terminalTokens x)) (sym (k .2)) (reads-final w F T f)) i;
   }
 
   name-sym : (m : Mark) (n : Text) (at : ℕ) (a : Abs) (S : Starts) → KnownAll g (nonterminal m n ∷ []) → At K at (symbolTokens (nonterminal m n)) → Ok K a → a .items + a .depth + costs (symbolTokens (nonterminal m n)) ≤ 512 → Sym g K (nonterminal m n) at a S
@@ -165,7 +166,7 @@ module _ {g : Grammar} {K : List ℕ} where
     stack = refl;
     depth = refl;
     cost = omega (arith, name-cost m n);
-    means = λ F T f p v. v .named refl m n (reads-final w F T f) (not-false (any (same n) (heads g)) (or-false (Bad g n) false known .0));
+    means = λ F T f p v. v .named refl m n (reads-final w F T f) (not-false (any (same n) (heads g)) (or-false (Bad g n) false (known .0) .0));
   }
 
 abbrev afterOne : ℕ → Abs → List ℕ → ℕ → Entry → Abs
@@ -335,7 +336,7 @@ module _ {g : Grammar} {K : List ℕ} where
 
   mutual
     pub symbol-run : (s : Symbol) → Proper s → KnownAll g (within s) → (at : ℕ) (a : Abs) (S : Starts) → At K at (symbolTokens s) → Ok K a → a .items + a .depth + costs (symbolTokens s) ≤ 512 → Sym g K s at a S
-    symbol-run (terminal x) p n at a S w o h = terminal-sym x at a S w o h
+    symbol-run (terminal x) p n at a S w o h = terminal-sym x at a S (n .1 x (in-head refl)) w o h
     symbol-run (nonterminal m x) p n at a S w o h = name-sym m x at a S n w o h
     symbol-run (group x) p n at a S w o h =
         group-sym x o h (body-run x p n (at + 1) (opened at a) S (at-left (bodyTokens x) (close-group ∷ []) (at-head open-group (bodyTokens x ++ close-group ∷ []) w)) (ok-pushed (entry 0 (a .base) at) (a .depth) o (omega (arith, bracket-costs x)) (o .fit .depth)) (omega (arith, bracket-costs x)))

@@ -32,7 +32,7 @@ firstItem x (ss ∷ ts) (suc a) = firstItem (x + (length ss + 1)) ts a
 module _ {T : List ℕ} {g : Grammar} {S : Starts} where
   -- the kind of an item that stands for a symbol is 1 to 4
   pub stands-kind : {p : ℕ} {s : Symbol} → Stands T g S p s → (1 ≤ kindAt T p) × (kindAt T p ≤ 4)
-  stands-kind (st-terminal k r) = (omega arith, omega arith)
+  stands-kind (st-terminal k r i) = (omega arith, omega arith)
   stands-kind (st-name {m = m} {n = n} k r a) = let w = kind-of-mark (over m (ruleMark (rules g) n)) in (omega arith, omega arith)
   stands-kind (st-made d k a) = (omega arith, omega arith)
 

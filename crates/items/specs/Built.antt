@@ -16,10 +16,12 @@ pub record Cover (g : Grammar) (S : Starts) (p : ℕ) : Type 0 where
   pub above : first ≤ p
   pub under : p < first + weight (alts g symbol)
 
--- each item is one of some symbol's rule, where no name has two rules; the item before a rule ends another
+-- each item is one of some symbol's rule, where no name has two rules; the item before a rule ends another; an item begins the
+-- rule of one symbol at most
 pub record Blocks (T : List ℕ) (g : Grammar) (root : ℕ) (items : Items T g root) : Type 0 where
   pub covered : duplicate g ≡ false → (p : ℕ) → p < size g → Cover g (items .starts) p
   pub apart : (x y : ℕ) (s : Symbol) → Among x s (items .starts) → x ≡ y + 1 → kindAt T y ≡ 6
+  pub single : (x : ℕ) (s t : Symbol) → Among x s (items .starts) → Among x t (items .starts) → s ≡ t
 
 pub record Built (T : List ℕ) (g : Grammar) (root : ℕ) : Type 0 where
   pub items : Items T g root

@@ -4,7 +4,7 @@
 --   2 3 4 a nonterminal that is written as an element, as an attribute, or not; its target is the first item of its rule. A rule
 --         that a bracket or a repetition makes has no token.
 --   5 6   the end of an alternative: the next one begins at the next item; it is the last
-use mathlib.Core.List.{List, [], _∷_, _++_}
+use mathlib.Core.List.{List, [], _∷_, _++_, List·Memᴰ as In}
 use mathlib.Core.Logic.{_⊎_}
 use mathlib.Core.Path.{_≡_}
 use Prim.Native.Nat.{ℕ, _+_, _*_, _<_, _≤_}
@@ -12,7 +12,7 @@ use lib.ListN.{length, getD, take, drop}
 use Rattle.text.specs.Lists.{Text, pick, same}
 use Rattle.tree.specs.Tree.{Mark, unmarked, included, attribute, deleted, Terminal, Symbol, terminal, nonterminal, Rule, Grammar, rules}
 use Rattle.tree.specs.Tokens.{Token, name, encode, terminalTokens}
-use Rattle.plain.specs.Written.{kind, made}
+use Rattle.plain.specs.Written.{kind, made, terminals}
 use Rattle.plain.specs.Plain.{alts, weight, size}
 
 abbrev pub kindAt : List ℕ → ℕ → ℕ
@@ -48,9 +48,9 @@ abbrev pub Among : ℕ → Symbol → Starts → Type 0
 Among x s [] = ⊥
 Among x s (y ∷ S) = ((y .0 ≡ x) × (y .1 ≡ s)) ⊎ Among x s S
 
--- the item stands for the symbol
+-- the item stands for the symbol; a terminal is one of those that are written in g
 pub data Stands (T : List ℕ) (g : Grammar) (S : Starts) : ℕ → Symbol → Type 0 where
-  st-terminal : {p : ℕ} {x : Terminal} → kindAt T p ≡ 1 → Reads T (tokenAt T p) (terminalTokens x) → Stands T g S p (terminal x)
+  st-terminal : {p : ℕ} {x : Terminal} → kindAt T p ≡ 1 → Reads T (tokenAt T p) (terminalTokens x) → In x (terminals g) → Stands T g S p (terminal x)
   st-name : {p : ℕ} {m : Mark} {n : Text} → kindAt T p ≡ markKind (over m (ruleMark (rules g) n)) → Reads T (tokenAt T p) (name m n ∷ []) → Among (targetAt T p) (nonterminal unmarked n) S → Stands T g S p (nonterminal m n)
   st-made : {p : ℕ} {s : Symbol} → kind s ≡ made → kindAt T p ≡ 4 → Among (targetAt T p) s S → Stands T g S p s
 

@@ -5,7 +5,7 @@ use mathlib.Core.Logic.{_⊎_}
 use mathlib.Core.Path.{_≡_}
 use Prim.Native.Nat.{ℕ, _+_, _<_, _≤_}
 use lib.ListN.{length, take, drop}
-use Rattle.tree.specs.Tree.{Symbol, Rule, Grammar, rules}
+use Rattle.tree.specs.Tree.{unmarked, Symbol, nonterminal, Rule, Grammar, rules}
 use Rattle.tree.specs.Tokens.{Token, rule-head, encode}
 use Rattle.plain.specs.Static.{undefined}
 use Rattle.plain.specs.Plain.{alts, alternatives, weight, size}
@@ -32,6 +32,16 @@ RuleCover [] xs p = ⊥
 RuleCover (r ∷ rs) [] p = ⊥
 RuleCover (r ∷ rs) (x ∷ xs) p = ((x ≤ p) × (p < x + weight (alternatives (r .body)))) ⊎ RuleCover rs xs p
 
+-- the rule of a name begins at the item x
+abbrev pub RuleBegins : ℕ → Symbol → List Rule → List ℕ → Type 0
+RuleBegins x s [] ys = ⊥
+RuleBegins x s (r ∷ rs) [] = ⊥
+RuleBegins x s (r ∷ rs) (y ∷ ys) = ((y ≡ x) × (nonterminal unmarked (r .name) ≡ s)) ⊎ RuleBegins x s rs ys
+
+-- the rule of a made symbol or of a name does
+abbrev pub Begins : ℕ → Symbol → Starts → List Rule → List ℕ → Type 0
+Begins x s S rs ys = Among x s S ⊎ RuleBegins x s rs ys
+
 -- an item from `from` on that is first: one that is before it ends a rule
 abbrev pub Clean : List ℕ → ℕ → ℕ → Type 0
 Clean F from x = (from ≤ x) × ((y : ℕ) → x ≡ y + 1 → from ≤ y → kindAt F y ≡ 6)
@@ -53,6 +63,7 @@ pub record Whole (F : List ℕ) (g : Grammar) (T : Starts) (starts : Starts) (fi
   pub covered : (p : ℕ) → p < n → Cover g starts p ⊎ RuleCover (rules g) firsts p
   pub apart : (x : ℕ) (s : Symbol) → Among x s starts → Clean F 0 x
   pub clean : Cleans F 0 firsts
+  pub single : (x : ℕ) (s t : Symbol) → Begins x s starts (rules g) firsts → Begins x t starts (rules g) firsts → s ≡ t
 
 pub record Scanned (g : Grammar) (K T : List ℕ) (s : State) : Type 0 where
   pub state : Abs

@@ -66,7 +66,7 @@ begins-on T x y k j e d l h = subst (λ (n : ℕ). 4 < kindAt T n) (let q : x + 
 
 module _ {T : List ℕ} {g : Grammar} {S : Starts} where
   pub stands-kind : {p : ℕ} {s : Symbol} → Stands T g S p s → kindAt T p < 5
-  stands-kind (st-terminal k r) = omega arith
+  stands-kind (st-terminal k r i) = omega arith
   stands-kind (st-name {m = m} {n = n} k r a) = omega (arith, mark-kind (over m (ruleMark (rules g) n)))
   stands-kind (st-made e k a) = omega arith
 

@@ -4,3 +4,4 @@ pub mod Places
 pub mod Rows
 pub mod Dots
 pub mod Whole
+pub mod Sounds

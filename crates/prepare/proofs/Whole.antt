@@ -19,14 +19,14 @@ use Rattle.plain.specs.Plain as plain
 use Rattle.plain.specs.Written.{kind, made, atom}
 use Rattle.derive.specs.Derive.{root}
 use Rattle.items.specs.Items.{kindAt, targetAt, tokenAt, Starts, Among, Stands, st-terminal, st-name, st-made, Reads, over, ruleMark, markKind}
+use Rattle.items.specs.Built.{Cover}
 use Rattle.code.specs.Code.{behind, headOf, Chain, Owned, Coded, ownerAt, goesAt, ruleAt, fitsAt, flag, at-end, at-terminal, at-symbol}
 use Rattle.code.specs.Code as code
-use Rattle.prepare.specs.Blocks.{Covered}
-use Rattle.prepare.specs.Sound.{SoundTerminal, SoundSymbol, SoundSymbols, SoundAlternatives}
+use Rattle.prepare.specs.Sound.{SoundTerminal}
 use Rattle.prepare.specs.Places.{TerminalAt, TerminalHere, widthBy}
 use Rattle.prepare.specs.Ready.{Last, ownerOf, Owners, kindOf, goesOf, ruleOf, Reach, Reaches, Codes, RowsReady, Rows, Ready, Given}
 use Rattle.prepare.proofs.Places.{term-two, width-is}
-use Rattle.prepare.proofs.Dots.{suffixes, layout, layout-count, Place, pl-end, pl-item, stands-kind, mark-kind, alts-place, alts-inner, alts-last, alts-some, alts-begins, Linked, chain-law}
+use Rattle.prepare.proofs.Dots.{layout, layout-count, Place, pl-end, pl-item, stands-kind, mark-kind, alts-place, alts-inner, alts-last, alts-some, alts-begins, Linked, chain-law}
 
 -- a list of a function's values
 abbrev tab : {A : Type 0} → (ℕ → A) → ℕ → ℕ → List A
@@ -73,16 +73,6 @@ whole T n at xs more h e =
     ∙ drop-append-le at (take n T) (drop n T) (omega (arith, sym (length-drop at (take n T)) ∙ ap length e ∙ length-append xs more))
     ∙ ap (λ (l : List ℕ). l ++ drop n T) e
     ∙ append-assoc xs more (drop n T)
-
-in-suffix : (ss : List Symbol) (more : List (List Symbol)) → SoundSymbols ss → ((k : ℕ) → SoundSymbols (getD more k [])) → (k : ℕ) → SoundSymbols (getD (suffixes ss ++ more) k [])
-in-suffix [] more w f zero = tt
-in-suffix [] more w f (suc k) = f k
-in-suffix (s ∷ ss) more w f zero = w
-in-suffix (s ∷ ss) more w f (suc k) = in-suffix ss more (w .1) f k
-
-sound-layout : (ts : List (List Symbol)) → SoundAlternatives ts → (k : ℕ) → SoundSymbols (getD (layout ts) k [])
-sound-layout [] w k = tt
-sound-layout (ss ∷ ts) w k = in-suffix ss (layout ts) (w .0) (sound-layout ts (w .1)) k
 
 some-tokens : (x : Terminal) → 0 < length (encode (terminalTokens x))
 some-tokens (literal m (string cs)) = omega arith
@@ -131,18 +121,18 @@ rule-symbol T c p k d h = rw (ne-eqb k 1 d, lt-ltb k 5 h)
 -- the blocks of the items
 module _ {T : List ℕ} {g : Grammar} {size first : ℕ} (r : Ready T g size first) where
   abbrev S : Starts
-  S = r .items .starts
+  S = r .built .items .starts
 
-  cov : (p : ℕ) → p < size → Covered g S p
-  cov p h = r .blocks .covered p (omega (arith, r .count))
+  cov : (p : ℕ) → p < size → Cover g S p
+  cov p h = r .built .blocks .covered (r .simple) p (omega (arith, r .count))
 
-  not-before : {p : ℕ} (a b : Covered g S p) → a .first < b .first → ⊥
+  not-before : {p : ℕ} (a b : Cover g S p) → a .first < b .first → ⊥
   not-before a b l =
-      let six = r .blocks .apart (b .first) (b .first - 1) (b .symbol) (b .among) (omega arith) in
-      alts-inner (r .items .rule (a .first) (a .symbol) (a .among)) (b .first - 1 - a .first) (omega (arith, a .to, b .from))
+      let six = r .built .blocks .apart (b .first) (b .first - 1) (b .symbol) (b .among) (omega arith) in
+      alts-inner (r .built .items .rule (a .first) (a .symbol) (a .among)) (b .first - 1 - a .first) (omega (arith, a .under, b .above))
       (subst (λ (n : ℕ). kindAt T n ≡ 6) (let e : b .first - 1 ≡ a .first + (b .first - 1 - a .first) = omega arith in e) six)
 
-  unique : {p : ℕ} (a b : Covered g S p) → a .first ≡ b .first
+  unique : {p : ℕ} (a b : Cover g S p) → a .first ≡ b .first
   unique a b = ⊎-elim (λ l. absurd (not-before a b l)) (λ l. ⊎-elim (λ m. absurd (not-before b a m)) (λ m. omega arith) (split (b .first) (a .first))) (split (a .first) (b .first))
 
   symbolBy : (p : ℕ) → Dec (p < size) → Symbol
@@ -175,17 +165,17 @@ module _ {T : List ℕ} {g : Grammar} {size first : ℕ} (r : Ready T g size fir
 
     end-is : end + 1 ≡ x + weight (alts g s)
     unfolding end
-    end-is = omega (arith, alts-some (r .items .rule x s a))
+    end-is = omega (arith, alts-some (r .built .items .rule x s a))
 
     end-below : end < size
-    end-below = omega (arith, end-is, r .items .below x s a, r .count)
+    end-below = omega (arith, end-is, r .built .items .below x s a, r .count)
 
     module _ (k : ℕ) (h : k < weight (alts g s)) where
       inside : x + k < size
-      inside = omega (arith, r .items .below x s a, r .count)
+      inside = omega (arith, r .built .items .below x s a, r .count)
 
-      abbrev own : Covered g S (x + k)
-      own = record { first = x; symbol = s; among = a; from = omega arith; to = omega arith }
+      abbrev own : Cover g S (x + k)
+      own = record { first = x; symbol = s; among = a; above = omega arith; under = omega arith }
 
       first-by : (d : Dec (x + k < size)) → firstBy (x + k) d ≡ x
       unfolding firstBy
@@ -194,7 +184,7 @@ module _ {T : List ℕ} {g : Grammar} {size first : ℕ} (r : Ready T g size fir
 
       symbol-by : (d : Dec (x + k < size)) → symbolBy (x + k) d ≡ s
       unfolding symbolBy
-      symbol-by (yes l) = r .blocks .single x (cov (x + k) l .symbol) s (subst (λ (n : ℕ). Among n (cov (x + k) l .symbol) S) (unique (cov (x + k) l) own) (cov (x + k) l .among)) a
+      symbol-by (yes l) = r .built .blocks .single x (cov (x + k) l .symbol) s (subst (λ (n : ℕ). Among n (cov (x + k) l .symbol) S) (unique (cov (x + k) l) own) (cov (x + k) l .among)) a
       symbol-by (no l) = absurd (l inside)
 
       dot-is : behind dots (x + k) ≡ getD (layout (alts g s)) k []
@@ -211,17 +201,17 @@ module _ {T : List ℕ} {g : Grammar} {size first : ℕ} (r : Ready T g size fir
       last-is : Last T (x + k) end
       last-is = record {
         from = omega (arith, end-is);
-        ends = alts-last (r .items .rule x s a) end end-is;
-        before = λ q l m e. alts-inner (r .items .rule x s a) (q - x) (omega (arith, end-is)) (subst (λ (n : ℕ). kindAt T n ≡ 6) (let d : q ≡ x + (q - x) = omega arith in d) e);
+        ends = alts-last (r .built .items .rule x s a) end end-is;
+        before = λ q l m e. alts-inner (r .built .items .rule x s a) (q - x) (omega (arith, end-is)) (subst (λ (n : ℕ). kindAt T n ≡ 6) (let d : q ≡ x + (q - x) = omega arith in d) e);
       }
 
     head-end : headOf g heads end ≡ s
-    head-end = subst (λ (n : ℕ). headOf g heads n ≡ s) (let e : x + (weight (alts g s) - 1) ≡ end = omega (arith, end-is, alts-some (r .items .rule x s a)) in e) (head-is (weight (alts g s) - 1) (omega (arith, alts-some (r .items .rule x s a))))
+    head-end = subst (λ (n : ℕ). headOf g heads n ≡ s) (let e : x + (weight (alts g s) - 1) ≡ end = omega (arith, end-is, alts-some (r .built .items .rule x s a)) in e) (head-is (weight (alts g s) - 1) (omega (arith, alts-some (r .built .items .rule x s a))))
 
     block-begin : Begin T x
     block-begin = elim (ℕ-discrete x 0) as (λ _. Begin T x) [
       | yes d ↦ inl d
-      | no d ↦ inr (omega (arith, r .blocks .apart x (x - 1) s a (omega arith)))
+      | no d ↦ inr (omega (arith, r .built .blocks .apart x (x - 1) s a (omega arith)))
     ]
 
     begin-in : (k : ℕ) → (k ≡ 0) ⊎ (4 < kindAt T (x + (k - 1))) → Begin T (x + k)
@@ -249,15 +239,15 @@ module _ {T : List ℕ} {g : Grammar} {size first : ℕ} (r : Ready T g size fir
   spot : (p : ℕ) → p < size → Spot p
   spot p h =
       let c = cov p h in
-      let e : p ≡ c .first + (p - c .first) = omega (arith, c .from) in
+      let e : p ≡ c .first + (p - c .first) = omega (arith, c .above) in
       record {
         x = c .first;
         s = c .symbol;
         among = c .among;
         k = p - c .first;
         at = e;
-        inner = omega (arith, c .from, c .to);
-        place = subst (λ (n : ℕ). Place T g S (layout (alts g (c .symbol))) n (p - c .first)) (sym e) (alts-place (r .items .rule (c .first) (c .symbol) (c .among)) (p - c .first) (omega (arith, layout-count (alts g (c .symbol)), c .from, c .to)));
+        inner = omega (arith, c .above, c .under);
+        place = subst (λ (n : ℕ). Place T g S (layout (alts g (c .symbol))) n (p - c .first)) (sym e) (alts-place (r .built .items .rule (c .first) (c .symbol) (c .among)) (p - c .first) (omega (arith, layout-count (alts g (c .symbol)), c .above, c .under)));
       }
 
   term-at : (p : ℕ) (x : Terminal) (h : p < size) → Reads T (tokenAt T p) (terminalTokens x) → SoundTerminal x → TerminalAt T (tokenAt T p) x
@@ -268,10 +258,10 @@ module _ {T : List ℕ} {g : Grammar} {size first : ℕ} (r : Ready T g size fir
     it-terminal : (x : Terminal) → kindAt T p ≡ 1 → p + 1 < size → behind dots p ≡ terminal x ∷ behind dots (p + 1) → TerminalAt T (tokenAt T p) x → Item p
     it-symbol : (s t : Symbol) → (kindAt T p ≡ 1 → ⊥) → kindAt T p < 5 → p + 1 < size → behind dots p ≡ s ∷ behind dots (p + 1) → ((x : Terminal) → s ≡ terminal x → ⊥) → Among (targetAt T p) t S → alts g t ≡ alts g s → Item p
 
-  item-by : (p : ℕ) (h : p < size) (w : Spot p) (u : Symbol) → p + 1 < size → behind dots p ≡ u ∷ behind dots (p + 1) → SoundSymbol u → Stands T g S p u → Item p
-  item-by p h w u l e v (st-terminal {x = x} k d) = it-terminal x k l e (term-at p x h d v)
-  item-by p h w u l e v (st-name {m = m} {n = n} k d a) = it-symbol (nonterminal m n) (nonterminal unmarked n) (λ q. omega (arith, mark-kind (over m (ruleMark (rules g) n)))) (omega (arith, mark-kind (over m (ruleMark (rules g) n)))) l e (λ x q. (let z : _≡_ {A = ℕ} 0 1 = cc in omega arith)) a refl
-  item-by p h w u l e v (st-made {s = s} q k a) = it-symbol s s (λ z. omega arith) (omega arith) l e (λ x y. made-not s x q y) a refl
+  item-by : (p : ℕ) (h : p < size) (w : Spot p) (u : Symbol) → p + 1 < size → behind dots p ≡ u ∷ behind dots (p + 1) → Stands T g S p u → Item p
+  item-by p h w u l e (st-terminal {x = x} k d i) = it-terminal x k l e (term-at p x h d (r .sound x i))
+  item-by p h w u l e (st-name {m = m} {n = n} k d a) = it-symbol (nonterminal m n) (nonterminal unmarked n) (λ q. omega (arith, mark-kind (over m (ruleMark (rules g) n)))) (omega (arith, mark-kind (over m (ruleMark (rules g) n)))) l e (λ x q. (let z : _≡_ {A = ℕ} 0 1 = cc in omega arith)) a refl
+  item-by p h w u l e (st-made {s = s} q k a) = it-symbol s s (λ z. omega arith) (omega arith) l e (λ x y. made-not s x q y) a refl
 
   item : (p : ℕ) → p < size → Item p
   item p h = go (spot p h) refl
@@ -287,14 +277,13 @@ module _ {T : List ℕ} {g : Grammar} {size first : ℕ} (r : Ready T g size fir
           by (pl-item u e a l) =
               let n : suc (w .k) < weight (alts g (w .s)) = omega (arith, layout-count (alts g (w .s))) in
               let f : behind dots (p + 1) ≡ getD (layout (alts g (w .s))) (suc (w .k)) [] = ap (behind dots) (let q : p + 1 ≡ w .x + suc (w .k) = omega (arith, w .at) in q) ∙ dot-is (w .x) (w .s) (w .among) (suc (w .k)) n in
-              let v : SoundSymbols (u ∷ getD (layout (alts g (w .s))) (suc (w .k)) []) = subst SoundSymbols e (sound-layout (alts g (w .s)) (r .sound (w .x) (w .s) (w .among)) (w .k)) in
-              item-by p h w u (omega (arith, w .at, inside (w .x) (w .s) (w .among) (suc (w .k)) n)) (dot-here ∙ e ∙ ap (_∷_ u) (sym f)) (v .0) a
+              item-by p h w u (omega (arith, w .at, inside (w .x) (w .s) (w .among) (suc (w .k)) n)) (dot-here ∙ e ∙ ap (_∷_ u) (sym f)) a
 
   -- what the stage reaches to
   reach-at : (p : ℕ) → Item p → Reach T size p
   reach-at p (it-end l e) = record { token = λ k. absurd (omega arith); target = λ d h. absurd (omega arith) }
   reach-at p (it-terminal x k l e t) = record { token = λ q. term-two t; target = λ d h. absurd (d k) }
-  reach-at p (it-symbol s t d h l e n a q) = record { token = λ k. absurd (d k); target = λ z y. omega (arith, inside (targetAt T p) t a 0 (alts-some (r .items .rule (targetAt T p) t a))) }
+  reach-at p (it-symbol s t d h l e n a q) = record { token = λ k. absurd (d k); target = λ z y. omega (arith, inside (targetAt T p) t a 0 (alts-some (r .built .items .rule (targetAt T p) t a))) }
 
   pub reach : (p : ℕ) → p < size → Reach T size p
   reach p h = reach-at p (item p h)
@@ -308,14 +297,14 @@ module _ {T : List ℕ} {g : Grammar} {size first : ℕ} (r : Ready T g size fir
   here p h = here-at p (item p h)
 
   pub first-inside : first < size
-  first-inside = omega (arith, inside first (root g) (r .items .begins) 0 (alts-some (r .items .rule first (root g) (r .items .begins))))
+  first-inside = omega (arith, inside first (root g) (r .built .items .begins) 0 (alts-some (r .built .items .rule first (root g) (r .built .items .begins))))
 
   -- the arrays
   module _ {c₀ c₁ c f₀ f : List ℕ} {R : Text} (o : Owners T size c₀ c₁) (w : Codes T size c₁ c) (v : Rows T size R f₀ f) where
     module _ (x : ℕ) (s : Symbol) (a : Among x s S) where
       first-owner : ownerAt c₁ x ≡ end x s a + 1
       first-owner =
-          let z = alts-some (r .items .rule x s a) in
+          let z = alts-some (r .built .items .rule x s a) in
           o .owner x (end x s a) (omega (arith, inside x s a 0 z)) (subst (λ (n : ℕ). Last T n (end x s a)) (let e : x + 0 ≡ x = omega arith in e) (last-is x s a 0 z)) (end-below x s a)
           ∙ owner-begin T x (end x s a) (block-begin x s a)
 
@@ -323,12 +312,12 @@ module _ {T : List ℕ} {g : Grammar} {size first : ℕ} (r : Ready T g size fir
       owner-at k h = w .owner-is (x + k) (inside x s a k h) ∙ o .owner (x + k) (end x s a) (inside x s a k h) (last-is x s a k h) (end-below x s a)
 
       below : (p : ℕ) → p < x + weight (alts g s) → p < size
-      below p h = omega (arith, r .items .below x s a, r .count)
+      below p h = omega (arith, r .built .items .below x s a, r .count)
 
       linked : Linked T c dots (end x s a) x (alts g s)
       linked = record {
         agree = dot-is x s a;
-        inside = omega (arith, dots-count, r .items .below x s a, r .count);
+        inside = omega (arith, dots-count, r .built .items .below x s a, r .count);
         end = end-is x s a;
         owner = λ k h b. owner-at k h ∙ owner-begin T (x + k) (end x s a) (begin-in x s a k b);
         goes = λ p l h k. w .goes-is p (below p h) ∙ goes-on T p (kindAt T p) k;
@@ -336,7 +325,7 @@ module _ {T : List ℕ} {g : Grammar} {size first : ℕ} (r : Ready T g size fir
       }
 
       chain : Chain c dots (end x s a) x (alts g s)
-      chain = chain-law (r .items .rule x s a) linked
+      chain = chain-law (r .built .items .rule x s a) linked
 
     rule-at : (p : ℕ) → p < size → (t : Symbol) (a : Among (targetAt T p) t S) → (kindAt T p ≡ 1 → ⊥) → kindAt T p < 5 → ruleAt c p ≡ end (targetAt T p) t a
     rule-at p h t a d l = w .rule-is p h ∙ rule-symbol T c₁ p (kindAt T p) d l ∙ (let e = first-owner (targetAt T p) t a in let q : ownerAt c₁ (targetAt T p) - 1 ≡ end (targetAt T p) t a = omega arith in q)
@@ -358,23 +347,23 @@ module _ {T : List ℕ} {g : Grammar} {size first : ℕ} (r : Ready T g size fir
     owned-at p e z q =
         let a = z .among in
         let b = owner-inv T p (end (z .x) (z .s) a) e (sym (ap (ownerAt c) (z .at) ∙ owner-at (z .x) (z .s) a (z .k) (z .inner) ∙ ap (λ (n : ℕ). ownerOf T n (end (z .x) (z .s) a)) (sym (z .at))) ∙ q) in
-        let u = alts-begins (r .items .rule (z .x) (z .s) a) (z .k) (z .inner) (begin-out (z .x) (z .s) a (z .k) (subst (Begin T) (z .at) (b .0))) in
+        let u = alts-begins (r .built .items .rule (z .x) (z .s) a) (z .k) (z .inner) (begin-out (z .x) (z .s) a (z .k) (subst (Begin T) (z .at) (b .0))) in
         subst (Owned c g dots heads p) (sym (b .1)) (record {
           number = u .number;
           exists = rw (head-end (z .x) (z .s) a) (u .exists);
           is = ap (behind dots) (z .at) ∙ dot-is (z .x) (z .s) a (z .k) (z .inner) ∙ u .is ∙ ap (λ (n : Symbol). getD (alts g n) (u .number) []) (sym (head-end (z .x) (z .s) a));
           inside = omega (arith, end-below (z .x) (z .s) a, dots-count);
-          last = w .kind-is (end (z .x) (z .s) a) (end-below (z .x) (z .s) a) ∙ kind-end (kindAt T (end (z .x) (z .s) a)) (omega (arith, alts-last (r .items .rule (z .x) (z .s) a) (end (z .x) (z .s) a) (end-is (z .x) (z .s) a)));
+          last = w .kind-is (end (z .x) (z .s) a) (end-below (z .x) (z .s) a) ∙ kind-end (kindAt T (end (z .x) (z .s) a)) (omega (arith, alts-last (r .built .items .rule (z .x) (z .s) a) (end (z .x) (z .s) a) (end-is (z .x) (z .s) a)));
           first = z .x;
           chain = rw (head-end (z .x) (z .s) a) (chain (z .x) (z .s) a);
         })
 
-    top-is : ownerAt c first - 1 ≡ end first (root g) (r .items .begins)
-    top-is = let e = w .owner-is first first-inside ∙ first-owner first (root g) (r .items .begins) in omega arith
+    top-is : ownerAt c first - 1 ≡ end first (root g) (r .built .items .begins)
+    top-is = let e = w .owner-is first first-inside ∙ first-owner first (root g) (r .built .items .begins) in omega arith
 
     pub coded : size ≤ 512 → 4 * size ≤ length c → length R ≤ 120 → size * 121 ≤ length f → (top : ℕ) → top ≡ ownerAt c first - 1 → Coded c f g R size top first
     coded small room short fits-room top e =
-        let d : top ≡ end first (root g) (r .items .begins) = e ∙ top-is in
+        let d : top ≡ end first (root g) (r .built .items .begins) = e ∙ top-is in
         record {
           dots = dots;
           heads = heads;
@@ -386,7 +375,7 @@ module _ {T : List ℕ} {g : Grammar} {size first : ℕ} (r : Ready T g size fir
           stands = λ p h. stands-at p h (item p h);
           owned = λ p n h q. owned-at p n (spot p h) q;
           chains = λ p h k. chains-at p h (item p h) k;
-          root-chain = rw d (chain first (root g) (r .items .begins));
-          root-head = rw d (ap (alts g) (head-end first (root g) (r .items .begins)));
-          root-inside = rw d (end-below first (root g) (r .items .begins));
+          root-chain = rw d (chain first (root g) (r .built .items .begins));
+          root-head = rw d (ap (alts g) (head-end first (root g) (r .built .items .begins)));
+          root-inside = rw d (end-below first (root g) (r .built .items .begins));
         }

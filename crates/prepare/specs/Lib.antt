@@ -1,4 +1,3 @@
-pub mod Blocks
 pub mod Sound
 pub mod Places
 pub mod Ready

@@ -1,6 +1,7 @@
 -- The items of a table as the engine's code: what each function promises of the arrays, by numbers alone, and what the
 -- stage is given.
-use mathlib.Core.List.{List}
+use mathlib.Core.Bool.{false}
+use mathlib.Core.List.{List, List·Memᴰ as In}
 use mathlib.Core.Logic.{_⊎_}
 use mathlib.Core.Path.{_≡_}
 use Prim.Native.Nat.{ℕ, _+_, _*_, _-_, _<_, _≤_}
@@ -8,13 +9,15 @@ use lib.Dec.{ltb, eqb}
 use lib.ListN.{length, getD, drop}
 use Rattle.text.specs.Limits.{mostSize, recordChars, grammarTable}
 use Rattle.text.specs.Lists.{Text, pick}
-use Rattle.tree.specs.Tree.{Terminal, Symbol, Grammar}
-use Rattle.plain.specs.Plain.{alts, fits}
+use Rattle.tree.specs.Tree.{Terminal, Grammar}
+use Rattle.plain.specs.Written.{terminals}
+use Rattle.plain.specs.Static.{duplicate}
+use Rattle.plain.specs.Plain.{fits}
 use Rattle.plain.specs.Plain as plain
-use Rattle.items.specs.Items.{kindAt, targetAt, tokenAt, Among, Items}
+use Rattle.items.specs.Items.{kindAt, targetAt, tokenAt}
+use Rattle.items.specs.Built.{Built}
 use Rattle.code.specs.Code.{ownerAt, fitsAt, flag}
-use Rattle.prepare.specs.Blocks.{Blocks}
-use Rattle.prepare.specs.Sound.{SoundAlternatives}
+use Rattle.prepare.specs.Sound.{SoundTerminal}
 use Rattle.prepare.specs.Places.{TerminalHere, TerminalAt, widthBy}
 
 -- the first item from p on that ends a rule
@@ -95,11 +98,11 @@ pub record Rows (T : List ℕ) (size : ℕ) (R f f' : List ℕ) : Type 0 where
   pub long : length f' ≡ length f
   pub rows : (p : ℕ) → p < size → (x : Terminal) → kindAt T p ≡ 1 → TerminalAt T (tokenAt T p) x → (i : ℕ) → i ≤ length R → fitsAt f' p i ≡ flag (fits x (drop i R))
 
--- the table has the items of a grammar, in blocks, with sound terminals
+-- the table has the items of a grammar whose names have one rule each and whose terminals are sound
 pub record Ready (T : List ℕ) (g : Grammar) (size root : ℕ) : Type 0 where
-  pub items : Items T g root
-  pub blocks : Blocks T g (items .starts)
-  pub sound : (x : ℕ) (s : Symbol) → Among x s (items .starts) → SoundAlternatives (alts g s)
+  pub built : Built T g root
+  pub simple : duplicate g ≡ false
+  pub sound : (x : Terminal) → In x (terminals g) → SoundTerminal x
   pub count : size ≡ plain.size g
 
 pub record Given (T : List ℕ) (size root : ℕ) (R c f : List ℕ) : Type 0 where

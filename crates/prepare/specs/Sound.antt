@@ -4,8 +4,7 @@ use mathlib.Core.List.{List, [], _∷_}
 use mathlib.Core.Path.{_≡_}
 use Prim.Native.Nat.{ℕ, _<_}
 use Rattle.category.specs.Category.{isClass}
-use Rattle.tree.specs.Tree.{Chars, string, hex, Member, chars, range, class, Terminal, literal, inclusion, exclusion, insertion, Symbol}
-use Rattle.plain.specs.Written.{kind, atom, named, made}
+use Rattle.tree.specs.Tree.{Chars, string, hex, Member, chars, range, class, Terminal, literal, inclusion, exclusion, insertion}
 use Rattle.measure.specs.Proper.{ProperEnd}
 
 abbrev pub SoundChars : Chars → Type 0
@@ -26,15 +25,3 @@ SoundTerminal (literal m k) = SoundChars k
 SoundTerminal (inclusion m ms) = SoundMembers ms
 SoundTerminal (exclusion m ms) = SoundMembers ms
 SoundTerminal (insertion k) = Unit {0}
-
--- every terminal of an alternative; of all
-abbrev pub SoundSymbol : Symbol → Type 0
-SoundSymbol s = elim (kind s) [ atom x ↦ SoundTerminal x | named m n ↦ Unit {0} | made ↦ Unit {0} ]
-
-abbrev pub SoundSymbols : List Symbol → Type 0
-SoundSymbols [] = Unit {0}
-SoundSymbols (s ∷ ss) = SoundSymbol s × SoundSymbols ss
-
-abbrev pub SoundAlternatives : List (List Symbol) → Type 0
-SoundAlternatives [] = Unit {0}
-SoundAlternatives (ss ∷ ts) = SoundSymbols ss × SoundAlternatives ts

@@ -31,12 +31,12 @@ other-mark deleted e = refl
 -- of a node that is open
 module _ {T : List ℕ} {g : Grammar} {starts : Starts} where
   pub frame-element : {p : ℕ} {s : Symbol} → Stands T g starts p s → kindAt T p ≡ 2 → isElement (markOf g s) ≡ true
-  frame-element (st-terminal k r) h = absurd (omega arith)
+  frame-element (st-terminal k r i) h = absurd (omega arith)
   frame-element (st-name {m = m} {n = n} k r a) h = element-mark (markOf g (nonterminal m n)) (sym h ∙ k ∙ name-mark g m n)
   frame-element (st-made {s = s} q k a) h = absurd (omega arith)
 
   pub frame-other : {p : ℕ} {s : Symbol} → Stands T g starts p s → (kindAt T p ≡ 2 → ⊥) → isElement (markOf g s) ≡ false
-  frame-other (st-terminal k r) h = refl
+  frame-other (st-terminal k r i) h = refl
   frame-other (st-name {m = m} {n = n} k r a) h = other-mark (markOf g (nonterminal m n)) (λ q. h (k ∙ name-mark g m n ∙ q))
   frame-other (st-made {s = s} q k a) h = other-mark (markOf g s) (λ e. h (k ∙ made-mark g s q ∙ e))
 
