@@ -3,12 +3,14 @@ use mathlib.Core.Bool.{Bool, true, false, not, _||_}
 use mathlib.Core.Path.{_≡_, refl, sym, ap, _∙_}
 use mathlib.Core.List.{List, [], _∷_}
 use Prim.Native.Nat.{ℕ, _<_, _≤_}
-use lib.Dec.{ltb}
+use lib.Dec.{T, ltb, leb, leb→le}
 use lib.ListN.{length}
+use native.Mathlib.Omega.{arith}
 use borrow.Author.Tests.{lt-ltb, le-ltb}
 use Rattle.text.specs.Limits.{grammarBytes, mostSize, recordChars, grammarTable, readingNumbers}
 use Rattle.text.specs.Lists.{Text, all}
 use Rattle.text.specs.Utf8.{unmarked, known}
+use Rattle.text.proofs.Tests.{and-left, and-right}
 use Rattle.text.specs.Decode.{Decoded, text, not-utf8, decode}
 use Rattle.tree.specs.Tree.{Grammar}
 use Rattle.syntax.specs.Parser.{Parsed, parsed, no-parse, parse}
@@ -18,6 +20,15 @@ use Rattle.derive.specs.Derive.{Row, leftParse}
 use Rattle.derive.specs.Pick.{Choice, found, no-choice, chosenOf}
 use Rattle.answer.specs.Answer.{Job, tableNeed, mismatched}
 use Rattle.answer.specs.Compute.{Test, test, firstOf, onText, onTree, treeOf, grammarTests, recordTests, mismatch}
+
+-- no test's number is above m, so neither is the first that passes
+pub first-below : (m : ℕ) (ts : List Test) → T (all (λ t. leb (t .number) m) ts) → firstOf ts ≤ m
+first-below m [] h = omega arith
+first-below m (t ∷ ts) h = go (t .passes tt) (first-below m ts (and-right (leb (t .number) m) (all (λ t. leb (t .number) m) ts) h))
+  where
+    go : (b : Bool) → firstOf ts ≤ m → elim b as (λ _. ℕ) [ true ↦ t .number | false ↦ firstOf ts ] ≤ m
+    go true k = leb→le (t .number) m (and-left (leb (t .number) m) (all (λ t. leb (t .number) m) ts) h)
+    go false k = k
 
 -- the first of the six static tests that passes
 abbrev pub staticTests : Grammar → List Test → List Test

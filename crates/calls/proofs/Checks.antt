@@ -1,16 +1,15 @@
 -- From a loaded grammar to the answer of checking.
-use mathlib.Core.Bool.{Bool, true, false, _&&_}
+use mathlib.Core.Bool.{Bool, false, _&&_}
 use mathlib.Core.Path.{_≡_, refl, sym, subst, ap, _∙_}
-use mathlib.Core.List.{List, [], _∷_}
+use mathlib.Core.List.{List, []}
 use Prim.Native.Nat.{ℕ, _≤_, _<_}
 use native.Mathlib.Omega.{arith}
-use lib.Dec.{T, leb, leb→le, eqb}
+use lib.Dec.{eqb}
 use borrow.Author.Tests.{eq-eqb, ne-eqb}
-use Rattle.text.specs.Lists.{all}
-use Rattle.text.proofs.Tests.{and-left, and-right}
 use Rattle.answer.specs.Answer as defined
 use Rattle.answer.specs.Answer.{Checks}
-use Rattle.answer.specs.Compute.{Test, firstOf, grammarTests, mismatch, result, outcome, checkOf}
+use Rattle.answer.specs.Compute.{grammarTests, mismatch, result, outcome, checkOf}
+use Rattle.answer.proofs.Stages.{first-below}
 use Rattle.answer.proofs.Settled.{check-answers}
 use Rattle.load.specs.declared.Passed.{Passed}
 use Rattle.load.specs.declared.Judged.{Judged}
@@ -18,15 +17,6 @@ use Rattle.load.specs.declared.Judged.the-variants.{Grammar as Accepted, Refuse
 use Rattle.load.specs.Loaded.{Turned, Kept, Loads}
 use Rattle.calls.specs.declared.Answer.{Answer}
 use Rattle.calls.specs.Calls.{shown, Checked, whyOf}
-
--- no test's number is above m, so neither is the first that passes
-first-below : (m : ℕ) (ts : List Test) → T (all (λ t. leb (t .number) m) ts) → firstOf ts ≤ m
-first-below m [] h = omega arith
-first-below m (t ∷ ts) h = go (t .passes tt) (first-below m ts (and-right (leb (t .number) m) (all (λ t. leb (t .number) m) ts) h))
-  where
-    go : (b : Bool) → firstOf ts ≤ m → elim b as (λ _. ℕ) [ true ↦ t .number | false ↦ firstOf ts ] ≤ m
-    go true k = leb→le (t .number) m (and-left (leb (t .number) m) (all (λ t. leb (t .number) m) ts) h)
-    go false k = k
 
 answer : ℕ → Bool → defined.Answer
 answer n v = record { number = n; length = 0; ambiguous = false; version = v }

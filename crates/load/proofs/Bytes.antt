@@ -12,7 +12,6 @@ use Rattle.text.specs.Limits.{grammarBytes, grammarTable, mostSize}
 use Rattle.text.specs.Lists.{Text, all, pick}
 use Rattle.text.specs.Utf8.{Utf8, utf8, utf8s, unmarked, known}
 use Rattle.text.specs.Decode.{Decoded, text, not-utf8, decode}
-use Rattle.text.proofs.Tests.{look, clash}
 use Rattle.text.proofs.Decode.{some-bytes, decode-sound}
 use Rattle.tree.specs.Tree.{Grammar}
 use Rattle.syntax.specs.Parser.{Parsed, parsed, no-parse, parse}
@@ -24,7 +23,8 @@ use Rattle.decode.specs.declared.CharPlace.{CharPlace}
 use denote.Enum.Declared.{tagOf}
 use types.Run.{OneOf}
 use Rattle.decode.proofs.Decoding.{the-type}
-use Rattle.decode.specs.Whole.{Decodes, unmark, answerOf, over}
+use Rattle.decode.specs.Whole.{Decodes, unmark, over}
+use Rattle.decode.proofs.Answers.{Tells, tells-of, tells-not, tells-unknown, told}
 use Rattle.load.specs.declared.Passed.{Passed}
 use Rattle.load.specs.declared.Judged.{Judged}
 use Rattle.load.specs.declared.Judged.the-variants.{Grammar as Accepted, Refused}
@@ -58,77 +58,64 @@ pub record Got (bs new : List ℕ) (n : ℕ) : Type 0 where
   pub few : n ≤ 4096
   pub stored : take n new ≡ unmarked chars
 
-pub record Strange (bs : List ℕ) : Type 0 where
-  pub chars : Text
-  pub decoded : decode bs ≡ text chars
-  pub outside : all known (unmarked chars) ≡ false
+-- a text without its byte order mark is that of some bytes
+record Unmarked (bs : List ℕ) (cs : Text) : Type 0 where
+  chars : Text
+  decoded : decode bs ≡ text chars
+  is : cs ≡ unmarked chars
+
+unmarked-text : (bs : List ℕ) (cs : Text) → unmark (decode bs) ≡ text cs → Unmarked bs cs
+unmarked-text bs cs e = go (decode bs) refl e
+  where
+    go : (d : Decoded) → decode bs ≡ d → unmark d ≡ text cs → Unmarked bs cs
+    go (text ds) q f = record { chars = ds; decoded = q; is = (let w : cs ≡ unmarked ds = cc in w) }
+    go not-utf8 q f = absurd (let z : _≡_ {A = ℕ} 0 1 = cc in omega arith)
+
+no-text : (bs : List ℕ) → unmark (decode bs) ≡ not-utf8 → decode bs ≡ not-utf8
+no-text bs e = go (decode bs) refl e
+  where
+    go : (d : Decoded) → decode bs ≡ d → unmark d ≡ not-utf8 → d ≡ not-utf8
+    go (text ds) q f = absurd (let z : _≡_ {A = ℕ} 0 1 = cc in omega arith)
+    go not-utf8 q f = refl
 
 module _ (bs old new : List ℕ) (r : Decoding) (w : Decodes (unmark (decode bs)) old r new) where
-  not-of : (k : CharPlace) → NotUtf8 ≡ Of k → ⊥
-  not-of k e = let z : _≡_ {A = ℕ} 0 1 = cc in omega arith
-
-  unknown-of : (k : CharPlace) → Unknown ≡ Of k → ⊥
-  unknown-of k e = let z : _≡_ {A = ℕ} 0 1 = cc in omega arith
-
   pub got : (k : CharPlace) → r ≡ Of k → length bs ≤ 4096 → length old ≡ 4096 → Got bs new (k .0)
-  got k e l o = go (decode bs) refl
+  got k e l o = go (told w) e
     where
-      place : (n : ℕ) → Of (record { 0 = n }) ≡ Of k → k .0 ≡ n
-      place n q = let p : record { 0 = n } ≡ k = cc in sym (ap (λ (x : CharPlace). x .0) p)
+      stored-at : (cs : Text) → unmark (decode bs) ≡ text cs → length cs ≤ length bs → take (length cs) new ≡ cs
+      stored-at cs q f =
+          let s : new ≡ over cs old = w .stored cs q in
+          let t : take (length old) cs ≡ cs = take-all (length old) cs (omega arith) in
+          rw (s, t) (take-at cs (drop (length cs) old) (length cs) refl)
 
-      stored-at : (ds : Text) → decode bs ≡ text ds → take (length (unmarked ds)) new ≡ unmarked ds
-      stored-at ds q =
-          let f = few bs ds q in
-          let s : new ≡ over (unmarked ds) old = w .stored (unmarked ds) (ap unmark q) in
-          let t : take (length old) (unmarked ds) ≡ unmarked ds = take-all (length old) (unmarked ds) (omega arith) in
-          rw (s, t) (take-at (unmarked ds) (drop (length (unmarked ds)) old) (length (unmarked ds)) refl)
-
-      go : (d : Decoded) → decode bs ≡ d → Got bs new (k .0)
-      go (text ds) q =
-          let a : answerOf (text (unmarked ds)) ≡ Of k = sym (w .answer ∙ ap (λ (x : Decoded). answerOf (unmark x)) q) ∙ e in
-          ⊎-elim (λ h. let p = place (length (unmarked ds)) (rw h at a) in let f = few bs ds q in
-          record { chars = ds; decoded = q; within = h; count = p; few = omega arith; stored = rw p (stored-at ds q) })
-          (λ h. absurd (unknown-of k (rw h at a))) (look (all known (unmarked ds)))
-      go not-utf8 q = absurd (not-of k (sym (w .answer ∙ ap (λ (x : Decoded). answerOf (unmark x)) q) ∙ e))
-
-  no-text : r ≡ NotUtf8 → decode bs ≡ not-utf8
-  no-text e = go (decode bs) refl
-    where
-      known-not : (n : CharPlace) → Of n ≡ NotUtf8 → ⊥
-      known-not n q = let z : _≡_ {A = ℕ} 0 1 = cc in omega arith
-
-      strange-not : Unknown ≡ NotUtf8 → ⊥
-      strange-not q = let z : _≡_ {A = ℕ} 0 1 = cc in omega arith
-
-      go : (d : Decoded) → decode bs ≡ d → d ≡ not-utf8
-      go (text ds) q =
-          let a : answerOf (text (unmarked ds)) ≡ NotUtf8 = sym (w .answer ∙ ap (λ (x : Decoded). answerOf (unmark x)) q) ∙ e in
-          ⊎-elim (λ h. absurd (known-not (record { 0 = length (unmarked ds) }) (rw h at a))) (λ h. absurd (strange-not (rw h at a))) (look (all known (unmarked ds)))
-      go not-utf8 q = refl
-
-  strange : r ≡ Unknown → Strange bs
-  strange e = go (decode bs) refl
-    where
-      known-not : (n : CharPlace) → Of n ≡ Unknown → ⊥
-      known-not n q = let z : _≡_ {A = ℕ} 0 1 = cc in omega arith
-
-      text-not : NotUtf8 ≡ Unknown → ⊥
-      text-not q = let z : _≡_ {A = ℕ} 0 1 = cc in omega arith
-
-      go : (d : Decoded) → decode bs ≡ d → Strange bs
-      go (text ds) q =
-          let a : answerOf (text (unmarked ds)) ≡ Unknown = sym (w .answer ∙ ap (λ (x : Decoded). answerOf (unmark x)) q) ∙ e in
-          ⊎-elim (λ h. absurd (known-not (record { 0 = length (unmarked ds) }) (rw h at a))) (λ h. record { chars = ds; decoded = q; outside = h }) (look (all known (unmarked ds)))
-      go not-utf8 q = absurd (text-not (sym (w .answer ∙ ap (λ (x : Decoded). answerOf (unmark x)) q) ∙ e))
+      go : {d : Decoding} → Tells (unmark (decode bs)) d → d ≡ Of k → Got bs new (k .0)
+      go (tells-of {k = n} x) q =
+          let u = unmarked-text bs (x .chars) (x .is) in
+          let p : k ≡ n = cc in
+          let f = few bs (u .chars) (u .decoded) in
+          let c : length (x .chars) ≡ length (unmarked (u .chars)) = ap length (u .is) in
+          let m : k .0 ≡ length (x .chars) = ap (λ (z : CharPlace). z .0) p ∙ x .count in
+          record {
+            chars = u .chars;
+            decoded = u .decoded;
+            within = ap (all known) (sym (u .is)) ∙ x .within;
+            count = m ∙ c;
+            few = omega arith;
+            stored = rw m (stored-at (x .chars) (x .is) (omega arith)) ∙ u .is;
+          }
+      go (tells-not x) q = absurd (let z : _≡_ {A = ℕ} 0 1 = cc in omega arith)
+      go (tells-unknown x) q = absurd (let z : _≡_ {A = ℕ} 0 1 = cc in omega arith)
 
   -- a text that is not decoded is refused
   pub turned : length bs ≤ 4096 → (whyOf r ≡ 0 → ⊥) → Turned bs (whyOf r)
-  turned l h = go r refl h
+  turned l h = go (told w) h
     where
-      go : (x : Decoding) → r ≡ x → (whyOf x ≡ 0 → ⊥) → Turned bs (whyOf x)
-      go (Of n) e z = absurd (z refl)
-      go NotUtf8 e z = record { some = z; first = λ ts. stage-2 bs ts l (no-text e) }
-      go Unknown e z = let s = strange e in record { some = z; first = λ ts. stage-3 bs ts l (s .chars) (s .decoded) (s .outside) }
+      go : {d : Decoding} → Tells (unmark (decode bs)) d → (whyOf d ≡ 0 → ⊥) → Turned bs (whyOf d)
+      go (tells-of x) z = absurd (z refl)
+      go (tells-not x) z = record { some = z; first = λ ts. stage-2 bs ts l (no-text bs x) }
+      go (tells-unknown x) z =
+          let u = unmarked-text bs (x .chars) (x .is) in
+          record { some = z; first = λ ts. stage-3 bs ts l (u .chars) (u .decoded) (ap (all known) (sym (u .is)) ∙ x .outside) }
 
 one-not : _≡_ {A = ℕ} 1 0 → ⊥
 one-not e = omega arith

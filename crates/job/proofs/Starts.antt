@@ -1,0 +1,74 @@
+-- The first stages together.
+use mathlib.Core.Bool.{Bool, true, false, _||_, or-true}
+use mathlib.Core.Path.{_≡_, refl, sym, ap, _∙_, subst}
+use mathlib.Core.List.{List, []}
+use Prim.Native.Nat.{ℕ, _≤_, _<_}
+use native.Mathlib.Omega.{arith}
+use lib.Dec.{ltb, leb}
+use lib.ListN.{length}
+use borrow.Author.Tests.{lt-ltb, le-ltb}
+use Rattle.text.specs.Limits.{grammarTable}
+use Rattle.plain.specs.Plain.{size}
+use Rattle.answer.specs.Answer.{Job, tableNeed}
+use Rattle.answer.specs.Compute.{Test, firstOf, grammarTests, recordTests}
+use Rattle.answer.proofs.Stages.{first-below, stage-15}
+use Rattle.load.specs.declared.Passed.{Passed}
+use Rattle.load.specs.declared.Judged.{Judged}
+use Rattle.load.specs.declared.Judged.the-variants.{Grammar as Accepted, Refused as Turned-down}
+use Rattle.load.specs.Loaded.{Turned, Kept, Loads}
+use Rattle.job.specs.declared.Taken.{Taken}
+use Rattle.job.specs.declared.Taken.the-variants.{Chars, Refused}
+use Rattle.job.specs.declared.Begun.the-variants.{At, Refused as Ended}
+use Rattle.job.specs.Stages.{whyJudged, whyTaken, Got, Stopped, Takes, Started, Begins}
+
+fifteen-not : _≡_ {A = ℕ} 15 0 → ⊥
+fifteen-not e = omega arith
+
+module _ (j : Job) (T new : List ℕ) where
+  pub ends-grammar : (d : Judged) (k n : ℕ) → d ≡ Turned-down k → n ≡ whyJudged d → Loads (j .grammar) T d → Begins j T new (Ended n)
+  ends-grammar d k n q e l =
+      let w : n ≡ k = e ∙ ap whyJudged q in
+      let t : Turned (j .grammar) k = subst (Loads (j .grammar) T) q l in
+      rw w (record { some = t .some; early = early k (t .first []); is = λ ts. t .first (recordTests j ts) })
+    where
+      early : (k : ℕ) → firstOf (grammarTests (j .grammar) []) ≡ k → k ≤ 15
+      early k e = subst (λ (n : ℕ). n ≤ 15) e (first-below 15 (grammarTests (j .grammar) []) tt)
+
+  module _ (d : Judged) (p : Passed) (q : d ≡ Accepted p) (l : Loads (j .grammar) T d) where
+    kept : Kept (j .grammar) T p
+    kept = subst (Loads (j .grammar) T) q l
+
+    pub small : p .size ≤ 512
+    small = omega (arith, kept .sized, kept .small)
+
+    pub ends-record : (x : Taken) (k n : ℕ) → x ≡ Refused k → n ≡ whyTaken x → Takes (j .input) new x → Begins j T new (Ended n)
+    ends-record x k n e f t =
+        let w : n ≡ k = f ∙ ap whyTaken e in
+        let s = subst (Takes (j .input) new) e t j refl in
+        rw w (record { some = s .some; early = s .early; is = λ ts. kept .first (recordTests j ts) ∙ s .is ts })
+
+    module _ (x : Taken) (n : ℕ) (e : x ≡ Chars n) (t : Takes (j .input) new x) where
+      got : Got (j .input) new n
+      got = subst (Takes (j .input) new) e t
+
+      pub few : n ≤ 120
+      few = omega (arith, got .count, got .short)
+
+      refused : (ltb (j .mainTable) (tableNeed (size (kept .tree)) (length (got .chars))) || ltb (j .secondTable) grammarTable) ≡ true → Begins j T new (Ended 15)
+      refused w = record { some = fifteen-not; early = omega arith; is = λ ts. kept .first (recordTests j ts) ∙ stage-15 j ts (got .chars) (got .decoded) (got .within) (got .short) (kept .tree) (kept .is) w }
+
+      need-is : (k : ℕ) → k ≡ tableNeed (p .size) n → k ≡ tableNeed (size (kept .tree)) (length (got .chars))
+      need-is k f = f ∙ ap (λ (s : ℕ). tableNeed s n) (kept .sized) ∙ ap (tableNeed (size (kept .tree))) (got .count)
+
+      pub ends-main : (k : ℕ) → k ≡ tableNeed (p .size) n → j .mainTable < k → Begins j T new (Ended 15)
+      ends-main k f h = refused (rw (lt-ltb (j .mainTable) (tableNeed (size (kept .tree)) (length (got .chars))) (omega (arith, need-is k f))))
+
+      module _ (k : ℕ) (f : k ≡ tableNeed (p .size) n) (h : k ≤ j .mainTable) where
+        main-enough : ltb (j .mainTable) (tableNeed (size (kept .tree)) (length (got .chars))) ≡ false
+        main-enough = le-ltb (j .mainTable) (tableNeed (size (kept .tree)) (length (got .chars))) (omega (arith, need-is k f))
+
+        pub ends-second : j .secondTable < 16384 → Begins j T new (Ended 15)
+        ends-second i = refused (rw (main-enough, lt-ltb (j .secondTable) grammarTable i))
+
+        pub begun : 16384 ≤ j .secondTable → Begins j T new (At (record { passed = p; chars = n }))
+        begun i = record { grammar = kept; input = got; enough = rw (main-enough, le-ltb (j .secondTable) grammarTable i) }

@@ -1,0 +1,70 @@
+-- What the stages of a job answer.
+use mathlib.Core.Bool.{Bool, true, false, _||_}
+use mathlib.Core.Path.{_≡_}
+use mathlib.Core.List.{List}
+use Prim.Native.Nat.{ℕ, _≤_}
+use lib.Dec.{ltb}
+use lib.ListN.{length, take}
+use Rattle.text.specs.Limits.{recordChars, grammarTable}
+use Rattle.text.specs.Lists.{Text, all}
+use Rattle.text.specs.Utf8.{known}
+use Rattle.text.specs.Decode.{text, decode}
+use Rattle.plain.specs.Plain.{size}
+use Rattle.answer.specs.Answer.{Job, tableNeed}
+use Rattle.answer.specs.Compute.{Test, firstOf, grammarTests, recordTests}
+use Rattle.decode.specs.declared.Decoding.{Decoding}
+use Rattle.decode.specs.declared.Decoding.the-variants.{Of, NotUtf8, Unknown}
+use Rattle.load.specs.declared.Judged.{Judged}
+use Rattle.load.specs.declared.Judged.the-variants.{Grammar as Accepted, Refused as Turned-down}
+use Rattle.load.specs.Loaded.{Kept}
+use Rattle.job.specs.declared.Taken.{Taken}
+use Rattle.job.specs.declared.Taken.the-variants.{Chars, Refused}
+use Rattle.job.specs.declared.Start.{Start}
+use Rattle.job.specs.declared.Begun.{Begun}
+use Rattle.job.specs.declared.Begun.the-variants.{At, Refused as Ended}
+
+abbrev pub job : List ℕ → List ℕ → ℕ → ℕ → Job
+job gs rs main second = record { grammar = gs; input = rs; mainTable = main; secondTable = second }
+
+-- the number of each refusal
+abbrev pub whyText : Decoding → ℕ
+whyText (Of n) = 0
+whyText NotUtf8 = 12
+whyText Unknown = 13
+
+abbrev pub whyTaken : Taken → ℕ
+whyTaken (Chars n) = 0
+whyTaken (Refused n) = n
+
+abbrev pub whyJudged : Judged → ℕ
+whyJudged (Accepted p) = 0
+whyJudged (Turned-down n) = n
+
+-- the n characters of some bytes stand in a buffer, none above the alphabet, and not too many
+pub record Got (bs new : List ℕ) (n : ℕ) : Type 0 where
+  pub chars : Text
+  pub decoded : decode bs ≡ text chars
+  pub within : all known chars ≡ true
+  pub short : length chars ≤ recordChars
+  pub count : n ≡ length chars
+  pub stored : take n new ≡ chars
+
+-- refused with n, by a stage before 16
+pub record Stopped (first : List Test → ℕ) (n : ℕ) : Type 0 where
+  pub some : n ≡ 0 → ⊥
+  pub early : n ≤ 15
+  pub is : (ts : List Test) → first ts ≡ n
+
+abbrev pub Takes : List ℕ → List ℕ → Taken → Type 0
+Takes bs new (Chars n) = Got bs new n
+Takes bs new (Refused n) = (j : Job) → j .input ≡ bs → Stopped (λ ts. firstOf (recordTests j ts)) n
+
+-- none of 1 to 15 applies: the table has the grammar's tokens, the buffer the record's characters
+pub record Started (j : Job) (T new : List ℕ) (s : Start) : Type 0 where
+  pub grammar : Kept (j .grammar) T (s .passed)
+  pub input : Got (j .input) new (s .chars)
+  pub enough : (ltb (j .mainTable) (tableNeed (size (grammar .tree)) (length (input .chars))) || ltb (j .secondTable) grammarTable) ≡ false
+
+abbrev pub Begins : Job → List ℕ → List ℕ → Begun → Type 0
+Begins j T new (At s) = Started j T new s
+Begins j T new (Ended n) = Stopped (λ ts. firstOf (grammarTests (j .grammar) (recordTests j ts))) n

@@ -1,0 +1,114 @@
+// The stages of a job, from its bytes to the chosen reading. The first stage that refuses ends it.
+ghost use mathlib.Core.Path.{_≡_};
+ghost use Prim.Native.Nat.{ℕ, _≤_};
+ghost use lib.ListN.{length};
+ghost use Rattle.text.specs.Limits.{grammarTable, recordChars, mostSize};
+ghost use Rattle.answer.specs.Answer.{Job, tableNeed};
+ghost use Rattle.job.specs.Stages.{job, whyText, whyTaken, whyJudged, Takes, Begins};
+use decode::Decoding;
+use load::Judged;
+use load::Passed;
+
+// How many characters a record has.
+pub enum Taken {
+    Chars(usize),
+    Refused(u32),
+}
+
+fn why_text(decoded: Decoding) -> u32
+    ensures { λ r. ⌜ r ≡ whyText decoded ⌝ }
+{
+    match decoded {
+        Decoding::Of(_) => 0,
+        Decoding::NotUtf8 => 12,
+        Decoding::Unknown => 13,
+    }
+}
+
+// The characters of a record: 12 to 14.
+fn take_record(record: &[u8], text: &mut [u32]) -> Taken
+    requires { ⌜ length (now text) ≡ recordChars ⌝ }
+    ensures { λ r. ⌜ Takes (now («record» .entry)) (now (text .exit)) r ⌝ }
+{
+    let decoded = decode::decode_text(record, text);
+    let Decoding::Of(count) = decoded else {
+        return Taken::Refused(why_text(decoded));
+    };
+    let n = count.0;
+    if 120 < n {
+        return Taken::Refused(14);
+    }
+    Taken::Chars(n)
+}
+
+fn wide(x: u32) -> usize
+    ensures { λ r. ⌜ r ≡ x ⌝ }
+{
+    x as usize
+}
+
+// The numbers that the main table needs.
+fn need(size: usize, n: usize) -> usize
+    requires { ⌜ (size ≤ mostSize) × (n ≤ recordChars) ⌝ }
+    ensures { λ r. ⌜ r ≡ tableNeed size n ⌝ }
+{
+    size * ((n + 1) * (n + 2) / 2)
+}
+
+// What the first stages find: the grammar's tokens, size and version mark, and the count of the record's characters.
+pub struct Start {
+    pub passed: Passed,
+    pub chars: usize,
+}
+
+pub enum Begun {
+    At(Start),
+    Refused(u32),
+}
+
+pub fn why_judged(judged: Judged) -> u32
+    ensures { λ r. ⌜ r ≡ whyJudged judged ⌝ }
+{
+    match judged {
+        Judged::Grammar(_) => 0,
+        Judged::Refused(number) => number,
+    }
+}
+
+fn why_taken(taken: Taken) -> u32
+    ensures { λ r. ⌜ r ≡ whyTaken taken ⌝ }
+{
+    match taken {
+        Taken::Chars(_) => 0,
+        Taken::Refused(number) => number,
+    }
+}
+
+// 1 to 15. The lent tables are known by their lengths.
+pub fn begin(
+    grammar: &[u8],
+    record: &[u8],
+    main: usize,
+    second: usize,
+    table: &mut [u32],
+    text: &mut [u32],
+) -> Begun
+    requires { ⌜ (length (now table) ≡ grammarTable) × (length (now text) ≡ recordChars) ⌝ }
+    ensures { λ r. ⌜ Begins (job (now (grammar .entry)) (now («record» .entry)) main second) (now (table .exit)) (now (text .exit)) r ⌝ }
+{
+    let judged = load::load_grammar(grammar, table);
+    let Judged::Grammar(passed) = judged else {
+        return Begun::Refused(why_judged(judged));
+    };
+    let taken = take_record(record, text);
+    let Taken::Chars(chars) = taken else {
+        return Begun::Refused(why_taken(taken));
+    };
+    if main < need(wide(passed.size), chars) {
+        return Begun::Refused(15);
+    }
+    if second < 16384 {
+        return Begun::Refused(15);
+    }
+    Begun::At(Start { passed, chars })
+}
