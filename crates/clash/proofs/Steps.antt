@@ -224,3 +224,13 @@ module _ {T P : List ℕ} {r : Text} {S₀ S : List ℕ} {h : Spot} {x : Xml} (A
 pub ahead-begin : {T P : List ℕ} {r : Text} {S : List ℕ} {h : Spot} {g : Grammar} {starts : Starts} {e₁ i₁ : ℕ} {row : Row} {ss : List Symbol} → Walk T P r S g starts e₁ i₁ h row ss [] → 2 * length P ≤ length S → Ahead T P r S S h (nodes g r row ss (h .place))
 ahead-begin {r = r} {h = h} {g = g} {starts = starts} {e₁ = e₁} {i₁ = i₁} {row = row} {ss = ss} W room =
     record { g = g; starts = starts; e₁ = e₁; i₁ = i₁; row = row; ss = ss; fs = []; walk = W; scratch = refl; room = room; meets = sym (join-none (nodes g r row ss (h .place))) }
+
+-- the kind of an item, by what it is not
+pub fourth : (k n : ℕ) → k ≡ n → (n ≡ 0 → ⊥) → (k ≡ 1 → ⊥) → (k ≡ 2 → ⊥) → (k ≡ 3 → ⊥) → 4 ≤ n
+fourth k n e z a b c = big n z (λ q. a (e ∙ q)) (λ q. b (e ∙ q)) (λ q. c (e ∙ q))
+  where
+    big : (n : ℕ) → (n ≡ 0 → ⊥) → (n ≡ 1 → ⊥) → (n ≡ 2 → ⊥) → (n ≡ 3 → ⊥) → 4 ≤ n
+    big n z a b c = omega arith
+
+pub fifth : (k n : ℕ) → k ≡ n → 4 ≤ n → (k ≡ 4 → ⊥) → 5 ≤ n
+fifth k n e l h = omega arith
