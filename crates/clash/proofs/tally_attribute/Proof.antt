@@ -1,3 +1,6 @@
+use mathlib.Core.Path.{_≡_, refl, sym, ap, _∙_}
+use Rattle.clash.proofs.Steps.{ahead-small}
+use Rattle.clash.proofs.Tallies.{room-there, tally-listed}
 use borrow.Author.Needs.{needs}
 use Rattle.clash.proofs.tally_attribute.Statement.{statement}
 use Rattle.clash.proofs.tally_attribute.Tie as tie
@@ -26,11 +29,11 @@ mul-seen c = search needs
 
 -- src/lib.rt:105:5
 slice-write-seen : tie.Need-slice-write-seen
-slice-write-seen c = ?
+slice-write-seen c = room-there (c .before .before .before .before .before .before .before .before .pre .1 .1) (c .before .before .before .before .before .before .before .before .pre .1 .0) (c .before .before .before .before .before .before .before .before .pre .0)
 
 -- src/lib.rt:106:9
 jump-requires : tie.Need-jump-requires
-jump-requires c κs = ?
+jump-requires c κs = ahead-small (c .before .before .before .before .before .before .before .before .pre .1 .1 .going .ahead)
 
 -- src/lib.rt:107:9
 either-requires : tie.Need-either-requires
@@ -46,7 +49,7 @@ same-length c = search needs
 
 -- src/lib.rt:90:1
 returns : tie.Need-returns
-returns c = ?
+returns c = tally-listed (c .before .before .before .before .before .before .before .before .before .before .pre .1 .1) (c .before .before .before .before .before .before .before .before .before .before .pre .1 .0) (c .before .before .before .before .before .before .before .before .before .before .pre .0) (c .before .before .before .before .token-at .result) (c .before .before .before .before .token-at .ensures .0) (c .before .before .is-seen .result) (c .before .before .is-seen .ensures) (c .either .result) (c .either .ensures) (c .before .jump .ensures)
 
 pub tally-attribute-spec : {M : Type 1} → statement M
 tally-attribute-spec =

@@ -1,3 +1,8 @@
+use mathlib.Core.Path.{_≡_, refl, sym, ap, _∙_}
+use denote.Ref.{now}
+use Rattle.items.specs.Items.{kindAt}
+use Rattle.clash.proofs.Steps.{ahead-small, ahead-kind, fourth}
+use Rattle.clash.proofs.Tallies.{some-ahead, tally-skip, tally-jump, tally-through}
 use borrow.Author.Needs.{needs}
 use Rattle.clash.proofs.tally_step.Statement.{statement}
 use Rattle.clash.proofs.tally_step.Tie as tie
@@ -15,15 +20,15 @@ kind-at-requires c κs = search needs
 
 -- src/lib.rt:129:13
 skip-requires : tie.Need-skip-requires
-skip-requires c κs = ?
+skip-requires c κs = ahead-small (c .before .before .before .before .before .before .before .pre .1 .1 .going .ahead)
 
 -- src/lib.rt:130:9
 returns : tie.Need-returns
-returns c = ?
+returns c = tally-skip (c .before .before .before .before .before .before .before .before .pre .1 .1) (sym (c .before .before .kind-at .ensures) ∙ c .before .if1 .taken) (c .skip .ensures)
 
 -- src/lib.rt:137:13
 jump-requires : tie.Need-jump-requires
-jump-requires c κs = ?
+jump-requires c κs = ahead-small (c .before .before .before .before .before .before .before .before .before .pre .1 .1 .going .ahead)
 
 -- src/lib.rt:138:9
 same-length : tie.Need-same-length
@@ -31,7 +36,7 @@ same-length c = search needs
 
 -- src/lib.rt:138:9
 returns-2 : tie.Need-returns-2
-returns-2 c = ?
+returns-2 c = tally-jump (c .before .before .before .before .before .before .before .before .before .before .pre .1 .1) (sym (c .before .before .before .before .kind-at .ensures) ∙ c .before .before .if2 .taken) (c .jump .ensures)
 
 -- src/lib.rt:145:9
 tally-attribute-requires : tie.Need-tally-attribute-requires
@@ -51,7 +56,7 @@ returns-3 c = search needs
 
 -- src/lib.rt:147:9
 through-requires : tie.Need-through-requires
-through-requires c κs = ?
+through-requires c κs = (fourth (c .before .before .before .before .kind-at .result) (kindAt (now (c .before .before .before .before .before .before .before .before .before .before .args .table)) (c .before .before .before .before .before .before .before .before .before .before .args .s .at .item)) (c .before .before .before .before .kind-at .ensures) (ahead-kind (c .before .before .before .before .before .before .before .before .before .before .pre .1 .1 .going .ahead)) (c .before .before .before .if1 .left) (c .before .before .if2 .left) (c .before .if3 .left), c .before .before .before .before .before .before .before .before .before .before .pre .1 .0, some-ahead (c .before .before .before .before .before .before .before .before .before .before .pre .1 .1))
 
 -- src/lib.rt:115:1
 same-length-4 : tie.Need-same-length-4
@@ -59,7 +64,7 @@ same-length-4 c = search needs
 
 -- src/lib.rt:115:1
 returns-4 : tie.Need-returns-4
-returns-4 c = ?
+returns-4 c = tally-through (c .before .before .before .before .before .before .before .before .before .before .before .before .before .pre .1 .1) (c .before .before .through .ensures)
 
 pub tally-step-spec : {M : Type 1} → statement M
 tally-step-spec =
