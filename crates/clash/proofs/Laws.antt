@@ -1,12 +1,12 @@
 -- Laws of names that clash, of shapes, and of names compared by their places.
 use mathlib.Core.Path.{_≡_, refl, sym, ap, ap₂, _∙_}
 use mathlib.Core.Bool.{Bool, true, false, not, _&&_, _||_}
-use mathlib.Core.List.{List, [], _∷_, _++_}
+use mathlib.Core.List.{List, [], _∷_}
 use mathlib.Core.Logic.{⊎-elim}
-use Prim.Native.Nat.{ℕ, zero, suc, _+_, _-_, _≤_, _<_}
+use Prim.Native.Nat.{ℕ, suc, _+_, _-_, _≤_, _<_}
 use native.Mathlib.Omega.{arith}
 use lib.Dec.{eqb}
-use lib.ListN.{length, getD, set, take, drop, length-set}
+use lib.ListN.{length, getD, set, drop}
 use lib.Seq.{drop-cons, drop-length, getD-take, getD-drop, getD-set-same, getD-set-other}
 use borrow.Author.Tests.{eq-eqb, ne-eqb, eqb-true, eqb-false}
 use Rattle.text.specs.Lists.{Text, any, same, repeats}
@@ -19,7 +19,7 @@ use Rattle.spell.proofs.Pieces.{named-count, named-text}
 use Rattle.clash.specs.Names.{repeated, clashes, Listed}
 use Rattle.clash.specs.One.{more, shape, shapeText}
 
--- rows
+-- rows joined
 pub join-none : (x : Xml) → join x none ≡ x
 join-none none = refl
 join-none (char c x) = ap (char c) (join-none x)
@@ -32,7 +32,7 @@ join-assoc (char c x) y z = ap (char c) (join-assoc x y z)
 join-assoc (attr n v x) y z = ap (attr n v) (join-assoc x y z)
 join-assoc (elem n i x) y z = ap (elem n i) (join-assoc x y z)
 
--- names that clash
+-- equality either way round
 eqb-sym : (a b : ℕ) → eqb a b ≡ eqb b a
 eqb-sym a b = ⊎-elim (λ e. e ∙ sym (eq-eqb b a (sym (eqb-true a b e)))) (λ e. e ∙ sym (ne-eqb b a (λ q. eqb-false a b e (sym q)))) (look (eqb a b))
 
@@ -42,6 +42,7 @@ same-sym [] (d ∷ ds) = refl
 same-sym (c ∷ cs) [] = refl
 same-sym (c ∷ cs) (d ∷ ds) = ap₂ _&&_ (eqb-sym c d) (same-sym cs ds)
 
+-- tests in another order
 shuffle : (s p a b : Bool) → (s || p) || (a || b) ≡ (s || a) || (p || b)
 shuffle true p a b = refl
 shuffle false true true b = refl
@@ -53,16 +54,19 @@ known : (m : Text) (ns ms : List Text) → any (λ k. any (same k) (m ∷ ns)) m
 known m ns [] = refl
 known m ns (k ∷ ms) = rw (known m ns ms, same-sym k m) (shuffle (same m k) (any (same k) ns) (any (same m) ms) (any (λ k. any (same k) ns) ms))
 
+-- the same with the tests of a name first
 regroup : (a b c d : Bool) → a || ((b || c) || d) ≡ (a || c) || (b || d)
 regroup true b c d = refl
 regroup false true true d = refl
 regroup false true false d = refl
 regroup false false c d = refl
 
+-- a name clashes with a known one, or with one of its own list
 clashes-are : (ns ms : List Text) → clashes ns ms ≡ (any (λ k. any (same k) ns) ms || repeats ms)
 clashes-are ns [] = refl
 clashes-are ns (m ∷ ms) = rw (clashes-are (m ∷ ns) ms, known m ns ms) (regroup (any (same m) ns) (any (same m) ms) (any (λ k. any (same k) ns) ms) (repeats ms))
 
+-- of no names none is known
 none-known : (ms : List Text) → any (λ k. any (same k) []) ms ≡ false
 none-known [] = refl
 none-known (m ∷ ms) = none-known ms
@@ -71,25 +75,28 @@ none-known (m ∷ ms) = none-known ms
 pub clashes-begin : (x : Xml) → clashes [] (attributeNames x) ≡ repeated x
 clashes-begin x = clashes-are [] (attributeNames x) ∙ rw (none-known (attributeNames x))
 
+-- text by itself has no names
 names-text : (cs : Text) → attributeNames (text cs) ≡ []
 names-text [] = refl
 names-text (c ∷ cs) = names-text cs
 
--- text has no names
+-- text in front adds no names
 pub names-past : (cs : Text) (y : Xml) → attributeNames (join (text cs) y) ≡ attributeNames y
 names-past cs y = names-join (text cs) y ∙ rw (names-text cs)
 
--- shapes
+-- the shape of a row behind a text
 pub shape-past : (n : ℕ) (cs : Text) (y : Xml) → shape n (join (text cs) y) ≡ shape (shapeText n cs) y
 shape-past n [] y = refl
 shape-past n (c ∷ cs) y = shape-past 2 cs y
 
+-- what is anything else stays so
 else : (x : Xml) → shape 2 x ≡ 2
 else none = refl
 else (char c x) = else x
 else (attr m v x) = else x
 else (elem m i x) = else x
 
+-- no text leaves a shape as it is, any other makes it anything else
 pub text-none : (n : ℕ) (cs : Text) → cs ≡ [] → n ≡ shapeText n cs
 text-none n cs e = rw e
 
@@ -108,7 +115,7 @@ one-shape (elem m i (char c x)) = rw (else x)
 one-shape (elem m i (attr n v x)) = rw (else x)
 one-shape (elem m i (elem n j x)) = rw (else x)
 
--- names that are listed
+-- listed names stay so when a place behind them is written
 pub listed-set : (T seen : List ℕ) (ns : List Text) (at v : ℕ) → length ns ≤ at → Listed T seen ns → Listed T (set seen at v) ns
 listed-set T seen [] at v h l = tt
 listed-set T seen (n ∷ ns) at v h l =
@@ -121,7 +128,7 @@ listed-more T seen ns at token k n e h N l =
     let q : getD (set seen at token) (length ns) 0 ≡ token = ap (λ (j : ℕ). getD (set seen at token) j 0) e ∙ getD-set-same seen at token 0 h in
     ((k, rw q N), listed-set T seen ns at token (omega arith) l)
 
--- names compared
+-- a letter of a name, by its place
 pub named-at : {T : List ℕ} {token k : ℕ} {n : Text} (i : ℕ) → Named T token k n → i < length n → getD T (token + 2 + i) 0 ≡ getD n i 0
 named-at {T} {token} {k} {n} i N h =
     sym (getD-drop (token + 2) T i 0) ∙ sym (getD-take (length n) (drop (token + 2) T) i 0 h) ∙ ap (λ (t : Text). getD t i 0) (named-text N)

@@ -2,22 +2,21 @@
 use mathlib.Core.Path.{_≡_, refl, sym, ap, _∙_}
 use mathlib.Core.Bool.{Bool, not}
 use mathlib.Core.List.{List, []}
-use Prim.Native.Nat.{ℕ, _+_, _*_, _≤_, _<_}
-use native.Mathlib.Omega.{arith}
+use Prim.Native.Nat.{ℕ, _*_, _≤_}
 use lib.Dec.{eqb}
 use lib.ListN.{length}
 use Rattle.text.specs.Lists.{Text}
 use Rattle.tree.specs.Tree.{Symbol, Grammar}
 use Rattle.derive.specs.Derive.{Row}
 use Rattle.items.specs.Items.{kindAt, Starts}
-use Rattle.xml.specs.Document.{Xml, nodes, notOne}
+use Rattle.xml.specs.Document.{nodes, notOne}
 use Rattle.ends.specs.declared.Spot.{Spot}
 use Rattle.ends.specs.Walk.{Walk, Over}
 use Rattle.ends.specs.Steps.{jumped}
 use Rattle.writer.specs.Rows.{textAt, Standing}
 use Rattle.clash.specs.declared.Sight.{Sight}
-use Rattle.clash.specs.Ahead.{Ahead, SomeAhead, Through, Judges}
-use Rattle.clash.specs.One.{more, shape, shapeText, Looking, SomeSight, Looked, Texted}
+use Rattle.clash.specs.Ahead.{SomeAhead, Through, Judges}
+use Rattle.clash.specs.One.{more, shape, Looking, SomeSight, Looked, Texted}
 use Rattle.clash.proofs.Laws.{shape-past, one-shape}
 use Rattle.clash.proofs.Steps.{past-text, past-element, past-attribute, ahead-over, ahead-begin}
 

@@ -8,7 +8,7 @@ use lib.ListN.{length, drop}
 use Rattle.text.specs.Lists.{Text}
 use Rattle.tree.specs.Tree.{Symbol, Terminal, Grammar}
 use Rattle.tree.specs.Tokens.{terminalTokens}
-use Rattle.derive.specs.Derive.{Row, end, leaf, node, leftParse, alternative}
+use Rattle.derive.specs.Derive.{Row, end, node, leftParse, alternative}
 use Rattle.items.specs.Items.{kindAt, tokenAt, Starts, Reads}
 use Rattle.xml.specs.Document.{Xml, none, attr, elem, join, text, nodes, nameOf, value, stretch, terminalText}
 use Rattle.ends.specs.declared.Spot.{Spot}

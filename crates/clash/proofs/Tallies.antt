@@ -1,6 +1,6 @@
 -- The steps of the walk that lists attributes.
 use mathlib.Core.Path.{_≡_, refl, sym, ap, _∙_}
-use mathlib.Core.Bool.{Bool, true, false, _||_}
+use mathlib.Core.Bool.{Bool, false, _||_}
 use mathlib.Core.List.{List, [], _∷_}
 use Prim.Native.Nat.{ℕ, _+_, _*_, _≤_, _<_}
 use native.Mathlib.Omega.{arith}
@@ -10,16 +10,16 @@ use Rattle.text.proofs.Lists.{or-assoc, or-false}
 use Rattle.tree.specs.Tree.{Symbol, Grammar}
 use Rattle.derive.specs.Derive.{Row}
 use Rattle.items.specs.Items.{kindAt, tokenAt, Starts}
-use Rattle.xml.specs.Document.{Xml, none, nodes, attributeNames}
+use Rattle.xml.specs.Document.{Xml, nodes, attributeNames}
 use Rattle.ends.specs.declared.Spot.{Spot}
 use Rattle.ends.specs.Walk.{Walk, Over}
 use Rattle.ends.specs.Steps.{Skipped, jumped}
 use Rattle.writer.specs.Rows.{textAt, Standing}
 use Rattle.clash.specs.declared.Tally.{Tally}
 use Rattle.clash.specs.Ahead.{Ahead, SomeAhead, Through, Judges}
-use Rattle.clash.specs.Names.{repeated, clashes, Listed, Seen, Tallying, SomeTally, Tallied}
+use Rattle.clash.specs.Names.{repeated, clashes, Seen, Tallying, SomeTally, Tallied}
 use Rattle.clash.proofs.Laws.{clashes-begin, names-past, listed-more}
-use Rattle.clash.proofs.Steps.{PastAttribute, past-text, past-element, past-attribute, node-there, ahead-over, ahead-begin}
+use Rattle.clash.proofs.Steps.{past-text, past-element, past-attribute, node-there, ahead-over, ahead-begin}
 
 abbrev pub tally : Spot → ℕ → Bool → Tally
 tally h n b = record { at = h; count = n; twice = b }

@@ -1,12 +1,11 @@
 -- The walk that looks for an attribute's name that comes twice.
 use mathlib.Core.Path.{_≡_}
-use mathlib.Core.Bool.{Bool, true, false, _||_}
+use mathlib.Core.Bool.{Bool, false, _||_}
 use mathlib.Core.List.{List, [], _∷_}
-use Prim.Native.Nat.{ℕ, _+_, _<_, _≤_}
+use Prim.Native.Nat.{ℕ, _<_, _≤_}
 use lib.ListN.{length, getD}
 use Rattle.text.specs.Lists.{Text, any, same, repeats}
 use Rattle.xml.specs.Document.{Xml, attributeNames}
-use Rattle.items.specs.Items.{kindAt}
 use Rattle.ends.specs.Walk.{weight}
 use Rattle.ends.specs.Steps.{Named}
 use Rattle.clash.specs.Ahead.{Ahead}

@@ -9,7 +9,7 @@ use Rattle.tree.specs.Tree.{Terminal}
 use Rattle.tree.specs.Tokens.{terminalTokens}
 use Rattle.plain.specs.Plain.{fits}
 use Rattle.items.specs.Items.{Reads, tokenAt}
-use Rattle.xml.specs.Document.{Xml, none, char, attr, elem, join, text}
+use Rattle.xml.specs.Document.{Xml, none, char, attr, elem, text}
 use Rattle.ends.specs.Walk.{weight}
 use Rattle.ends.specs.Steps.{Skipped}
 use Rattle.writer.specs.Rows.{textAt}

@@ -1,7 +1,6 @@
 // Judges of what a row of a left parse comes to: an attribute twice, and anything but one element.
 ghost use mathlib.Core.Path.{_≡_};
-ghost use mathlib.Core.Bool.{Bool, true, false, _||_};
-ghost use mathlib.Core.List.{List};
+ghost use mathlib.Core.Bool.{true, false, _||_};
 ghost use Prim.Native.Nat.{ℕ, _<_, _≤_};
 ghost use lib.ListN.{length};
 ghost use Rattle.text.specs.Lists.{Text, same};
@@ -64,6 +63,7 @@ fn through(table: &[u32], parse: &[u32], scratch: &mut [u32], h: Spot) -> Spot
     ends::leave(scratch, h)
 }
 
+// A function, so that no branches meet in its caller.
 fn either(a: bool, b: bool) -> bool
     ensures { λ r. ⌜ r ≡ (a || b) ⌝ }
 {
@@ -80,6 +80,7 @@ pub struct Tally {
     pub twice: bool,
 }
 
+// The walk is not over.
 fn more(table: &[u32], s: Tally) -> bool
     ensures { λ r. ⌜ (r ≡ true → Over (now (table .entry)) (s .at) → ⊥) × (r ≡ false → Over (now (table .entry)) (s .at)) ⌝ }
 {
@@ -87,6 +88,7 @@ fn more(table: &[u32], s: Tally) -> bool
     ends::more(table, h)
 }
 
+// An attribute: its name is looked for among those seen, and its token noted behind them.
 fn tally_attribute(
     table: &[u32],
     parse: &[u32],
@@ -112,6 +114,7 @@ fn tally_attribute(
     }
 }
 
+// One step: attributes are listed, elements jumped over, deleted nodes entered.
 fn tally_step(
     table: &[u32],
     parse: &[u32],
@@ -181,6 +184,7 @@ pub struct Sight {
     pub sort: usize,
 }
 
+// The walk is not over.
 fn going(table: &[u32], s: Sight) -> bool
     ensures { λ r. ⌜ (r ≡ true → Over (now (table .entry)) (s .at) → ⊥) × (r ≡ false → Over (now (table .entry)) (s .at)) ⌝ }
 {
@@ -188,6 +192,7 @@ fn going(table: &[u32], s: Sight) -> bool
     ends::more(table, h)
 }
 
+// One element more.
 fn one_more(sort: usize) -> usize
     ensures { λ r. ⌜ r ≡ oneMore sort ⌝ }
 {
@@ -197,6 +202,7 @@ fn one_more(sort: usize) -> usize
     2
 }
 
+// A terminal: its text, if it writes any, stands beside.
 fn look_text(table: &[u32], s: Sight) -> Sight
     requires { ⌜ Small (s .at) ⌝ }
     ensures { λ r. ⌜ Texted (now (table .entry)) s r ⌝ }
@@ -214,6 +220,7 @@ fn look_text(table: &[u32], s: Sight) -> Sight
     Sight { at: n, sort: 2 }
 }
 
+// One step: elements and attributes are jumped over, deleted nodes entered.
 fn look_step(table: &[u32], parse: &[u32], scratch: &mut [u32], s: Sight) -> Sight
     requires { ⌜ (Over (now table) (s .at) → ⊥) × SomeSight (now table) (now parse) (now scratch) s ⌝ }
     ensures { λ r. ⌜ Looked (now (table .entry)) (now (parse .entry)) (now (scratch .entry)) (now (scratch .exit)) s r ⌝ }

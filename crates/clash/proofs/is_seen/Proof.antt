@@ -1,13 +1,8 @@
-use mathlib.Core.Path.{_≡_, refl, sym, ap, _∙_}
-use Prim.Native.Nat.{ℕ, _+_, _-_, _≤_, _<_}
+use Prim.Native.Nat.{_-_}
 use native.Mathlib.Omega.{arith}
 use Rattle.clash.proofs.Laws.{Searched, searched-begin, searched-hit, searched-next, searched-end}
 use Rattle.clash.proofs.is_seen.Statement.{statement}
 use Rattle.clash.proofs.is_seen.Tie as tie
-use Rattle.clash.proofs.is_seen.Reads as reads
-use Rattle.clash.proofs.is_seen.Lts as lts
-use Rattle.clash.proofs.same_name.Reads as same-name-reads
-use Rattle.ends.proofs.look.Reads as look-reads
 
 abbrev Inv-loop : tie.InvT-loop
 Inv-loop table seen count token i₀ i = Searched table seen count token i
@@ -15,35 +10,27 @@ Inv-loop table seen count token i₀ i = Searched table seen count token i
 abbrev μ-loop : tie.MeasureT-loop
 μ-loop table seen count token i₀ i = i
 
--- src/lib.rt:46:5
 loop-holds : tie.Need-loop-holds Inv-loop μ-loop
 loop-holds c = searched-begin
 
--- src/lib.rt:47:9
 sub-i : tie.Need-sub-i Inv-loop μ-loop
 sub-i c = omega (arith, c .loop-test .taken)
 
--- src/lib.rt:48:13
 look-requires : tie.Need-look-requires Inv-loop μ-loop
 look-requires c κs = tt
 
--- src/lib.rt:49:12
 same-name-requires : tie.Need-same-name-requires Inv-loop μ-loop
 same-name-requires c κs = (c .before .before .before .before .before .pre, c .look .ensures .1)
 
--- src/lib.rt:50:13
 returns : tie.Need-returns Inv-loop μ-loop
 returns c = record { is = searched-hit (c .before .before .before .before .loop .i) (c .before .before .before .loop-test .taken) (c .before .before .before .before .loop .inv) (c .before .before .look .result) (c .before .before .look .ensures .0) (c .before .same-name .result) (c .before .same-name .ensures) (c .if1 .taken) }
 
--- src/lib.rt:46:5
 loop-less : tie.Need-loop-less Inv-loop μ-loop
 loop-less c = omega (arith, c .before .before .before .loop-test .taken)
 
--- src/lib.rt:46:5
 loop-again : tie.Need-loop-again Inv-loop μ-loop
 loop-again c = searched-next (c .before .before .before .before .loop .i) (c .before .before .before .loop-test .taken) (c .before .before .before .before .loop .inv) (c .before .before .look .result) (c .before .before .look .ensures .0) (c .before .same-name .result) (c .before .same-name .ensures) (c .if1 .left)
 
--- src/lib.rt:41:1
 returns-2 : tie.Need-returns-2 Inv-loop μ-loop
 returns-2 c = record { is = searched-end (c .before .loop .i) (omega (arith, c .loop-test .left)) (c .before .loop .inv) }
 

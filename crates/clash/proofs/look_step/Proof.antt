@@ -1,4 +1,4 @@
-use mathlib.Core.Path.{_≡_, refl, sym, ap, _∙_}
+use mathlib.Core.Path.{sym, _∙_}
 use denote.Ref.{now}
 use Rattle.items.specs.Items.{kindAt}
 use Rattle.clash.proofs.Steps.{ahead-small, ahead-kind, fourth}
@@ -6,63 +6,43 @@ use Rattle.clash.proofs.Sights.{some-ahead, look-over-text, look-over-e
 use borrow.Author.Needs.{needs}
 use Rattle.clash.proofs.look_step.Statement.{statement}
 use Rattle.clash.proofs.look_step.Tie as tie
-use Rattle.clash.proofs.look_step.Reads as reads
-use Rattle.clash.proofs.look_step.Lts as lts
-use Rattle.clash.proofs.look_text.Reads as look-text-reads
-use Rattle.clash.proofs.one_more.Reads as one-more-reads
-use Rattle.clash.proofs.through.Reads as through-reads
-use Rattle.ends.proofs.jump.Reads as jump-reads
-use Rattle.ends.proofs.kind_at.Reads as kind-at-reads
 
--- src/lib.rt:222:9
 kind-at-requires : tie.Need-kind-at-requires
 kind-at-requires c κs = search needs
 
--- src/lib.rt:224:9
 look-text-requires : tie.Need-look-text-requires
 look-text-requires c κs = ahead-small (c .before .before .before .before .before .before .pre .1 .going .ahead)
 
--- src/lib.rt:224:9
 returns : tie.Need-returns
 returns c = look-over-text (c .before .before .before .before .before .before .before .pre .1) (sym (c .before .before .kind-at .ensures) ∙ c .before .if1 .taken) (c .look-text .ensures)
 
--- src/lib.rt:227:13
 jump-requires : tie.Need-jump-requires
 jump-requires c κs = ahead-small (c .before .before .before .before .before .before .before .before .pre .1 .going .ahead)
 
--- src/lib.rt:228:13
 one-more-requires : tie.Need-one-more-requires
 one-more-requires c κs = search needs
 
--- src/lib.rt:229:9
 same-length : tie.Need-same-length
 same-length c = search needs
 
--- src/lib.rt:229:9
 returns-2 : tie.Need-returns-2
 returns-2 c = look-over-element (c .before .before .before .before .before .before .before .before .before .before .pre .1) (sym (c .before .before .before .before .before .kind-at .ensures) ∙ c .before .before .before .if2 .taken) (c .before .jump .ensures) (c .one-more .result) (c .one-more .ensures)
 
--- src/lib.rt:232:13
 jump-requires-2 : tie.Need-jump-requires-2
 jump-requires-2 c κs = ahead-small (c .before .before .before .before .before .before .before .before .before .pre .1 .going .ahead)
 
--- src/lib.rt:233:9
 same-length-2 : tie.Need-same-length-2
 same-length-2 c = search needs
 
--- src/lib.rt:233:9
 returns-3 : tie.Need-returns-3
 returns-3 c = look-over-attribute (c .before .before .before .before .before .before .before .before .before .before .pre .1) (sym (c .before .before .before .before .before .kind-at .ensures) ∙ c .before .before .if3 .taken) (c .jump2 .ensures)
 
--- src/lib.rt:235:9
 through-requires : tie.Need-through-requires
 through-requires c κs = (fourth (c .before .before .before .before .kind-at .result) (kindAt (now (c .before .before .before .before .before .before .before .before .before .args .table)) (c .before .before .before .before .before .before .before .before .before .args .s .at .item)) (c .before .before .before .before .kind-at .ensures) (ahead-kind (c .before .before .before .before .before .before .before .before .before .pre .1 .going .ahead)) (c .before .before .before .if1 .left) (c .before .before .if2 .left) (c .before .if3 .left), c .before .before .before .before .before .before .before .before .before .pre .0, some-ahead (c .before .before .before .before .before .before .before .before .before .pre .1))
 
--- src/lib.rt:217:1
 same-length-3 : tie.Need-same-length-3
 same-length-3 c = search needs
 
--- src/lib.rt:217:1
 returns-4 : tie.Need-returns-4
 returns-4 c = look-through (c .before .before .before .before .before .before .before .before .before .before .before .before .pre .1) (c .before .before .through .ensures)
 

@@ -1,4 +1,3 @@
-use mathlib.Core.Path.{_≡_, refl, sym, ap, _∙_}
 use denote.Ref.{now}
 use Rattle.items.specs.Items.{tokenAt}
 use Rattle.spell.specs.Pieces.{Pieced}
@@ -7,25 +6,16 @@ use Rattle.clash.proofs.Laws.{text-none, text-some}
 use borrow.Author.Needs.{needs}
 use Rattle.clash.proofs.look_text.Statement.{statement}
 use Rattle.clash.proofs.look_text.Tie as tie
-use Rattle.clash.proofs.look_text.Reads as reads
-use Rattle.clash.proofs.look_text.Lts as lts
-use Rattle.ends.proofs.skip.Reads as skip-reads
-use Rattle.ends.proofs.token_at.Reads as token-at-reads
-use Rattle.spell.proofs.piece_of.Reads as piece-of-reads
 
--- src/lib.rt:205:9
 token-at-requires : tie.Need-token-at-requires
 token-at-requires c κs = search needs
 
--- src/lib.rt:206:9
 piece-of-requires : tie.Need-piece-of-requires
 piece-of-requires c κs = search needs
 
--- src/lib.rt:207:9
 skip-requires : tie.Need-skip-requires
 skip-requires c κs = search needs
 
--- src/lib.rt:209:9
 returns : tie.Need-returns
 returns c =
     let T = now (c .before .before .before .before .before .before .before .args .table) in
@@ -33,7 +23,6 @@ returns c =
     let p : Pieced T (tokenAt T (h .item)) (h .place) (c .before .before .before .piece-of .result) = rw (c .before .before .before .before .token-at .ensures .0) at (c .before .before .before .piece-of .ensures) in
     record { on = c .before .before .skip .ensures; sort = λ r x R f. text-none (c .before .before .before .before .before .before .before .args .s .sort) (textAt r x (h .place)) (p .says x r R f .none (c .if1 .taken)) }
 
--- src/lib.rt:200:1
 returns-2 : tie.Need-returns-2
 returns-2 c =
     let T = now (c .before .before .before .before .before .before .before .args .table) in

@@ -1,4 +1,4 @@
-use mathlib.Core.Path.{_≡_, refl, sym, ap, _∙_}
+use mathlib.Core.Path.{_≡_, refl}
 use mathlib.Core.List.{List}
 use Prim.Native.Nat.{ℕ}
 use native.Mathlib.Omega.{arith}
@@ -9,13 +9,8 @@ use Rattle.ends.specs.Walk.{weight}
 use Rattle.xml.specs.Document.{nodes}
 use Rattle.clash.specs.One.{shape, Looking, SomeSight}
 use Rattle.clash.proofs.Sights.{look-begin, look-done}
-use borrow.Author.Needs.{needs}
 use Rattle.clash.proofs.not_one.Statement.{statement}
 use Rattle.clash.proofs.not_one.Tie as tie
-use Rattle.clash.proofs.not_one.Reads as reads
-use Rattle.clash.proofs.not_one.Lts as lts
-use Rattle.clash.proofs.going.Reads as going-reads
-use Rattle.clash.proofs.look_step.Reads as look-step-reads
 
 abbrev Inv-loop : tie.InvT-loop
 Inv-loop table parse scratch₀ t₀ scratch t = (length scratch ≡ length scratch₀) × SomeSight table parse scratch t × ((r : Text) (S₀ : List ℕ) (fin : ℕ) → Looking table parse r S₀ scratch₀ t₀ fin → Looking table parse r S₀ scratch t fin)
@@ -23,36 +18,29 @@ Inv-loop table parse scratch₀ t₀ scratch t = (length scratch ≡ length scra
 abbrev μ-loop : tie.MeasureT-loop
 μ-loop table parse scratch₀ t₀ scratch t = weight table parse (t .at)
 
--- src/lib.rt:248:5
 loop-holds : tie.Need-loop-holds Inv-loop μ-loop
 loop-holds c =
     let a = c .before .before .before .args in
     let D = c .before .before .before .pre .1 in
     (refl, record { r = c .before .before .before .pre .0; S₀ = now (a .scratch); fin = shape 0 (nodes (D .g) (c .before .before .before .pre .0) (D .row) (D .ss) (a .first .place)); going = look-begin (D .walk) (D .room) }, λ r S₀ fin L. L)
 
--- src/lib.rt:248:11
 going-requires : tie.Need-going-requires Inv-loop μ-loop
 going-requires c κs = tt
 
--- src/lib.rt:249:9
 look-step-requires : tie.Need-look-step-requires Inv-loop μ-loop
 look-step-requires c κs = (c .before .before .going .ensures .0 (c .before .if1 .taken), c .before .before .before .loop .inv .1)
 
--- src/lib.rt:248:5
 loop-less : tie.Need-loop-less Inv-loop μ-loop
 loop-less c = c .before .before .look-step .ensures .falls
 
--- src/lib.rt:248:5
 loop-again : tie.Need-loop-again Inv-loop μ-loop
 loop-again c =
     let i = c .before .before .before .before .before .before .loop .inv in
     (omega (arith, i .0), record { r = i .1 .r; S₀ = i .1 .S₀; fin = i .1 .fin; going = c .before .before .look-step .ensures .goes (i .1 .r) (i .1 .S₀) (i .1 .fin) (i .1 .going) }, λ r S₀ fin L. c .before .before .look-step .ensures .goes r S₀ fin (i .2 r S₀ fin L))
 
--- src/lib.rt:243:1
 same-length : tie.Need-same-length Inv-loop μ-loop
 same-length c = c .before .before .before .loop .inv .0
 
--- src/lib.rt:243:1
 returns : tie.Need-returns Inv-loop μ-loop
 returns c = look-done (c .before .before .before .before .before .before .before .pre) (c .before .before .before .loop .inv .2) (c .before .before .going .ensures .1 (c .before .if1 .left)) _ refl
 

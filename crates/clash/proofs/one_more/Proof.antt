@@ -1,15 +1,11 @@
-use mathlib.Core.Path.{_≡_, refl, sym, ap, _∙_}
+use mathlib.Core.Path.{refl}
 use borrow.Author.Tests.{eq-eqb, ne-eqb}
 use Rattle.clash.proofs.one_more.Statement.{statement}
 use Rattle.clash.proofs.one_more.Tie as tie
-use Rattle.clash.proofs.one_more.Reads as reads
-use Rattle.clash.proofs.one_more.Lts as lts
 
--- src/lib.rt:195:9
 returns : tie.Need-returns
 returns c = rw (eq-eqb _ 0 (c .if1 .taken)) refl
 
--- src/lib.rt:191:1
 returns-2 : tie.Need-returns-2
 returns-2 c = rw (ne-eqb _ 0 (c .if1 .left)) refl
 

@@ -1,4 +1,4 @@
-use mathlib.Core.Path.{_≡_, refl, sym, ap, _∙_}
+use mathlib.Core.Path.{sym, _∙_}
 use denote.Ref.{now}
 use Rattle.items.specs.Items.{kindAt}
 use Rattle.clash.proofs.Steps.{ahead-small, ahead-kind, fourth}
@@ -6,63 +6,43 @@ use Rattle.clash.proofs.Tallies.{some-ahead, tally-skip, tally-jump, ta
 use borrow.Author.Needs.{needs}
 use Rattle.clash.proofs.tally_step.Statement.{statement}
 use Rattle.clash.proofs.tally_step.Tie as tie
-use Rattle.clash.proofs.tally_step.Reads as reads
-use Rattle.clash.proofs.tally_step.Lts as lts
-use Rattle.clash.proofs.tally_attribute.Reads as tally-attribute-reads
-use Rattle.clash.proofs.through.Reads as through-reads
-use Rattle.ends.proofs.jump.Reads as jump-reads
-use Rattle.ends.proofs.kind_at.Reads as kind-at-reads
-use Rattle.ends.proofs.skip.Reads as skip-reads
 
--- src/lib.rt:127:9
 kind-at-requires : tie.Need-kind-at-requires
 kind-at-requires c κs = search needs
 
--- src/lib.rt:129:13
 skip-requires : tie.Need-skip-requires
 skip-requires c κs = ahead-small (c .before .before .before .before .before .before .before .pre .1 .1 .going .ahead)
 
--- src/lib.rt:130:9
 returns : tie.Need-returns
 returns c = tally-skip (c .before .before .before .before .before .before .before .before .pre .1 .1) (sym (c .before .before .kind-at .ensures) ∙ c .before .if1 .taken) (c .skip .ensures)
 
--- src/lib.rt:137:13
 jump-requires : tie.Need-jump-requires
 jump-requires c κs = ahead-small (c .before .before .before .before .before .before .before .before .before .pre .1 .1 .going .ahead)
 
--- src/lib.rt:138:9
 same-length : tie.Need-same-length
 same-length c = search needs
 
--- src/lib.rt:138:9
 returns-2 : tie.Need-returns-2
 returns-2 c = tally-jump (c .before .before .before .before .before .before .before .before .before .before .pre .1 .1) (sym (c .before .before .before .before .kind-at .ensures) ∙ c .before .before .if2 .taken) (c .jump .ensures)
 
--- src/lib.rt:145:9
 tally-attribute-requires : tie.Need-tally-attribute-requires
 tally-attribute-requires c κs = search needs
 
--- src/lib.rt:145:9
 same-length-2 : tie.Need-same-length-2
 same-length-2 c = search needs
 
--- src/lib.rt:145:9
 same-length-3 : tie.Need-same-length-3
 same-length-3 c = search needs
 
--- src/lib.rt:145:9
 returns-3 : tie.Need-returns-3
 returns-3 c = search needs
 
--- src/lib.rt:147:9
 through-requires : tie.Need-through-requires
 through-requires c κs = (fourth (c .before .before .before .before .kind-at .result) (kindAt (now (c .before .before .before .before .before .before .before .before .before .before .args .table)) (c .before .before .before .before .before .before .before .before .before .before .args .s .at .item)) (c .before .before .before .before .kind-at .ensures) (ahead-kind (c .before .before .before .before .before .before .before .before .before .before .pre .1 .1 .going .ahead)) (c .before .before .before .if1 .left) (c .before .before .if2 .left) (c .before .if3 .left), c .before .before .before .before .before .before .before .before .before .before .pre .1 .0, some-ahead (c .before .before .before .before .before .before .before .before .before .before .pre .1 .1))
 
--- src/lib.rt:115:1
 same-length-4 : tie.Need-same-length-4
 same-length-4 c = search needs
 
--- src/lib.rt:115:1
 returns-4 : tie.Need-returns-4
 returns-4 c = tally-through (c .before .before .before .before .before .before .before .before .before .before .before .before .before .pre .1 .1) (c .before .before .through .ensures)
 
