@@ -1,3 +1,4 @@
 pub mod Needs
 pub mod Texts
 pub mod Starts
+pub mod Readings

@@ -4,10 +4,12 @@ ghost use Prim.Native.Nat.{ℕ, _≤_};
 ghost use lib.ListN.{length};
 ghost use Rattle.text.specs.Limits.{grammarTable, recordChars, mostSize};
 ghost use Rattle.answer.specs.Answer.{Job, tableNeed};
-ghost use Rattle.job.specs.Stages.{job, whyText, whyTaken, whyJudged, Takes, Begins};
+ghost use Rattle.job.specs.Stages.{job, whyText, whyTaken, whyJudged, Takes, Started, Begins};
+ghost use Rattle.job.specs.Found.{whyWalked, Readable, Ends};
 use decode::Decoding;
 use load::Judged;
 use load::Passed;
+use reading::Walked;
 
 // How many characters a record has.
 pub enum Taken {
@@ -111,4 +113,52 @@ pub fn begin(
         return Begun::Refused(15);
     }
     Begun::At(Start { passed, chars })
+}
+
+// The chosen reading: how many numbers it has, and whether there is a second derivation; and where the root's rule begins.
+pub struct Found {
+    pub root: usize,
+    pub count: usize,
+    pub ambiguous: bool,
+}
+
+pub enum Read {
+    Reading(Found),
+    Refused(u32),
+}
+
+fn why_walked(walked: Walked) -> u32
+    ensures { λ r. ⌜ r ≡ whyWalked walked ⌝ }
+{
+    match walked {
+        Walked::Reading(_, _) => 0,
+        Walked::TooLong => 29,
+        Walked::NoReading => 16,
+    }
+}
+
+// 16 and 29. The left parse goes to `parse`.
+pub fn read_record(
+    table: &mut [u32],
+    start: Start,
+    text: &[u32],
+    main: &mut [u32],
+    parse: &mut [u32],
+) -> Read
+    requires { ⌜ Readable (now table) (now text) (length (now main)) (length (now parse)) start ⌝ }
+    ensures { λ r. ⌜ ((j : Job) (w : Started j (now (table .entry)) (now (text .entry)) start) → Ends j (now (table .entry)) (now (text .entry)) start w (now (table .exit)) (now (parse .exit)) r) ⌝ }
+{
+    let passed = start.passed;
+    let size = wide(passed.size);
+    let root = items::build_items(table, passed.end);
+    let n = start.chars;
+    let walked = choose::choose(table, size, root, &text[..n], main, parse);
+    let Walked::Reading(count, ambiguous) = walked else {
+        return Read::Refused(why_walked(walked));
+    };
+    Read::Reading(Found {
+        root,
+        count,
+        ambiguous,
+    })
 }

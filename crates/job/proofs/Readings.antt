@@ -1,0 +1,166 @@
+-- From the start of a job to its reading.
+use mathlib.Core.Bool.{Bool, true, false, _||_}
+use mathlib.Core.Path.{_≡_, refl, sym, ap, _∙_, subst}
+use mathlib.Core.Logic.{_⊎_, inl, inr, ⊎-elim, _↔_}
+use mathlib.Core.List.{List, [], _∷_, _++_}
+use Prim.Native.Nat.{ℕ, _+_, _*_, _≤_, _<_}
+use native.Mathlib.Omega.{arith}
+use lib.Dec.{T, ltb}
+use lib.ListN.{length, take, drop, length-take, take-append-drop}
+use lib.Seq.{take-take}
+use borrow.Author.Tests.{ltb-false}
+use denote.Enum.Declared.{tagOf}
+use types.Run.{OneOf}
+use Rattle.text.specs.Limits.{grammarTable, readingNumbers, mostSize}
+use Rattle.text.specs.Lists.{Text, pick}
+use Rattle.tree.specs.Tree.{Grammar, rules}
+use Rattle.tree.specs.Tokens.{encode, grammarTokens}
+use Rattle.plain.specs.Static.{undefined, duplicate, beyond, banned, backwards, unclassed}
+use Rattle.plain.specs.Plain.{size}
+use Rattle.derive.specs.Derive.{Row, leftParse, Derivation}
+use Rattle.derive.specs.Chosen.{Second}
+use Rattle.derive.specs.Pick.{found, no-choice, chosenOf}
+use Rattle.derive.specs.Another.{ambiguousOf}
+use Rattle.derive.proofs.Choose.{lacks-none, chosen-found}
+use Rattle.derive.proofs.Ambiguous.{ambiguous-second}
+use Rattle.code.specs.Heights.{stretches}
+use Rattle.measure.specs.Proper.{ProperRules}
+use Rattle.items.specs.Items.{Items, Reads}
+use Rattle.items.specs.Built.{Built}
+use Rattle.items.specs.Scanned as items
+use Rattle.prepare.specs.Ready.{Ready}
+use Rattle.prepare.proofs.Sounds.{ready}
+use Rattle.choose.specs.Choose.{Choosable}
+use Rattle.statics.specs.Held.{staticOf}
+use Rattle.load.proofs.Proper.{grammar-proper}
+use Rattle.load.proofs.Stages.{to-size}
+use Rattle.answer.specs.Answer.{Job, tableNeed}
+use Rattle.answer.specs.Compute.{Test, firstOf, recordTests}
+use Rattle.answer.proofs.Stages.{stage-16, stage-29, stage-read}
+use Rattle.reading.specs.declared.Walked.{Walked}
+use Rattle.reading.specs.declared.Walked.the-variants.{Reading as A-reading, TooLong, NoReading}
+use Rattle.reading.proofs.Walked.{the-type}
+use Rattle.reading.specs.Answer.{Answers, IsReading, IsLong}
+use Rattle.job.specs.declared.Start.{Start}
+use Rattle.job.specs.declared.Found.{Found}
+use Rattle.job.specs.declared.Read.the-variants.{Reading, Refused}
+use Rattle.job.specs.Stages.{Got, Started}
+use Rattle.job.specs.Found.{whyWalked, Readable, firstTest, IsRead, NotRead, Ends}
+
+-- no static rule is broken
+record Lawful (g : Grammar) : Type 0 where
+  defined : undefined g ≡ false
+  simple : duplicate g ≡ false
+  within : beyond g ≡ false
+  classed : unclassed g ≡ false
+
+lawful : (g : Grammar) → staticOf g ≡ 0 → Lawful g
+unfolding staticOf
+lawful g e = go (undefined g) (duplicate g) (beyond g) (banned g) (backwards g) (unclassed g) refl refl refl refl e
+  where
+    go : (a b c d f h : Bool) → undefined g ≡ a → duplicate g ≡ b → beyond g ≡ c → unclassed g ≡ h → _≡_ {A = ℕ} (pick a 5 (pick b 6 (pick c 7 (pick d 8 (pick f 9 (pick h 10 0)))))) 0 → Lawful g
+    go true b c d f h p q r s e = absurd (let z : _≡_ {A = ℕ} 5 0 = e in omega arith)
+    go false true c d f h p q r s e = absurd (let z : _≡_ {A = ℕ} 6 0 = e in omega arith)
+    go false false true d f h p q r s e = absurd (let z : _≡_ {A = ℕ} 7 0 = e in omega arith)
+    go false false false true f h p q r s e = absurd (let z : _≡_ {A = ℕ} 8 0 = e in omega arith)
+    go false false false false true h p q r s e = absurd (let z : _≡_ {A = ℕ} 9 0 = e in omega arith)
+    go false false false false false true p q r s e = absurd (let z : _≡_ {A = ℕ} 10 0 = e in omega arith)
+    go false false false false false false p q r s e = record { defined = p; simple = q; within = r; classed = s }
+
+both-true : (a b : Bool) → T a ↔ T b → a ≡ b
+both-true true true h = refl
+both-true true false h = absurd (h .0 tt)
+both-true false true h = absurd (h .1 tt)
+both-true false false h = refl
+
+or-false : (a b : Bool) → (a || b) ≡ false → a ≡ false
+or-false true b e = e
+or-false false b e = refl
+
+-- an answer that is no reading is one of two
+late-refusal : (w : Walked) → OneOf (1 ∷ 2 ∷ []) (tagOf the-type w) → (whyWalked w ≡ 16) ⊎ (whyWalked w ≡ 29)
+late-refusal (A-reading n m) h = absurd (⊎-elim (λ q. omega arith) (λ q. omega arith) h)
+late-refusal TooLong h = inr refl
+late-refusal NoReading h = inl refl
+
+module _ (j : Job) (Tab new : List ℕ) (s : Start) (w : Started j Tab new s) where
+  abbrev g : Grammar
+  g = w .grammar .tree
+
+  abbrev r : Text
+  r = w .input .chars
+
+  laws : Lawful g
+  laws = lawful g (w .grammar .static)
+
+  proper : ProperRules (rules g)
+  proper = grammar-proper (w .grammar .stands .derived)
+
+  pub readable : items.Readable Tab (s .passed .end) g
+  readable = record { holds = to-size Tab (s .passed .end) g (w .grammar .stands); small = w .grammar .small; known = laws .defined }
+
+  pub prepared : length Tab ≡ grammarTable → items.Prepared Tab (s .passed .end)
+  prepared l = record { tree = g; readable = readable; size = l; inside = w .grammar .inside }
+
+  pub chars-in : s .chars ≤ length new
+  chars-in = let a = ap length (w .input .stored) in omega (arith, length-take (s .chars) new, w .input .count)
+
+  pub chars-part : s .chars ≡ length (take (s .chars) new)
+  chars-part = w .input .count ∙ sym (ap length (w .input .stored))
+
+  module _ (T′ : List ℕ) (root n : ℕ) (e : n ≡ s .passed .size) (b : (take (s .passed .end) T′ ≡ take (s .passed .end) Tab) × Built T′ g root) where
+    pub prepares : Ready T′ g n root
+    prepares = subst (λ (k : ℕ). Ready T′ g k root) (sym (e ∙ w .grammar .sized)) (ready (b .1) proper (laws .simple) (laws .within) (laws .classed))
+
+    pub choosable : (main parse : ℕ) → j .mainTable ≡ main → length T′ ≡ grammarTable → readingNumbers ≤ parse → Choosable T′ n root (take (s .chars) new) main parse
+    choosable main parse m l p =
+        let short : length (take (s .chars) new) ≤ 120 = omega (arith, chars-part, w .input .count, w .input .short) in
+        let enough : tableNeed (size g) (length r) ≤ j .mainTable = ltb-false (j .mainTable) (tableNeed (size g) (length r)) (or-false (ltb (j .mainTable) (tableNeed (size g) (length r))) (ltb (j .secondTable) grammarTable) (w .enough)) in
+        let k : n * stretches (length (take (s .chars) new)) ≡ tableNeed (size g) (length r) = ap (λ (x : ℕ). x * stretches (length (take (s .chars) new))) (e ∙ w .grammar .sized) ∙ ap (λ (x : Text). size g * stretches (length x)) (w .input .stored) in
+        record { grammar = g; ready = prepares; long = l; small = omega (arith, w .grammar .sized, w .grammar .small); short = short; room = omega arith; numbers = p }
+
+    tokens-there : Reads T′ 0 (grammarTokens g)
+    tokens-there = record {
+      more = drop (s .passed .end) (take 12288 T′);
+      stands =
+          sym (take-append-drop (s .passed .end) (take 12288 T′))
+          ∙ ap (λ (l : List ℕ). l ++ drop (s .passed .end) (take 12288 T′)) (take-take (s .passed .end) 12288 T′ (w .grammar .inside) ∙ b .0 ∙ w .grammar .stands .held);
+    }
+
+    module _ (P : List ℕ) (k : Walked) (a : Answers g (take (s .chars) new) P k) where
+      answers : Answers g r P k
+      answers = subst (λ (x : Text). Answers g x P k) (w .input .stored) a
+
+      pub not-read : OneOf (1 ∷ 2 ∷ []) (tagOf the-type k) → (n : ℕ) → n ≡ whyWalked k → NotRead j n
+      not-read h n e = rw e (record { late = late-refusal k h; is = go k answers h })
+        where
+          go : (k : Walked) → Answers g r P k → OneOf (1 ∷ 2 ∷ []) (tagOf the-type k) → (ts : List Test) → firstTest j ts ≡ whyWalked k
+          go (A-reading n m) a h ts = absurd (⊎-elim (λ q. omega arith) (λ q. omega arith) h)
+          go TooLong a h ts =
+              let c = chosen-found g r (a .reading .chosen) in
+              w .grammar .first (recordTests j ts)
+              ∙ stage-29 j ts r (w .input .decoded) (w .input .within) (w .input .short) g (w .grammar .is) (w .enough) (a .tree) c (subst (λ (p : List ℕ). readingNumbers < length p) (a .reading .parse) (a .long))
+          go NoReading a h ts =
+              w .grammar .first (recordTests j ts)
+              ∙ stage-16 j ts r (w .input .decoded) (w .input .within) (w .input .short) g (w .grammar .is) (w .enough) (lacks-none g r a)
+
+      pub is-read : (count : ℕ) (mark : Bool) → k ≡ A-reading count mark → IsRead j Tab new s w T′ P (record { root = root; count = count; ambiguous = mark })
+      is-read count mark e = go (subst (Answers g r P) e answers)
+        where
+          go : IsReading g r P count mark → IsRead j Tab new s w T′ P (record { root = root; count = count; ambiguous = mark })
+          go a =
+              let c = chosen-found g r (a .reading .chosen) in
+              let p : a .parse ≡ leftParse (a .tree) = a .reading .parse in
+              let n : count ≡ length (leftParse (a .tree)) = sym (a .long) ∙ ap length p in
+              let amb = ambiguous-second g r (a .reading) in
+              record {
+                first = λ ts. w .grammar .first (recordTests j ts) ∙ stage-read j ts r (w .input .decoded) (w .input .within) (w .input .short) g (w .grammar .is) (w .enough) (a .tree) c (omega (arith, a .short));
+                row = a .tree;
+                choice = c;
+                mark = both-true mark (ambiguousOf g r (a .tree)) (λ t. amb .1 (a .ambiguous .0 t), λ t. a .ambiguous .1 (amb .0 t));
+                count = n;
+                short = a .short;
+                list = a .list ∙ p;
+                items = b .1 .items;
+                tokens = tokens-there;
+              }
