@@ -192,3 +192,177 @@ fn more(table: &[u32], s: Judge) -> bool
     ends::more(table, h)
 }
 
+// Over a terminal, whose text is judged.
+fn letter(table: &[u32], record: &[u32], s: Judge) -> Judge
+    requires { ⌜ Small (s .at) ⌝ }
+    ensures { λ r. ⌜ Lettered (now (table .entry)) (now («record» .entry)) s r ⌝ }
+{
+    let h = s.at;
+    let token = ends::token_at(table, h.item);
+    let p = spell::piece_of(table, token, h.place);
+    let unwritable = bad_piece(table, record, p);
+    let f = Faults {
+        misnamed: false,
+        unwritable,
+        namespaced: false,
+    };
+    let old = s.found;
+    let found = join(old, f);
+    let at = ends::skip(table, h);
+    Judge { at, found }
+}
+
+fn value_step(
+    table: &[u32],
+    parse: &[u32],
+    record: &[u32],
+    scratch: &mut [u32],
+    s: Judge,
+) -> Judge
+    requires { ⌜ (Over (now table) (s .at) → ⊥) × Some inValue (now table) (now parse) (now «record») (now scratch) s ⌝ }
+    ensures { λ r. ⌜ Stepped inValue (now (table .entry)) (now (parse .entry)) (now («record» .entry)) (now (scratch .entry)) (now (scratch .exit)) s r ⌝ }
+{
+    let h = s.at;
+    let found = s.found;
+    let k = ends::kind_at(table, h.item);
+    if k == 1 {
+        return letter(table, record, s);
+    }
+    if k < 5 {
+        let child = ends::enter(table, parse, scratch, h);
+        return Judge { at: child, found };
+    }
+    let n = ends::leave(scratch, h);
+    Judge { at: n, found }
+}
+
+// Whether some character of all undeleted text of a row is no XML character.
+fn bad_value(
+    table: &[u32],
+    parse: &[u32],
+    record: &[u32],
+    scratch: &mut [u32],
+    first: Spot,
+) -> bool
+    requires { ⌜ Standing (now table) (now parse) (now «record») (now scratch) first ⌝ }
+    ensures { λ r. ⌜ Spoilt (now (table .entry)) (now (parse .entry)) (now («record» .entry)) (now (scratch .entry)) (now (scratch .exit)) first r ⌝ }
+{
+    let none = Faults {
+        misnamed: false,
+        unwritable: false,
+        namespaced: false,
+    };
+    let mut s = Judge {
+        at: first,
+        found: none,
+    };
+    while more(table, s) {
+        s = value_step(table, parse, record, scratch, s);
+    }
+    let found = s.found;
+    found.unwritable
+}
+
+// An attribute: its name, and its value.
+fn attribute(
+    table: &[u32],
+    parse: &[u32],
+    record: &[u32],
+    scratch: &mut [u32],
+    h: Spot,
+) -> Faults
+    requires { ⌜ (kindAt (now table) (h .item) ≡ 3) × SomeNode (now table) (now parse) (now «record») (now scratch) h ⌝ }
+    ensures { λ r. ⌜ Attributed (now (table .entry)) (now (parse .entry)) (now («record» .entry)) (now (scratch .entry)) (now (scratch .exit)) h r ⌝ }
+{
+    let token = ends::token_at(table, h.item);
+    let misnamed = bad_name(table, token);
+    let namespaced = is_xmlns(table, token);
+    let first = ends::inside(table, parse, h);
+    let unwritable = bad_value(table, parse, record, scratch, first);
+    Faults {
+        misnamed,
+        unwritable,
+        namespaced,
+    }
+}
+
+// Into an element, whose name is judged.
+fn element(table: &[u32], parse: &[u32], scratch: &mut [u32], s: Judge) -> Judge
+    requires { ⌜ Enters (now scratch) (s .at) ⌝ }
+    ensures { λ r. ⌜ Opened (now (table .entry)) (now (parse .entry)) (now (scratch .entry)) (now (scratch .exit)) s r ⌝ }
+{
+    let h = s.at;
+    let token = ends::token_at(table, h.item);
+    let misnamed = bad_name(table, token);
+    let f = Faults {
+        misnamed,
+        unwritable: false,
+        namespaced: false,
+    };
+    let old = s.found;
+    let found = join(old, f);
+    let at = ends::enter(table, parse, scratch, h);
+    Judge { at, found }
+}
+
+fn step(
+    table: &[u32],
+    parse: &[u32],
+    record: &[u32],
+    scratch: &mut [u32],
+    s: Judge,
+) -> Judge
+    requires { ⌜ (Over (now table) (s .at) → ⊥) × Some inRow (now table) (now parse) (now «record») (now scratch) s ⌝ }
+    ensures { λ r. ⌜ Stepped inRow (now (table .entry)) (now (parse .entry)) (now («record» .entry)) (now (scratch .entry)) (now (scratch .exit)) s r ⌝ }
+{
+    let h = s.at;
+    let old = s.found;
+    let k = ends::kind_at(table, h.item);
+    if k == 1 {
+        return letter(table, record, s);
+    }
+    if k == 2 {
+        return element(table, parse, scratch, s);
+    }
+    if k == 3 {
+        let f = attribute(table, parse, record, scratch, h);
+        let found = join(old, f);
+        let past = ends::jump(scratch, h);
+        return Judge { at: past, found };
+    }
+    if k == 4 {
+        let into = ends::enter(table, parse, scratch, h);
+        return Judge {
+            at: into,
+            found: old,
+        };
+    }
+    let n = ends::leave(scratch, h);
+    Judge { at: n, found: old }
+}
+
+// The faults of what a row writes.
+pub fn faults_of(
+    table: &[u32],
+    parse: &[u32],
+    record: &[u32],
+    scratch: &mut [u32],
+    first: Spot,
+) -> Faults
+    requires { ⌜ Standing (now table) (now parse) (now «record») (now scratch) first ⌝ }
+    ensures { λ r. ⌜ Told (now (table .entry)) (now (parse .entry)) (now («record» .entry)) (now (scratch .entry)) (now (scratch .exit)) first r ⌝ }
+{
+    let none = Faults {
+        misnamed: false,
+        unwritable: false,
+        namespaced: false,
+    };
+    let mut s = Judge {
+        at: first,
+        found: none,
+    };
+    while more(table, s) {
+        s = step(table, parse, record, scratch, s);
+    }
+    s.found
+}
