@@ -1,3 +1,11 @@
+use mathlib.Core.Path.{_≡_, refl, sym, ap, _∙_}
+use native.Mathlib.Omega.{arith}
+use denote.Ref.{now}
+use Rattle.ends.specs.Steps.{Named}
+use Rattle.ends.proofs.After.{small-of}
+use Rattle.writer.proofs.Steps.{node-standing}
+use Rattle.fault.specs.Flags.{flags}
+use Rattle.fault.proofs.Steps.{attribute-judged}
 use borrow.Author.Needs.{needs}
 use Rattle.fault.proofs.attribute.Statement.{statement}
 use Rattle.fault.proofs.attribute.Tie as tie
@@ -23,11 +31,11 @@ is-xmlns-requires c κs = search needs
 
 -- src/lib.rt:280:9
 inside-requires : tie.Need-inside-requires
-inside-requires c κs = ?
+inside-requires c κs = small-of (c .before .before .before .before .before .before .before .pre .1 .node .walk)
 
 -- src/lib.rt:281:9
 bad-value-requires : tie.Need-bad-value-requires
-bad-value-requires c κs = ?
+bad-value-requires c κs = node-standing (c .before .before .before .before .before .before .before .before .before .pre .1 .node) (c .before .inside .result) (c .before .inside .ensures) (omega (arith, c .before .before .before .before .before .before .before .before .before .pre .0))
 
 -- src/lib.rt:267:1
 same-length : tie.Need-same-length
@@ -35,7 +43,12 @@ same-length c = search needs
 
 -- src/lib.rt:267:1
 returns : tie.Need-returns
-returns c = ?
+returns c =
+    attribute-judged (c .before .before .before .before .before .before .before .before .before .before .before .before .pre .0) (c .before .before .before .before .inside .ensures) (flags (c .before .before .before .before .before .before .bad-name .result) (c .before .before .bad-value .result) (c .before .before .before .before .before .is-xmlns .result))
+    (λ k t N.
+    let m : Named (now (c .before .before .before .before .before .before .before .before .before .before .before .before .args .table)) (c .before .before .before .before .before .before .before .token-at .result) k t = rw (c .before .before .before .before .before .before .before .token-at .ensures .0) N in
+    (c .before .before .before .before .before .before .bad-name .ensures k t m, c .before .before .before .before .before .is-xmlns .ensures k t m))
+    (c .before .before .bad-value .ensures)
 
 pub attribute-spec : {M : Type 1} → statement M
 attribute-spec =
