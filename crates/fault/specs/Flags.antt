@@ -8,6 +8,7 @@ use Rattle.xml.specs.Document.{Xml, misnamed, unwritable, namespaced}
 use Rattle.xml.specs.Names.{xmlChar, nameChar, xmlName}
 use Rattle.fault.specs.declared.Faults.{Faults}
 
+-- the three, in the order of the table
 abbrev pub flags : Bool → Bool → Bool → Faults
 flags m u n = record { misnamed = m; unwritable = u; namespaced = n }
 
@@ -27,17 +28,19 @@ bad c = not (xmlChar c)
 abbrev pub odd : Bool → ℕ → Bool
 odd name c = pick name (not (nameChar c)) (bad c)
 
--- of text, of an element's name, and of an attribute
+-- of text
 abbrev pub ofText : Text → Faults
 ofText t = flags false (any bad t) false
 
+-- of an element's name
 abbrev pub ofName : Text → Faults
 ofName n = flags (not (xmlName n)) false false
 
+-- of an attribute's name and value
 abbrev pub ofAttribute : Text → Text → Faults
 ofAttribute n v = flags (not (xmlName n)) (any bad v) (same n (chars "xmlns"))
 
--- of a tree
+-- of a tree: lines 18, 19 and 22
 abbrev pub ofXml : Xml → Faults
 ofXml x = flags (misnamed x) (unwritable x) (namespaced x)
 

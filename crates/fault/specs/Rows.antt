@@ -20,6 +20,7 @@ use Rattle.fault.specs.Flags.{flags, sound, both, bad, ofText, ofName, o
 use Rattle.fault.specs.declared.Faults.{Faults}
 use Rattle.fault.specs.declared.Judge.{Judge}
 
+-- the faults that a row comes to
 abbrev pub Rowwise : Type 0
 Rowwise = Grammar → Text → Row → List Symbol → ℕ → Faults
 
@@ -50,11 +51,13 @@ pub record Left (f : Rowwise) (T P : List ℕ) (r : Text) (S₀ S : List ℕ) (s
   pub room : 2 * length P ≤ length S₀
   pub owed : both (s .found) (both (f g r row ss (s .at .place)) (restsOf f g r fs)) ≡ fin
 
+-- it stands somewhere
 pub record Some (f : Rowwise) (T P : List ℕ) (r : Text) (S : List ℕ) (s : Judge) : Type 0 where
   pub S₀ : List ℕ
   pub fin : Faults
   pub left : Left f T P r S₀ S s fin
 
+-- a step leads to the same end, and the walk is nearer to it
 pub record Stepped (f : Rowwise) (T P : List ℕ) (r : Text) (S S' : List ℕ) (s s' : Judge) : Type 0 where
   pub goes : (S₀ : List ℕ) (fin : Faults) → Left f T P r S₀ S s fin → Left f T P r S₀ S' s' fin
   pub falls : weight T P (s' .at) < weight T P (s .at)

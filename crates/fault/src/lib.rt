@@ -17,19 +17,20 @@ ghost use Rattle.fault.specs.Rows.{inValue, inRow, Some, Stepped, Letter
 use ends::Spot;
 use spell::Piece;
 
-// Lines 18, 19 and 22 of the table: a name that is none of XML, a character that is none of XML, an attribute named xmlns.
+// Lines 18, 19 and 22 of the table: a name that is no XML name, a character that is no XML character, an attribute named xmlns.
 pub struct Faults {
     pub misnamed: bool,
     pub unwritable: bool,
     pub namespaced: bool,
 }
 
-// A walk that judges.
+// A walk that judges: where it stands, and what it has found.
 pub struct Judge {
     pub at: Spot,
     pub found: Faults,
 }
 
+// Whether one of two holds: a call, so that a caller has no branch.
 fn either(a: bool, b: bool) -> bool
     ensures { λ r. ⌜ r ≡ (a || b) ⌝ }
 {
@@ -52,6 +53,7 @@ fn within(c: usize, low: usize, high: usize, before: bool) -> bool
     true
 }
 
+// Production 2 of XML, from its last span to its first.
 fn xml_char(c: usize) -> bool
     ensures { λ r. ⌜ r ≡ xmlChar c ⌝ }
 {
@@ -62,6 +64,7 @@ fn xml_char(c: usize) -> bool
     within(c, 0x9, 0xa, r)
 }
 
+// Production 4.
 fn name_start(c: usize) -> bool
     ensures { λ r. ⌜ r ≡ nameStart c ⌝ }
 {
@@ -83,6 +86,7 @@ fn name_start(c: usize) -> bool
     within(c, 0x3a, 0x3a, r)
 }
 
+// Production 4a.
 fn name_char(c: usize) -> bool
     ensures { λ r. ⌜ r ≡ nameChar c ⌝ }
 {
@@ -104,7 +108,7 @@ fn is_odd(c: usize, name: bool) -> bool
     !xml_char(c)
 }
 
-// Of characters that stand in a table.
+// Whether one is among the characters that stand in a table.
 fn some_odd(t: &[u32], from: usize, count: usize, name: bool) -> bool
     ensures { λ r. ⌜ r ≡ any (odd name) (take count (drop from (now (t .entry)))) ⌝ }
 {
@@ -138,6 +142,7 @@ pub fn bad_name(table: &[u32], token: usize) -> bool
     true
 }
 
+// Whether a character stands at a place, and those behind it are right too.
 fn spells(t: &[u32], at: usize, c: usize, after: bool) -> bool
     ensures { λ r. ⌜ r ≡ (eqb (getD (now (t .entry)) at 0) c && after) ⌝ }
 {
@@ -172,6 +177,7 @@ fn bad_piece(table: &[u32], record: &[u32], p: Piece) -> bool
     some_odd(record, p.from, p.count, false)
 }
 
+// The faults of either.
 fn join(a: Faults, b: Faults) -> Faults
     ensures { λ r. ⌜ r ≡ both a b ⌝ }
 {
@@ -185,6 +191,7 @@ fn join(a: Faults, b: Faults) -> Faults
     }
 }
 
+// Whether the walk is not over.
 fn more(table: &[u32], s: Judge) -> bool
     ensures { λ r. ⌜ (r ≡ true → Over (now (table .entry)) (s .at) → ⊥) × (r ≡ false → Over (now (table .entry)) (s .at)) ⌝ }
 {
@@ -212,13 +219,8 @@ fn letter(table: &[u32], record: &[u32], s: Judge) -> Judge
     Judge { at, found }
 }
 
-fn value_step(
-    table: &[u32],
-    parse: &[u32],
-    record: &[u32],
-    scratch: &mut [u32],
-    s: Judge,
-) -> Judge
+// One step over a value: its text is judged, its nodes are entered and left.
+fn value_step(table: &[u32], parse: &[u32], record: &[u32], scratch: &mut [u32], s: Judge) -> Judge
     requires { ⌜ (Over (now table) (s .at) → ⊥) × Some inValue (now table) (now parse) (now «record») (now scratch) s ⌝ }
     ensures { λ r. ⌜ Stepped inValue (now (table .entry)) (now (parse .entry)) (now («record» .entry)) (now (scratch .entry)) (now (scratch .exit)) s r ⌝ }
 {
@@ -237,13 +239,7 @@ fn value_step(
 }
 
 // Whether some character of all undeleted text of a row is no XML character.
-fn bad_value(
-    table: &[u32],
-    parse: &[u32],
-    record: &[u32],
-    scratch: &mut [u32],
-    first: Spot,
-) -> bool
+fn bad_value(table: &[u32], parse: &[u32], record: &[u32], scratch: &mut [u32], first: Spot) -> bool
     requires { ⌜ Standing (now table) (now parse) (now «record») (now scratch) first ⌝ }
     ensures { λ r. ⌜ Spoilt (now (table .entry)) (now (parse .entry)) (now («record» .entry)) (now (scratch .entry)) (now (scratch .exit)) first r ⌝ }
 {
@@ -264,13 +260,7 @@ fn bad_value(
 }
 
 // An attribute: its name, and its value.
-fn attribute(
-    table: &[u32],
-    parse: &[u32],
-    record: &[u32],
-    scratch: &mut [u32],
-    h: Spot,
-) -> Faults
+fn attribute(table: &[u32], parse: &[u32], record: &[u32], scratch: &mut [u32], h: Spot) -> Faults
     requires { ⌜ (kindAt (now table) (h .item) ≡ 3) × SomeNode (now table) (now parse) (now «record») (now scratch) h ⌝ }
     ensures { λ r. ⌜ Attributed (now (table .entry)) (now (parse .entry)) (now («record» .entry)) (now (scratch .entry)) (now (scratch .exit)) h r ⌝ }
 {
@@ -278,10 +268,10 @@ fn attribute(
     let misnamed = bad_name(table, token);
     let namespaced = is_xmlns(table, token);
     let first = ends::inside(table, parse, h);
-    let unwritable = bad_value(table, parse, record, scratch, first);
+    let spoilt = bad_value(table, parse, record, scratch, first);
     Faults {
         misnamed,
-        unwritable,
+        unwritable: spoilt,
         namespaced,
     }
 }
@@ -305,13 +295,8 @@ fn element(table: &[u32], parse: &[u32], scratch: &mut [u32], s: Judge) -> Judge
     Judge { at, found }
 }
 
-fn step(
-    table: &[u32],
-    parse: &[u32],
-    record: &[u32],
-    scratch: &mut [u32],
-    s: Judge,
-) -> Judge
+// One step over what is written.
+fn step(table: &[u32], parse: &[u32], record: &[u32], scratch: &mut [u32], s: Judge) -> Judge
     requires { ⌜ (Over (now table) (s .at) → ⊥) × Some inRow (now table) (now parse) (now «record») (now scratch) s ⌝ }
     ensures { λ r. ⌜ Stepped inRow (now (table .entry)) (now (parse .entry)) (now («record» .entry)) (now (scratch .entry)) (now (scratch .exit)) s r ⌝ }
 {

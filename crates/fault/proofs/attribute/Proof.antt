@@ -9,39 +9,25 @@ use Rattle.fault.proofs.Steps.{attribute-judged}
 use borrow.Author.Needs.{needs}
 use Rattle.fault.proofs.attribute.Statement.{statement}
 use Rattle.fault.proofs.attribute.Tie as tie
-use Rattle.fault.proofs.attribute.Reads as reads
-use Rattle.fault.proofs.attribute.Lts as lts
-use Rattle.ends.proofs.inside.Reads as inside-reads
-use Rattle.ends.proofs.token_at.Reads as token-at-reads
-use Rattle.fault.proofs.bad_name.Reads as bad-name-reads
-use Rattle.fault.proofs.bad_value.Reads as bad-value-reads
-use Rattle.fault.proofs.is_xmlns.Reads as is-xmlns-reads
 
--- src/lib.rt:277:9
 token-at-requires : tie.Need-token-at-requires
 token-at-requires c κs = search needs
 
--- src/lib.rt:278:9
 bad-name-requires : tie.Need-bad-name-requires
 bad-name-requires c κs = search needs
 
--- src/lib.rt:279:9
 is-xmlns-requires : tie.Need-is-xmlns-requires
 is-xmlns-requires c κs = search needs
 
--- src/lib.rt:280:9
 inside-requires : tie.Need-inside-requires
 inside-requires c κs = small-of (c .before .before .before .before .before .before .before .pre .1 .node .walk)
 
--- src/lib.rt:281:9
 bad-value-requires : tie.Need-bad-value-requires
 bad-value-requires c κs = node-standing (c .before .before .before .before .before .before .before .before .before .pre .1 .node) (c .before .inside .result) (c .before .inside .ensures) (omega (arith, c .before .before .before .before .before .before .before .before .before .pre .0))
 
--- src/lib.rt:267:1
 same-length : tie.Need-same-length
 same-length c = search needs
 
--- src/lib.rt:267:1
 returns : tie.Need-returns
 returns c =
     attribute-judged (c .before .before .before .before .before .before .before .before .before .before .before .before .pre .0) (c .before .before .before .before .inside .ensures) (flags (c .before .before .before .before .before .before .bad-name .result) (c .before .before .bad-value .result) (c .before .before .before .before .before .is-xmlns .result))

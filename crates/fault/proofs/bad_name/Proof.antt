@@ -4,53 +4,37 @@ use Rattle.fault.proofs.Names.{name-none, name-start, name-other}
 use borrow.Author.Needs.{needs}
 use Rattle.fault.proofs.bad_name.Statement.{statement}
 use Rattle.fault.proofs.bad_name.Tie as tie
-use Rattle.fault.proofs.bad_name.Reads as reads
-use Rattle.fault.proofs.bad_name.Lts as lts
-use Rattle.ends.proofs.look.Reads as look-reads
-use Rattle.fault.proofs.name_start.Reads as name-start-reads
-use Rattle.fault.proofs.some_odd.Reads as some-odd-reads
 
--- src/lib.rt:131:31
 add-look : tie.Need-add-look
 add-look c = search needs
 
--- src/lib.rt:131:9
 look-requires : tie.Need-look-requires
 look-requires c κs = search needs
 
--- src/lib.rt:133:9
 returns : tie.Need-returns
 returns c = λ k n N. name-none N (sym (c .before .look .ensures .0) ∙ c .if1 .taken)
 
--- src/lib.rt:135:37
 add-look-2 : tie.Need-add-look-2
 add-look-2 c = search needs
 
--- src/lib.rt:135:19
 look-requires-2 : tie.Need-look-requires-2
 look-requires-2 c κs = search needs
 
--- src/lib.rt:135:8
 name-start-requires : tie.Need-name-start-requires
 name-start-requires c κs = search needs
 
--- src/lib.rt:136:32
 add-some-odd : tie.Need-add-some-odd
 add-some-odd c = search needs
 
--- src/lib.rt:136:43
 sub-some-odd : tie.Need-sub-some-odd
 sub-some-odd c = search needs
 
--- src/lib.rt:136:9
 some-odd-requires : tie.Need-some-odd-requires
 some-odd-requires c κs = search needs
 
--- src/lib.rt:136:9
 returns-2 : tie.Need-returns-2
 returns-2 c = λ k n N. c .some-odd .ensures ∙ name-start N (c .before .before .before .before .before .look .result) (c .before .before .before .before .before .look .ensures .0) (c .before .before .before .before .if1 .left) (ap nameStart (sym (c .before .before .before .look2 .ensures .0)) ∙ sym (c .before .before .name-start .ensures) ∙ c .before .if2 .taken)
 
--- src/lib.rt:127:1
 returns-3 : tie.Need-returns-3
 returns-3 c = λ k n N. name-other N (ap nameStart (sym (c .before .before .look2 .ensures .0)) ∙ sym (c .before .name-start .ensures) ∙ c .if2 .left)
 

@@ -5,25 +5,18 @@ use Rattle.fault.proofs.Names.{plain-odd}
 use borrow.Author.Needs.{needs}
 use Rattle.fault.proofs.bad_piece.Statement.{statement}
 use Rattle.fault.proofs.bad_piece.Tie as tie
-use Rattle.fault.proofs.bad_piece.Reads as reads
-use Rattle.fault.proofs.bad_piece.Lts as lts
-use Rattle.fault.proofs.some_odd.Reads as some-odd-reads
 
--- src/lib.rt:170:9
 some-odd-requires : tie.Need-some-odd-requires
 some-odd-requires c κs = search needs
 
--- src/lib.rt:170:9
 returns : tie.Need-returns
 returns c =
     let a = c .before .before .before .before .args in
     rw (c .before .if1 .taken) (c .some-odd .ensures ∙ plain-odd (take (a .p .count) (drop (a .p .from) (now (a .table)))))
 
--- src/lib.rt:172:5
 some-odd-requires-2 : tie.Need-some-odd-requires-2
 some-odd-requires-2 c κs = search needs
 
--- src/lib.rt:166:1
 returns-2 : tie.Need-returns-2
 returns-2 c =
     let a = c .before .before .before .before .args in

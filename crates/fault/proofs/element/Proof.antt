@@ -6,34 +6,22 @@ use Rattle.fault.specs.Flags.{flags, both}
 use borrow.Author.Needs.{needs}
 use Rattle.fault.proofs.element.Statement.{statement}
 use Rattle.fault.proofs.element.Tie as tie
-use Rattle.fault.proofs.element.Reads as reads
-use Rattle.fault.proofs.element.Lts as lts
-use Rattle.ends.proofs.enter.Reads as enter-reads
-use Rattle.ends.proofs.token_at.Reads as token-at-reads
-use Rattle.fault.proofs.bad_name.Reads as bad-name-reads
-use Rattle.fault.proofs.join.Reads as join-reads
 
--- src/lib.rt:295:9
 token-at-requires : tie.Need-token-at-requires
 token-at-requires c κs = search needs
 
--- src/lib.rt:296:9
 bad-name-requires : tie.Need-bad-name-requires
 bad-name-requires c κs = search needs
 
--- src/lib.rt:303:9
 join-requires : tie.Need-join-requires
 join-requires c κs = search needs
 
--- src/lib.rt:304:9
 enter-requires : tie.Need-enter-requires
 enter-requires c κs = search needs
 
--- src/lib.rt:290:1
 same-length : tie.Need-same-length
 same-length c = search needs
 
--- src/lib.rt:290:1
 returns : tie.Need-returns
 returns c =
     let a = c .before .before .before .before .before .before .before .before .before .before .before .before .args in

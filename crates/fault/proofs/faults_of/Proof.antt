@@ -10,10 +10,6 @@ use Rattle.fault.specs.declared.Faults.{Faults}
 use Rattle.fault.proofs.Steps.{some-begin, row-told}
 use Rattle.fault.proofs.faults_of.Statement.{statement}
 use Rattle.fault.proofs.faults_of.Tie as tie
-use Rattle.fault.proofs.faults_of.Reads as reads
-use Rattle.fault.proofs.faults_of.Lts as lts
-use Rattle.fault.proofs.more.Reads as more-reads
-use Rattle.fault.proofs.step.Reads as step-reads
 
 abbrev Inv-loop : tie.InvT-loop
 Inv-loop table parse «record» scratch₀ s₀ scratch s = (length scratch ≡ length scratch₀) × Some inRow table parse «record» scratch s × ((S₁ : List ℕ) (fin : Faults) → Left inRow table parse «record» S₁ scratch₀ s₀ fin → Left inRow table parse «record» S₁ scratch s fin)
@@ -21,34 +17,27 @@ Inv-loop table parse «record» scratch₀ s₀ scratch s = (length scratch ≡ 
 abbrev μ-loop : tie.MeasureT-loop
 μ-loop table parse «record» scratch₀ s₀ scratch s = weight table parse (s .at)
 
--- src/lib.rt:364:5
 loop-holds : tie.Need-loop-holds Inv-loop μ-loop
 loop-holds c = (refl, some-begin inRow (c .before .before .before .before .pre), λ S₁ fin L. L)
 
--- src/lib.rt:364:11
 more-requires : tie.Need-more-requires Inv-loop μ-loop
 more-requires c κs = tt
 
--- src/lib.rt:365:9
 step-requires : tie.Need-step-requires Inv-loop μ-loop
 step-requires c κs = (c .before .before .more .ensures .0 (c .before .if1 .taken), c .before .before .before .loop .inv .1)
 
--- src/lib.rt:364:5
 loop-less : tie.Need-loop-less Inv-loop μ-loop
 loop-less c = c .before .before .step .ensures .falls
 
--- src/lib.rt:364:5
 loop-again : tie.Need-loop-again Inv-loop μ-loop
 loop-again c =
     let i = c .before .before .before .before .before .before .loop .inv in
     let g = c .before .before .step .ensures .goes in
     (omega (arith, i .0), record { S₀ = i .1 .S₀; fin = i .1 .fin; left = g (i .1 .S₀) (i .1 .fin) (i .1 .left) }, λ S₁ fin L. g S₁ fin (i .2 S₁ fin L))
 
--- src/lib.rt:345:1
 same-length : tie.Need-same-length Inv-loop μ-loop
 same-length c = c .before .before .before .loop .inv .0
 
--- src/lib.rt:345:1
 returns : tie.Need-returns Inv-loop μ-loop
 returns c = row-told (c .before .before .before .before .before .before .before .before .pre) (c .before .before .before .loop .inv .2) (c .before .before .more .ensures .1 (c .before .if1 .left))
 

@@ -2,23 +2,16 @@ use mathlib.Core.Path.{_≡_, refl, sym, ap, _∙_}
 use borrow.Author.Needs.{needs}
 use Rattle.fault.proofs.join.Statement.{statement}
 use Rattle.fault.proofs.join.Tie as tie
-use Rattle.fault.proofs.join.Reads as reads
-use Rattle.fault.proofs.join.Lts as lts
-use Rattle.fault.proofs.either.Reads as either-reads
 
--- src/lib.rt:178:9
 either-requires : tie.Need-either-requires
 either-requires c κs = search needs
 
--- src/lib.rt:179:9
 either-requires-2 : tie.Need-either-requires-2
 either-requires-2 c κs = search needs
 
--- src/lib.rt:180:9
 either-requires-3 : tie.Need-either-requires-3
 either-requires-3 c κs = search needs
 
--- src/lib.rt:175:1
 returns : tie.Need-returns
 returns c = rw (← c .before .before .either .ensures, ← c .before .either2 .ensures, ← c .either3 .ensures)
 

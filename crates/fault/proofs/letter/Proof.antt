@@ -8,35 +8,22 @@ use Rattle.fault.proofs.Names.{bad-capped}
 use borrow.Author.Needs.{needs}
 use Rattle.fault.proofs.letter.Statement.{statement}
 use Rattle.fault.proofs.letter.Tie as tie
-use Rattle.fault.proofs.letter.Reads as reads
-use Rattle.fault.proofs.letter.Lts as lts
-use Rattle.ends.proofs.skip.Reads as skip-reads
-use Rattle.ends.proofs.token_at.Reads as token-at-reads
-use Rattle.fault.proofs.bad_piece.Reads as bad-piece-reads
-use Rattle.fault.proofs.join.Reads as join-reads
-use Rattle.spell.proofs.piece_of.Reads as piece-of-reads
 
--- src/lib.rt:201:9
 token-at-requires : tie.Need-token-at-requires
 token-at-requires c κs = search needs
 
--- src/lib.rt:202:9
 piece-of-requires : tie.Need-piece-of-requires
 piece-of-requires c κs = search needs
 
--- src/lib.rt:203:9
 bad-piece-requires : tie.Need-bad-piece-requires
 bad-piece-requires c κs = search needs
 
--- src/lib.rt:210:9
 join-requires : tie.Need-join-requires
 join-requires c κs = search needs
 
--- src/lib.rt:211:9
 skip-requires : tie.Need-skip-requires
 skip-requires c κs = search needs
 
--- src/lib.rt:196:1
 returns : tie.Need-returns
 returns c =
     let a = c .before .before .before .before .before .before .before .before .before .args in

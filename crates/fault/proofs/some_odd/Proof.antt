@@ -10,10 +10,6 @@ use Rattle.fault.proofs.Names.{stretch-over, stretch-step}
 use borrow.Author.Needs.{needs}
 use Rattle.fault.proofs.some_odd.Statement.{statement}
 use Rattle.fault.proofs.some_odd.Tie as tie
-use Rattle.fault.proofs.some_odd.Reads as reads
-use Rattle.fault.proofs.some_odd.Lts as lts
-use Rattle.ends.proofs.look.Reads as look-reads
-use Rattle.fault.proofs.is_odd.Reads as is-odd-reads
 
 none : (n : ℕ) → n ≤ 0 → n ≡ 0
 none n h = omega arith
@@ -24,51 +20,41 @@ Inv-loop t from count name i₀ n₀ i n = any (odd name) (take n (drop i t)) �
 abbrev μ-loop : tie.MeasureT-loop
 μ-loop t from count name i₀ n₀ i n = n
 
--- src/lib.rt:113:5
 loop-holds : tie.Need-loop-holds Inv-loop μ-loop
 loop-holds c = refl
 
--- src/lib.rt:115:13
 returns : tie.Need-returns Inv-loop μ-loop
 returns c =
     let a = c .before .before .before .before .args in
     sym (stretch-over (odd (a .name)) (now (a .t)) (c .before .before .loop .i) (c .before .before .loop .n) (c .if1 .taken)) ∙ c .before .before .loop .inv
 
--- src/lib.rt:117:19
 look-requires : tie.Need-look-requires Inv-loop μ-loop
 look-requires c κs = tt
 
--- src/lib.rt:117:12
 is-odd-requires : tie.Need-is-odd-requires Inv-loop μ-loop
 is-odd-requires c κs = tt
 
--- src/lib.rt:118:13
 returns-2 : tie.Need-returns-2 Inv-loop μ-loop
 returns-2 c =
     let a = c .before .before .before .before .before .before .before .args in
     let r = sym (stretch-step (odd (a .name)) (now (a .t)) (c .before .before .before .before .before .loop .i) (c .before .before .before .before .before .loop .n) (c .before .before .before .before .loop-test .taken) (c .before .before .before .if1 .left) (c .before .before .look .result) (c .before .before .look .ensures .0)) ∙ c .before .before .before .before .before .loop .inv in
     sym (ap (λ (b : Bool). b || any (odd (a .name)) (take (c .before .before .before .before .before .loop .n - 1) (drop (c .before .before .before .before .before .loop .i + 1) (now (a .t))))) (sym (c .before .is-odd .ensures) ∙ c .if2 .taken)) ∙ r
 
--- src/lib.rt:120:9
 add-i : tie.Need-add-i Inv-loop μ-loop
 add-i c = omega arith
 
--- src/lib.rt:121:9
 sub-n : tie.Need-sub-n Inv-loop μ-loop
 sub-n c = omega arith
 
--- src/lib.rt:113:5
 loop-less : tie.Need-loop-less Inv-loop μ-loop
 loop-less c = omega arith
 
--- src/lib.rt:113:5
 loop-again : tie.Need-loop-again Inv-loop μ-loop
 loop-again c =
     let a = c .before .before .before .before .before .before .before .args in
     let r = sym (stretch-step (odd (a .name)) (now (a .t)) (c .before .before .before .before .before .loop .i) (c .before .before .before .before .before .loop .n) (c .before .before .before .before .loop-test .taken) (c .before .before .before .if1 .left) (c .before .before .look .result) (c .before .before .look .ensures .0)) ∙ c .before .before .before .before .before .loop .inv in
     sym (ap (λ (b : Bool). b || any (odd (a .name)) (take (c .before .before .before .before .before .loop .n - 1) (drop (c .before .before .before .before .before .loop .i + 1) (now (a .t))))) (sym (c .before .is-odd .ensures) ∙ c .if2 .left)) ∙ r
 
--- src/lib.rt:108:1
 returns-3 : tie.Need-returns-3 Inv-loop μ-loop
 returns-3 c =
     let a = c .before .before .before .args in

@@ -5,21 +5,15 @@ use borrow.Author.Tests.{eq-eqb, ne-eqb}
 use borrow.Author.Needs.{needs}
 use Rattle.fault.proofs.spells.Statement.{statement}
 use Rattle.fault.proofs.spells.Tie as tie
-use Rattle.fault.proofs.spells.Reads as reads
-use Rattle.fault.proofs.spells.Lts as lts
-use Rattle.ends.proofs.look.Reads as look-reads
 
--- src/lib.rt:144:8
 look-requires : tie.Need-look-requires
 look-requires c κs = search needs
 
--- src/lib.rt:145:9
 returns : tie.Need-returns
 returns c =
     let a = c .before .before .before .args in
     rw (eq-eqb (getD (now (a .t)) (a .at) 0) (a .c) (sym (c .before .look .ensures .0) ∙ c .if1 .taken))
 
--- src/lib.rt:141:1
 returns-2 : tie.Need-returns-2
 returns-2 c =
     let a = c .before .before .before .args in

@@ -10,91 +10,64 @@ use Rattle.fault.proofs.Steps.{some-enters, some-leaves, some-node, row
 use borrow.Author.Needs.{needs}
 use Rattle.fault.proofs.step.Statement.{statement}
 use Rattle.fault.proofs.step.Tie as tie
-use Rattle.fault.proofs.step.Reads as reads
-use Rattle.fault.proofs.step.Lts as lts
-use Rattle.ends.proofs.enter.Reads as enter-reads
-use Rattle.ends.proofs.jump.Reads as jump-reads
-use Rattle.ends.proofs.kind_at.Reads as kind-at-reads
-use Rattle.ends.proofs.leave.Reads as leave-reads
-use Rattle.fault.proofs.attribute.Reads as attribute-reads
-use Rattle.fault.proofs.element.Reads as element-reads
-use Rattle.fault.proofs.join.Reads as join-reads
-use Rattle.fault.proofs.letter.Reads as letter-reads
 
--- src/lib.rt:320:9
 kind-at-requires : tie.Need-kind-at-requires
 kind-at-requires c κs = search needs
 
--- src/lib.rt:322:9
 letter-requires : tie.Need-letter-requires
 letter-requires c κs = small-of (c .before .before .before .before .before .before .before .before .pre .1 .left .walk)
 
--- src/lib.rt:322:9
 returns : tie.Need-returns
 returns c = row-leaf-step (c .before .before .before .before .before .before .before .before .before .pre .1) (sym (c .before .before .kind-at .ensures) ∙ c .before .if1 .taken) (c .letter .ensures)
 
--- src/lib.rt:325:9
 element-requires : tie.Need-element-requires
 element-requires c κs =
     let k = sym (c .before .before .before .kind-at .ensures) ∙ c .before .if2 .taken in
     some-enters (c .before .before .before .before .before .before .before .before .before .before .pre .1) (omega (arith, k)) (omega (arith, k))
 
--- src/lib.rt:325:9
 same-length : tie.Need-same-length
 same-length c = search needs
 
--- src/lib.rt:325:9
 returns-2 : tie.Need-returns-2
 returns-2 c = row-element-step (c .before .before .before .before .before .before .before .before .before .before .before .before .before .pre .1) (sym (c .before .before .before .before .before .before .kind-at .ensures) ∙ c .before .before .before .before .if2 .taken) (c .before .before .element .ensures)
 
--- src/lib.rt:328:13
 attribute-requires : tie.Need-attribute-requires
 attribute-requires c κs =
     let k = sym (c .before .before .before .before .kind-at .ensures) ∙ c .before .if3 .taken in
     (k, some-node (c .before .before .before .before .before .before .before .before .before .before .before .pre .1) (omega (arith, k)) (omega (arith, k)))
 
--- src/lib.rt:329:13
 join-requires : tie.Need-join-requires
 join-requires c κs = search needs
 
--- src/lib.rt:330:13
 jump-requires : tie.Need-jump-requires
 jump-requires c κs = small-of (c .before .before .before .before .before .before .before .before .before .before .before .before .before .before .before .before .pre .1 .left .walk)
 
--- src/lib.rt:331:9
 same-length-2 : tie.Need-same-length-2
 same-length-2 c = search needs
 
--- src/lib.rt:331:9
 returns-3 : tie.Need-returns-3
 returns-3 c = row-attribute-step (c .before .before .before .before .before .before .before .before .before .before .before .before .before .before .before .before .before .pre .1) (sym (c .before .before .before .before .before .before .before .before .before .before .kind-at .ensures) ∙ c .before .before .before .before .before .before .before .if3 .taken) (c .before .before .before .before .before .attribute .ensures) (c .before .before .join .ensures) (c .jump .ensures)
 
--- src/lib.rt:334:13
 enter-requires : tie.Need-enter-requires
 enter-requires c κs =
     let k = sym (c .before .before .before .before .before .kind-at .ensures) ∙ c .before .if4 .taken in
     some-enters (c .before .before .before .before .before .before .before .before .before .before .before .before .pre .1) (omega (arith, k)) (omega (arith, k))
 
--- src/lib.rt:335:9
 same-length-3 : tie.Need-same-length-3
 same-length-3 c = search needs
 
--- src/lib.rt:335:9
 returns-4 : tie.Need-returns-4
 returns-4 c = row-deleted-step (c .before .before .before .before .before .before .before .before .before .before .before .before .before .before .before .pre .1) (sym (c .before .before .before .before .before .before .before .before .kind-at .ensures) ∙ c .before .before .before .before .if4 .taken) (c .before .before .enter .ensures)
 
--- src/lib.rt:340:9
 leave-requires : tie.Need-leave-requires
 leave-requires c κs =
     let X = c .before .before .before .before .before .before .before .before .before .before .before .before .pre .1 in
     let k = rest-five (c .before .before .before .before .before .kind-at .result) (kindAt (now (c .before .before .before .before .before .before .before .before .before .before .before .before .args .table)) (c .before .before .before .before .before .before .before .before .before .before .before .before .args .s .at .item)) (c .before .before .before .before .before .kind-at .ensures) (spells-kind (X .left .walk .spells)) (c .before .before .before .before .if1 .left) (c .before .before .before .if2 .left) (c .before .before .if3 .left) (c .before .if4 .left) in
     some-leaves X (positive (c .before .before .before .before .before .before .before .before .before .before .before .before .args .s .at .inner) (λ z. c .before .before .before .before .before .before .before .before .before .before .before .before .pre .0 (k, z)))
 
--- src/lib.rt:308:1
 same-length-4 : tie.Need-same-length-4
 same-length-4 c = search needs
 
--- src/lib.rt:308:1
 returns-5 : tie.Need-returns-5
 returns-5 c =
     let X = c .before .before .before .before .before .before .before .before .before .before .before .before .before .before .before .pre .1 in

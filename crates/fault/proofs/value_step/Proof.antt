@@ -9,54 +9,39 @@ use Rattle.fault.proofs.Steps.{some-enters, some-leaves, value-leaf-ste
 use borrow.Author.Needs.{needs}
 use Rattle.fault.proofs.value_step.Statement.{statement}
 use Rattle.fault.proofs.value_step.Tie as tie
-use Rattle.fault.proofs.value_step.Reads as reads
-use Rattle.fault.proofs.value_step.Lts as lts
-use Rattle.ends.proofs.enter.Reads as enter-reads
-use Rattle.ends.proofs.kind_at.Reads as kind-at-reads
-use Rattle.ends.proofs.leave.Reads as leave-reads
-use Rattle.fault.proofs.letter.Reads as letter-reads
 
--- src/lib.rt:227:9
 kind-at-requires : tie.Need-kind-at-requires
 kind-at-requires c κs = search needs
 
--- src/lib.rt:229:9
 letter-requires : tie.Need-letter-requires
 letter-requires c κs = small-of (c .before .before .before .before .before .before .before .before .pre .1 .left .walk)
 
--- src/lib.rt:229:9
 returns : tie.Need-returns
 returns c = value-leaf-step (c .before .before .before .before .before .before .before .before .before .pre .1) (sym (c .before .before .kind-at .ensures) ∙ c .before .if1 .taken) (c .letter .ensures)
 
--- src/lib.rt:232:13
 enter-requires : tie.Need-enter-requires
 enter-requires c κs =
     let X = c .before .before .before .before .before .before .before .before .before .before .pre .1 in
     let k = numbers (c .before .before .before .kind-at .result) (kindAt (now (c .before .before .before .before .before .before .before .before .before .before .args .table)) (c .before .before .before .before .before .before .before .before .before .before .args .s .at .item)) (c .before .before .before .kind-at .ensures) (spells-kind (X .left .walk .spells)) (c .before .before .if1 .left) (c .before .if2 .taken) in
     some-enters X (k .0) (k .1)
 
--- src/lib.rt:233:9
 same-length : tie.Need-same-length
 same-length c = search needs
 
--- src/lib.rt:233:9
 returns-2 : tie.Need-returns-2
 returns-2 c =
     let X = c .before .before .before .before .before .before .before .before .before .before .before .before .before .pre .1 in
     let k = numbers (c .before .before .before .before .before .before .kind-at .result) (kindAt (now (c .before .before .before .before .before .before .before .before .before .before .before .before .before .args .table)) (c .before .before .before .before .before .before .before .before .before .before .before .before .before .args .s .at .item)) (c .before .before .before .before .before .before .kind-at .ensures) (spells-kind (X .left .walk .spells)) (c .before .before .before .before .before .if1 .left) (c .before .before .before .before .if2 .taken) in
     value-enter-step X (k .0) (k .1) (c .before .before .enter .ensures)
 
--- src/lib.rt:235:9
 leave-requires : tie.Need-leave-requires
 leave-requires c κs =
     let k = five (c .before .before .before .kind-at .result) (kindAt (now (c .before .before .before .before .before .before .before .before .before .before .args .table)) (c .before .before .before .before .before .before .before .before .before .before .args .s .at .item)) (c .before .before .before .kind-at .ensures) (c .before .if2 .left) in
     some-leaves (c .before .before .before .before .before .before .before .before .before .before .pre .1) (positive (c .before .before .before .before .before .before .before .before .before .before .args .s .at .inner) (λ z. c .before .before .before .before .before .before .before .before .before .before .pre .0 (k, z)))
 
--- src/lib.rt:215:1
 same-length-2 : tie.Need-same-length-2
 same-length-2 c = search needs
 
--- src/lib.rt:215:1
 returns-3 : tie.Need-returns-3
 returns-3 c =
     let k = five (c .before .before .before .before .before .before .kind-at .result) (kindAt (now (c .before .before .before .before .before .before .before .before .before .before .before .before .before .args .table)) (c .before .before .before .before .before .before .before .before .before .before .before .before .before .args .s .at .item)) (c .before .before .before .before .before .before .kind-at .ensures) (c .before .before .before .before .if2 .left) in

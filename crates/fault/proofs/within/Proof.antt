@@ -2,22 +2,17 @@ use mathlib.Core.Path.{_≡_, refl, sym, ap, _∙_}
 use borrow.Author.Tests.{le-leb, lt-leb}
 use Rattle.fault.proofs.within.Statement.{statement}
 use Rattle.fault.proofs.within.Tie as tie
-use Rattle.fault.proofs.within.Reads as reads
-use Rattle.fault.proofs.within.Lts as lts
 
--- src/lib.rt:47:9
 returns : tie.Need-returns
 returns c =
     let a = c .before .args in
     rw (lt-leb (a .low) (a .c) (c .if1 .taken))
 
--- src/lib.rt:50:9
 returns-2 : tie.Need-returns-2
 returns-2 c =
     let a = c .before .before .args in
     rw (le-leb (a .low) (a .c) (c .before .if1 .left), lt-leb (a .c) (a .high) (c .if2 .taken))
 
--- src/lib.rt:43:1
 returns-3 : tie.Need-returns-3
 returns-3 c =
     let a = c .before .before .args in

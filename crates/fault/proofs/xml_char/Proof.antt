@@ -3,31 +3,22 @@ use Rattle.xml.specs.Names.{xmlChar}
 use borrow.Author.Needs.{needs}
 use Rattle.fault.proofs.xml_char.Statement.{statement}
 use Rattle.fault.proofs.xml_char.Tie as tie
-use Rattle.fault.proofs.xml_char.Reads as reads
-use Rattle.fault.proofs.xml_char.Lts as lts
-use Rattle.fault.proofs.within.Reads as within-reads
 
--- src/lib.rt:58:9
 within-requires : tie.Need-within-requires
 within-requires c κs = search needs
 
--- src/lib.rt:59:9
 within-requires-2 : tie.Need-within-requires-2
 within-requires-2 c κs = search needs
 
--- src/lib.rt:60:9
 within-requires-3 : tie.Need-within-requires-3
 within-requires-3 c κs = search needs
 
--- src/lib.rt:61:9
 within-requires-4 : tie.Need-within-requires-4
 within-requires-4 c κs = search needs
 
--- src/lib.rt:62:5
 within-requires-5 : tie.Need-within-requires-5
 within-requires-5 c κs = search needs
 
--- src/lib.rt:55:1
 returns : tie.Need-returns
 unfolding xmlChar
 returns c = rw (c .within5 .ensures, c .before .within4 .ensures, c .before .before .within3 .ensures, c .before .before .before .within2 .ensures, c .before .before .before .before .within .ensures)
