@@ -137,8 +137,8 @@ module _ {T P : List ℕ} {r : Text} {S S′ : List ℕ} {h : Spot} {s′ : Judg
 
 -- what is known of a node, as its parts are judged
 module _ {T P : List ℕ} {r : Text} {S S′ : List ℕ} {h : Spot} where
-  pub attribute-judged : kindAt T (h .item) ≡ 3 → {n : Spot} → Inside T P h n → (q : Faults) → ((k : ℕ) (t : Text) → Named T (tokenAt T (h .item)) k t → (q .misnamed ≡ ofAttribute t [] .misnamed) × (q .namespaced ≡ ofAttribute t [] .namespaced)) → Spoilt T P r S S′ n (q .unwritable) → Attributed T P r S S′ h q
-  attribute-judged k {n} I q named B = record {
+  pub attribute-judged : kindAt T (h .item) ≡ 3 → {n : Spot} → Inside T P h n → {q : Faults} → ((k : ℕ) (t : Text) → Named T (tokenAt T (h .item)) k t → (q .misnamed ≡ ofAttribute t [] .misnamed) × (q .namespaced ≡ ofAttribute t [] .namespaced)) → Spoilt T P r S S′ n (q .unwritable) → Attributed T P r S S′ h q
+  attribute-judged k {n} I {q} named B = record {
     kept = B .kept;
     found = λ g starts x a c N.
         let m = node-name N (omega arith) (omega arith) in

@@ -4,7 +4,6 @@ use denote.Ref.{now}
 use Rattle.ends.specs.Steps.{Named}
 use Rattle.ends.proofs.After.{small-of}
 use Rattle.writer.proofs.Steps.{node-standing}
-use Rattle.fault.specs.Flags.{flags}
 use Rattle.fault.proofs.Steps.{attribute-judged}
 use borrow.Author.Needs.{needs}
 use Rattle.fault.proofs.attribute.Statement.{statement}
@@ -30,7 +29,7 @@ same-length c = search needs
 
 returns : tie.Need-returns
 returns c =
-    attribute-judged (c .before .before .before .before .before .before .before .before .before .before .before .before .pre .0) (c .before .before .before .before .inside .ensures) (flags (c .before .before .before .before .before .before .bad-name .result) (c .before .before .bad-value .result) (c .before .before .before .before .before .is-xmlns .result))
+    attribute-judged (c .before .before .before .before .before .before .before .before .before .before .before .before .pre .0) (c .before .before .before .before .inside .ensures)
     (λ k t N.
     let m : Named (now (c .before .before .before .before .before .before .before .before .before .before .before .before .args .table)) (c .before .before .before .before .before .before .before .token-at .result) k t = rw (c .before .before .before .before .before .before .before .token-at .ensures .0) N in
     (c .before .before .before .before .before .before .bad-name .ensures k t m, c .before .before .before .before .before .is-xmlns .ensures k t m))
