@@ -1,8 +1,7 @@
 -- Laws of faults.
-use mathlib.Core.Path.{_≡_, refl, sym, ap, _∙_}
-use mathlib.Core.Bool.{Bool, true, false, not, _||_}
+use mathlib.Core.Path.{_≡_, sym, ap, _∙_}
 use Rattle.text.proofs.Lists.{or-false, or-assoc}
-use Rattle.fault.specs.Flags.{flags, sound, both}
+use Rattle.fault.specs.Flags.{sound, both}
 use Rattle.fault.specs.declared.Faults.{Faults}
 
 pub both-assoc : (a b c : Faults) → both (both a b) c ≡ both a (both b c)

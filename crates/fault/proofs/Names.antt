@@ -3,14 +3,14 @@ use mathlib.Core.Path.{_≡_, refl, sym, ap, _∙_}
 use mathlib.Core.Bool.{Bool, true, false, not, _&&_, _||_}
 use mathlib.Core.Logic.{⊎-elim}
 use mathlib.Core.List.{List, [], _∷_, _++_}
-use Prim.Native.Nat.{ℕ, suc, _+_, _-_, _≤_, _<_}
+use Prim.Native.Nat.{ℕ, _+_, _-_, _≤_, _<_}
 use native.Mathlib.Omega.{arith}
-use lib.Dec.{eqb, leb}
+use lib.Dec.{eqb}
 use lib.ListN.{length, getD, take, drop}
 use borrow.Author.Tests.{lt-leb}
-use Rattle.text.specs.Lists.{Text, chars, any, all, same, span, inside}
+use Rattle.text.specs.Lists.{Text, chars, any, all, same}
 use Rattle.text.proofs.Tests.{split}
-use Rattle.text.proofs.Lists.{any-ext, same-lengths}
+use Rattle.text.proofs.Lists.{same-lengths}
 use Rattle.tree.specs.Tokens.{capped, counted}
 use Rattle.xml.specs.Names.{xmlChar, nameStart, nameChar, xmlName}
 use Rattle.ends.specs.Steps.{Named}

@@ -1,7 +1,7 @@
 -- The steps over values and over what is written.
 use mathlib.Core.Path.{_≡_, refl, sym, ap, _∙_}
 use mathlib.Core.List.{List, [], _∷_}
-use Prim.Native.Nat.{ℕ, _+_, _*_, _≤_, _<_}
+use Prim.Native.Nat.{ℕ, _+_, _≤_, _<_}
 use native.Mathlib.Omega.{arith}
 use lib.ListN.{length}
 use Rattle.text.specs.Lists.{Text}
@@ -21,7 +21,7 @@ use Rattle.ends.proofs.Marks.{node-mark}
 use Rattle.writer.specs.Rows.{textAt, Standing}
 use Rattle.writer.proofs.Rows.{enters-at, leaves-at}
 use Rattle.writer.proofs.Steps.{node-name, node-inside}
-use Rattle.fault.specs.Flags.{sound, both, ofText, ofName, ofAttribute, Finds}
+use Rattle.fault.specs.Flags.{sound, both, ofText, ofName, ofAttribute}
 use Rattle.fault.specs.Rows.{Rowwise, inValue, inRow, Left, Some, Stepped, Done, Lettered, Opened, Spoilt, Attributed, Told}
 use Rattle.fault.specs.declared.Faults.{Faults}
 use Rattle.fault.specs.declared.Judge.{Judge}

@@ -1,9 +1,9 @@
 -- The faults of rows, tree by tree.
 use mathlib.Core.Path.{_≡_, refl, sym, ap, _∙_}
-use mathlib.Core.Bool.{Bool, true, false, not, _||_}
+use mathlib.Core.Bool.{Bool, true, false, _||_}
 use mathlib.Core.List.{List, [], _∷_, _++_}
 use Prim.Native.Nat.{ℕ, _+_}
-use Rattle.text.specs.Lists.{Text, any}
+use Rattle.text.specs.Lists.{Text}
 use Rattle.text.proofs.Lists.{any-append}
 use Rattle.tree.specs.Tree.{Symbol, terminal, Terminal, Grammar}
 use Rattle.plain.specs.Plain.{width}

@@ -1,7 +1,7 @@
 -- The three faults that forbid to write a tree, and how they add up.
 use mathlib.Core.Path.{_≡_}
-use mathlib.Core.Bool.{Bool, true, false, not, _||_}
-use mathlib.Core.List.{List, [], _∷_}
+use mathlib.Core.Bool.{Bool, false, not, _||_}
+use mathlib.Core.List.{[]}
 use Prim.Native.Nat.{ℕ}
 use Rattle.text.specs.Lists.{Text, chars, pick, any, same}
 use Rattle.xml.specs.Document.{Xml, misnamed, unwritable, namespaced}

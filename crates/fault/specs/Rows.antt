@@ -2,7 +2,7 @@
 use mathlib.Core.Path.{_≡_}
 use mathlib.Core.Bool.{Bool}
 use mathlib.Core.List.{List, [], _∷_}
-use Prim.Native.Nat.{ℕ, _+_, _*_, _<_, _≤_}
+use Prim.Native.Nat.{ℕ, _*_, _<_, _≤_}
 use lib.ListN.{length, drop}
 use lib.Dec.{T as Holds}
 use Rattle.text.specs.Lists.{Text, any}
@@ -16,7 +16,7 @@ use Rattle.ends.specs.declared.Spot.{Spot}
 use Rattle.ends.specs.Walk.{Frame, opened, Walk, weight}
 use Rattle.ends.specs.Steps.{Skipped, Entered, Named, Node}
 use Rattle.writer.specs.Rows.{textAt}
-use Rattle.fault.specs.Flags.{flags, sound, both, bad, ofText, ofName, ofAttribute, ofXml, Finds}
+use Rattle.fault.specs.Flags.{sound, both, bad, ofText, ofName, ofAttribute, ofXml, Finds}
 use Rattle.fault.specs.declared.Faults.{Faults}
 use Rattle.fault.specs.declared.Judge.{Judge}
 

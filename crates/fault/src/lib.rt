@@ -1,10 +1,9 @@
 // What forbids to write the XML of a left parse: bad names, bad characters, attributes named xmlns. One walk, with no recursion.
 ghost use mathlib.Core.Path.{_≡_};
-ghost use mathlib.Core.Bool.{Bool, true, false, not, _&&_, _||_};
-ghost use mathlib.Core.List.{List};
-ghost use Prim.Native.Nat.{ℕ, _<_, _≤_};
+ghost use mathlib.Core.Bool.{true, false, not, _&&_, _||_};
+ghost use Prim.Native.Nat.{ℕ, _<_};
 ghost use lib.Dec.{eqb};
-ghost use lib.ListN.{length, getD, take, drop};
+ghost use lib.ListN.{getD, take, drop};
 ghost use Rattle.text.specs.Lists.{Text, chars, any, same, span, inside};
 ghost use Rattle.items.specs.Items.{kindAt};
 ghost use Rattle.xml.specs.Names.{xmlChar, nameStart, nameChar, xmlName};

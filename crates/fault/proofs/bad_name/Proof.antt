@@ -1,4 +1,4 @@
-use mathlib.Core.Path.{_≡_, refl, sym, ap, _∙_}
+use mathlib.Core.Path.{sym, ap, _∙_}
 use Rattle.xml.specs.Names.{nameStart}
 use Rattle.fault.proofs.Names.{name-none, name-start, name-other}
 use borrow.Author.Needs.{needs}

@@ -1,4 +1,4 @@
-use mathlib.Core.Path.{_≡_, refl, sym, ap, _∙_}
+use mathlib.Core.Path.{_∙_}
 use lib.ListN.{take, drop}
 use denote.Ref.{now}
 use Rattle.fault.proofs.Names.{plain-odd}

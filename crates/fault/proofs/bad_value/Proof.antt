@@ -1,9 +1,8 @@
-use mathlib.Core.Path.{_≡_, refl, sym, _∙_}
+use mathlib.Core.Path.{_≡_, refl}
 use mathlib.Core.List.{List}
 use Prim.Native.Nat.{ℕ}
 use native.Mathlib.Omega.{arith}
 use lib.ListN.{length}
-use denote.Ref.{now}
 use Rattle.ends.specs.Walk.{weight}
 use Rattle.fault.specs.Rows.{inValue, Left, Some}
 use Rattle.fault.specs.declared.Faults.{Faults}

@@ -1,4 +1,4 @@
-use mathlib.Core.Path.{_≡_, refl, sym, ap, _∙_}
+use mathlib.Core.Path.{sym, _∙_}
 use Rattle.fault.proofs.Names.{xmlns-other, xmlns-five}
 use borrow.Author.Needs.{needs}
 use Rattle.fault.proofs.is_xmlns.Statement.{statement}

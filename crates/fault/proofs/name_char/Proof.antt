@@ -1,4 +1,3 @@
-use mathlib.Core.Path.{_≡_, refl, sym, ap, _∙_}
 use Rattle.xml.specs.Names.{nameChar}
 use borrow.Author.Needs.{needs}
 use Rattle.fault.proofs.name_char.Statement.{statement}

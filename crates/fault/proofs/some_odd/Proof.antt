@@ -7,7 +7,6 @@ use denote.Ref.{now}
 use Rattle.text.specs.Lists.{any}
 use Rattle.fault.specs.Flags.{odd}
 use Rattle.fault.proofs.Names.{stretch-over, stretch-step}
-use borrow.Author.Needs.{needs}
 use Rattle.fault.proofs.some_odd.Statement.{statement}
 use Rattle.fault.proofs.some_odd.Tie as tie
 

@@ -1,4 +1,3 @@
-use mathlib.Core.Path.{_≡_, refl, sym, ap, _∙_}
 use borrow.Author.Tests.{le-leb, lt-leb}
 use Rattle.fault.proofs.within.Statement.{statement}
 use Rattle.fault.proofs.within.Tie as tie
