@@ -1,1 +1,4 @@
 pub mod Checks
+pub mod Outcomes
+pub mod ReadsAs
+pub mod Copies

@@ -1,12 +1,18 @@
 -- The calls' answers, as the definitions speak of them.
+use mathlib.Core.Bool.{Bool, false, _&&_}
 use mathlib.Core.Path.{_≡_}
 use mathlib.Core.List.{List}
 use Prim.Native.Nat.{ℕ}
+use lib.Dec.{eqb}
 use Rattle.answer.specs.Answer as defined
-use Rattle.answer.specs.Answer.{Checks}
-use Rattle.answer.specs.Compute.{checkOf}
+use Rattle.answer.specs.Answer.{Job, Checks, Reads}
+use Rattle.answer.specs.Compute.{checkOf, readOf}
 use Rattle.load.specs.declared.Judged.{Judged}
 use Rattle.load.specs.declared.Judged.the-variants.{Grammar as Accepted, Refused}
+use Rattle.job.specs.declared.Begun.{Begun}
+use Rattle.job.specs.declared.Begun.the-variants.{At, Refused as Ended}
+use Rattle.job.specs.declared.Read.{Read}
+use Rattle.job.specs.declared.Read.the-variants.{Reading, Refused as Not-read}
 use Rattle.calls.specs.declared.Answer.{Answer}
 
 abbrev pub shown : Answer → defined.Answer
@@ -20,3 +26,21 @@ pub record Checked (bs : List ℕ) (a : Answer) : Type 0 where
 abbrev pub whyOf : Judged → ℕ
 whyOf (Accepted p) = 0
 whyOf (Refused n) = n
+
+abbrev pub whyBegun : Begun → ℕ
+whyBegun (At s) = 0
+whyBegun (Ended n) = n
+
+abbrev pub whyRead : Read → ℕ
+whyRead (Reading f) = 0
+whyRead (Not-read n) = n
+
+-- "The version mark is set, for 0 and 16, exactly when …"
+abbrev pub refusalOf : ℕ → Bool → Answer
+refusalOf n mismatch = record { number = n; length = 0; ambiguous = false; version = eqb n 16 && mismatch }
+
+-- answer and buffer are those that the definition of reading gives, of which there is exactly one
+pub record ReadAs (j : Job) (old : List ℕ) (a : Answer) (new : List ℕ) : Type 0 where
+  pub computed : shown a ≡ readOf j old .answer
+  pub buffer : new ≡ readOf j old .buffer
+  pub defines : Reads j old (shown a) new
