@@ -38,7 +38,7 @@ pub extern "C" fn ixml_check(grammar: &[u8]) -> Answer
 {
     let mut table = [0u32; 16384];
     let judged = load::load_grammar(grammar, &mut table);
-    let Judged::Grammar(passed) = judged else {
+    let Judged::Grammar(kept) = judged else {
         return Answer {
             number: why(judged),
             length: 0,
@@ -50,7 +50,7 @@ pub extern "C" fn ixml_check(grammar: &[u8]) -> Answer
         number: 0,
         length: 0,
         ambiguous: false,
-        version: passed.mismatch,
+        version: kept.mismatch,
     }
 }
 
