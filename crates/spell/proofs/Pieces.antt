@@ -1,6 +1,6 @@
 -- What tokens hold.
 use mathlib.Core.Path.{_≡_, refl, sym, ap, _∙_}
-use mathlib.Core.Bool.{Bool, true, false}
+use mathlib.Core.Bool.{Bool, true, false, _||_}
 use mathlib.Core.List.{List, [], _∷_, _++_, append-nil, append-assoc}
 use Prim.Native.Nat.{ℕ, zero, suc, _+_, _-_, _%_, _≤_, _<_}
 use native.Mathlib.Omega.{arith}
@@ -93,7 +93,7 @@ module _ (T : List ℕ) (token place : ℕ) where
           let N : Named T token 29 cs = record { more = R .more; stands = R .stands ∙ ap (λ (t : Text). 29 ∷ length cs ∷ (t ++ R .more)) (append-nil cs) } in
           let c : n ≡ length cs = ne ∙ named-count N in
           let t : take n (drop (token + 2) T) ≡ cs = ap (λ (k : ℕ). take k (drop (token + 2) T)) c ∙ named-text N in
-          record { same = λ mode h. rw t; none = λ z. none-of cs (sym c ∙ z); some = λ z. some-of cs n (sym c) z }
+          record { same = λ mode h. rw t; tests = λ f h. rw t; none = λ z. none-of cs (sym c ∙ z); some = λ z. some-of cs n (sym c) z }
 
   -- an inserted character
   pub pieced-coded : getD T token 0 ≡ 30 → Pieced T token place (piece true (token + 1) 1)
@@ -108,7 +108,7 @@ module _ (T : List ℕ) (token place : ℕ) where
       go (insertion (string cs)) r R f = absurd (omega (arith, reads-first T token (insertion (string cs)) R))
       go (insertion (hex k)) r R f =
           let t : take 1 (drop (token + 1) T) ≡ capped k ∷ [] = token-text T (token + 1) (capped k ∷ []) (R .more) (tokens-in T token 30 (capped k ∷ R .more) (R .stands) .2) in
-          record { same = λ mode h. rw t (spelt-capped mode k h); none = λ z. absurd (omega arith); some = λ z. omega arith }
+          record { same = λ mode h. rw t (spelt-capped mode k h); tests = λ f h. rw t (ap (λ (b : Bool). b || false) (h k)); none = λ z. absurd (omega arith); some = λ z. omega arith }
 
   -- deleted
   pub pieced-deleted : (getD T token 0 ≡ 29 → ⊥) → (getD T token 0 ≡ 30 → ⊥) → getD T token 0 % 4 ≡ 3 → Pieced T token place (piece false place 0)
@@ -116,7 +116,7 @@ module _ (T : List ℕ) (token place : ℕ) where
   pieced-deleted a b e = record { says = go }
     where
       none : (r t : Text) → t ≡ [] → Says T r (piece false place 0) t
-      none r t z = record { same = λ mode h. rw z; none = λ _. z; some = λ h. absurd (h refl) }
+      none r t z = record { same = λ mode h. rw z; tests = λ f h. rw z; none = λ _. z; some = λ h. absurd (h refl) }
 
       go : (x : Terminal) (r : Text) → Reads T token (terminalTokens x) → Holds (fits x (drop place r)) → Says T r (piece false place 0) (terminalText x (stretch r place (place + width x)))
       go (literal m (string cs)) r R f = none r (terminalText (literal m (string cs)) (stretch r place (place + length cs))) (rw (mark-deleted m 4 (rw (reads-first T token (literal m (string cs)) R) at e) (omega arith)))
@@ -155,7 +155,7 @@ module _ (T : List ℕ) (token place : ℕ) where
       part x r t we f te =
           let z : place + width x - place ≡ w = omega arith in
           let s : t ≡ take w (drop place r) = te ∙ ap (λ (k : ℕ). take k (drop place r)) z in
-          record { same = λ mode h. rw s; none = λ n. s ∙ ap (λ (k : ℕ). take k (drop place r)) n; some = λ n. rw s (one-of (drop place r) w (fits-some x (drop place r) f (λ q. n (we ∙ q))) n) }
+          record { same = λ mode h. rw s; tests = λ f h. rw s; none = λ n. s ∙ ap (λ (k : ℕ). take k (drop place r)) n; some = λ n. rw s (one-of (drop place r) w (fits-some x (drop place r) f (λ q. n (we ∙ q))) n) }
 
       plain : (m : Mark) (k : ℕ) (t : Text) → k % 4 ≡ 0 → ((k + markNumber m) % 4 ≡ 3 → ⊥) → Rattle.xml.specs.Document.kept m t ≡ t
       plain unmarked k t z n = refl

@@ -1,12 +1,13 @@
 -- What is read of tokens.
 use mathlib.Core.Path.{_≡_}
+use mathlib.Core.Bool.{Bool}
 use mathlib.Core.List.{List, [], _∷_, _++_}
 use Prim.Native.Nat.{ℕ, _+_, _<_}
 use lib.Dec.{T as Holds}
 use lib.ListN.{length, take, drop}
-use Rattle.text.specs.Lists.{Text, pick, concatMap}
+use Rattle.text.specs.Lists.{Text, any, pick, concatMap}
 use Rattle.tree.specs.Tree.{Terminal, Grammar}
-use Rattle.tree.specs.Tokens.{terminalTokens, grammarTokens, markNumber}
+use Rattle.tree.specs.Tokens.{terminalTokens, grammarTokens, capped, markNumber}
 use Rattle.plain.specs.Plain.{fits, width}
 use Rattle.items.specs.Items.{Reads}
 use Rattle.xml.specs.Document.{terminalText, stretch}
@@ -18,9 +19,10 @@ use Rattle.spell.specs.declared.Piece.{Piece}
 abbrev pub said : List ℕ → Text → Piece → Text
 said T r p = take (p .count) (drop (p .from) (pick (p .inserted) T r))
 
--- they are written as the text is
+-- they are written as the text is, and a test that takes every number above 10FFFF for 110000 finds the same in both
 pub record Says (T : List ℕ) (r : Text) (p : Piece) (t : Text) : Type 0 where
   pub same : (mode : ℕ) → (mode ≡ 0 → ⊥) → enc (concatMap (spelt mode) (said T r p)) ≡ enc (concatMap (spelt mode) t)
+  pub tests : (f : ℕ → Bool) → ((c : ℕ) → f (capped c) ≡ f c) → any f (said T r p) ≡ any f t
   pub none : p .count ≡ 0 → t ≡ []
   pub some : (p .count ≡ 0 → ⊥) → 0 < length t
 

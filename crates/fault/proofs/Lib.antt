@@ -1,0 +1,5 @@
+pub mod Laws
+pub mod Names
+pub mod Trees
+pub mod Walks
+pub mod Steps
