@@ -1,15 +1,19 @@
 // What forbids to write the document of a left parse: refusals 17 to 22.
 ghost use mathlib.Core.Path.{_≡_};
 ghost use mathlib.Core.Bool.{true, false, _||_};
-ghost use Prim.Native.Nat.{_≤_};
+ghost use Prim.Native.Nat.{ℕ, _<_, _≤_};
 ghost use lib.ListN.{length};
-ghost use Rattle.text.specs.Lists.{Text};
+ghost use Rattle.text.specs.Lists.{Text, pick};
 ghost use Rattle.items.specs.Items.{kindAt};
 ghost use Rattle.xml.specs.Document.{twice};
+ghost use Rattle.ends.specs.Noted.{Room};
 ghost use Rattle.ends.specs.Walk.{Over};
+ghost use Rattle.ends.specs.Steps.{Named};
 ghost use Rattle.writer.specs.Rows.{Standing};
+ghost use Rattle.writer.specs.Whole.{Some as SomeJob};
 ghost use Rattle.clash.specs.Ahead.{Judges};
 ghost use Rattle.judge.specs.Within.{SomeHunt, Hunted};
+ghost use Rattle.judge.specs.Judgment.{topmost, twiceIn, misnamedIn, notOneIn, RowJudged, Judged};
 use ends::Spot;
 
 // Whether one of two holds: a call, so that a caller has no branch.
@@ -104,4 +108,135 @@ pub fn twice_within(
         t = hunt_step(table, parse, scratch, seen, t);
     }
     t.found
+}
+
+// 17: an attribute twice. The document's element has the attributes of its row.
+fn twice_in(
+    table: &[u32],
+    parse: &[u32],
+    scratch: &mut [u32],
+    seen: &mut [u32],
+    first: Spot,
+    deleted: bool,
+) -> bool
+    requires { ⌜ length (now parse) ≤ length (now seen) ⌝ }
+    requires { ⌜ ((r : Text) × Standing (now table) (now parse) r (now scratch) first) ⌝ }
+    ensures { λ b. ⌜ Judges (twiceIn deleted) (now (table .entry)) (now (parse .entry)) (now (scratch .entry)) (now (scratch .exit)) first b ⌝ }
+{
+    let within = twice_within(table, parse, scratch, seen, first);
+    if deleted {
+        return within;
+    }
+    let again = clash::repeats_attribute(table, parse, scratch, seen, first);
+    either(again, within)
+}
+
+// 18: a name that is no XML name, with the name of the document's element.
+fn misnamed_in(table: &[u32], head: usize, deleted: bool, found: bool) -> bool
+    requires { ⌜ head < 4294967298 ⌝ }
+    ensures { λ b. ⌜ ((k : ℕ) (n : Text) → Named (now (table .entry)) head k n → b ≡ misnamedIn deleted n found) ⌝ }
+{
+    if deleted {
+        return found;
+    }
+    let bad = fault::bad_name(table, head);
+    either(bad, found)
+}
+
+// 21: not one element. A root that is not deleted is one.
+fn not_one_in(table: &[u32], parse: &[u32], scratch: &mut [u32], first: Spot, deleted: bool) -> bool
+    requires { ⌜ ((r : Text) × Standing (now table) (now parse) r (now scratch) first) ⌝ }
+    ensures { λ b. ⌜ Judges (notOneIn deleted) (now (table .entry)) (now (parse .entry)) (now (scratch .entry)) (now (scratch .exit)) first b ⌝ }
+{
+    if deleted {
+        return clash::not_one(table, parse, scratch, first);
+    }
+    false
+}
+
+// One number or another.
+fn choose(test: bool, number: u32, other: u32) -> u32
+    ensures { λ r. ⌜ r ≡ pick test number other ⌝ }
+{
+    if test {
+        return number;
+    }
+    other
+}
+
+// The number of the topmost line that applies.
+fn line_of(
+    twice: bool,
+    misnamed: bool,
+    unwritable: bool,
+    attribute: bool,
+    beside: bool,
+    namespaced: bool,
+) -> u32
+    ensures { λ r. ⌜ r ≡ topmost twice misnamed unwritable attribute beside namespaced ⌝ }
+{
+    let n = choose(beside, 21, choose(namespaced, 22, 0));
+    let n = choose(
+        misnamed,
+        18,
+        choose(unwritable, 19, choose(attribute, 20, n)),
+    );
+    choose(twice, 17, n)
+}
+
+// The judgment of a root, whose token is known, by the row that stands in it.
+fn judge_row(
+    table: &[u32],
+    parse: &[u32],
+    record: &[u32],
+    scratch: &mut [u32],
+    seen: &mut [u32],
+    head: usize,
+    mark: usize,
+    first: Spot,
+) -> u32
+    requires { ⌜ (length (now parse) ≤ length (now seen)) × (head < 4294967298) ⌝ }
+    requires { ⌜ Standing (now table) (now parse) (now «record») (now scratch) first ⌝ }
+    ensures { λ q. ⌜ RowJudged (now (table .entry)) (now (parse .entry)) (now («record» .entry)) (now (scratch .entry)) (now (scratch .exit)) head mark first q ⌝ }
+{
+    let deleted = mark == 23;
+    let twice = twice_in(table, parse, scratch, seen, first, deleted);
+    let f = fault::faults_of(table, parse, record, scratch, first);
+    let misnamed = misnamed_in(table, head, deleted, f.misnamed);
+    let beside = not_one_in(table, parse, scratch, first, deleted);
+    let attribute = mark == 22;
+    line_of(
+        twice,
+        misnamed,
+        f.unwritable,
+        attribute,
+        beside,
+        f.namespaced,
+    )
+}
+
+// The refusal 17 to 22 of a left parse, or 0. `scratch` has its notes, and keeps them; nothing is promised of `seen`.
+pub fn judge(
+    table: &[u32],
+    root: usize,
+    parse: &[u32],
+    record: &[u32],
+    scratch: &mut [u32],
+    seen: &mut [u32],
+) -> u32
+    requires { ⌜ length (now parse) ≤ length (now seen) ⌝ }
+    requires { ⌜ Room (now table) (now parse) (now scratch) × SomeJob (now table) root (now parse) (now «record») (now scratch) ⌝ }
+    ensures { λ q. ⌜ Judged (now (table .entry)) root (now (parse .entry)) (now («record» .entry)) (now (scratch .entry)) (now (scratch .exit)) q ⌝ }
+{
+    let head = spell::head_at(table);
+    let mark = ends::look(table, head);
+    let a = ends::look(parse, 0);
+    let item = ends::alternative(table, root, a);
+    let first = Spot {
+        item,
+        entry: 1,
+        place: 0,
+        inner: 0,
+    };
+    judge_row(table, parse, record, scratch, seen, head, mark, first)
 }
