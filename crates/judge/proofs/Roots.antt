@@ -6,7 +6,7 @@ use mathlib.Core.Logic.{⊎-elim}
 use Prim.Native.Nat.{ℕ, _+_}
 use lib.Dec.{eqb}
 use lib.ListN.{getD}
-use borrow.Author.Tests.{eq-eqb, ne-eqb, eqb-true, eqb-false}
+use borrow.Author.Tests.{eq-eqb, eqb-true, eqb-false}
 use Rattle.text.specs.Lists.{Text, pick, same}
 use Rattle.text.proofs.Lists.{or-false}
 use Rattle.text.proofs.Tests.{look}
@@ -23,14 +23,14 @@ use Rattle.ends.specs.Steps.{Found, Named}
 use Rattle.ends.proofs.Walks.{spot}
 use Rattle.spell.specs.Pieces.{Headed}
 use Rattle.writer.specs.Rows.{Standing}
-use Rattle.writer.specs.Whole.{Job}
+use Rattle.writer.specs.Whole.{Job, Some}
 use Rattle.writer.proofs.Whole.{Rooted, rooted, head-number, document-deleted, document-element}
 use Rattle.clash.specs.Ahead.{Judges}
 use Rattle.clash.specs.Names.{repeated}
 use Rattle.fault.specs.declared.Faults.{Faults}
 use Rattle.fault.specs.Flags.{Finds}
 use Rattle.fault.specs.Rows.{Told}
-use Rattle.judge.specs.Judgment.{topmost, judgment, judgmentOf, around, twiceIn, misnamedIn, notOneIn, RowJudged}
+use Rattle.judge.specs.Judgment.{topmost, judgment, judgmentOf, around, twiceIn, misnamedIn, notOneIn, RowJudged, Judged}
 
 -- each judgment of the document, from that of the row
 module _ (n : Text) (x : Xml) where
@@ -60,15 +60,23 @@ module _ (n : Text) (x : Xml) where
   namespaced-around false = sym (or-false (namespaced x))
 
 -- a row is judged in parts
-module _ {T P : List ℕ} {S S′ : List ℕ} {h : Spot} where
-  pub as-judged : (f f′ : Xml → Bool) → ((x : Xml) → f x ≡ f′ x) → {b : Bool} → Judges f T P S S′ h b → Judges f′ T P S S′ h b
-  as-judged f f′ e J = record { kept = J .kept; is = λ r g starts e₁ i₁ row ss W. J .is r g starts e₁ i₁ row ss W ∙ e (nodes g r row ss (h .place)) }
+module _ {T P S : List ℕ} {h : Spot} {d : Bool} where
+  -- a deleted root: the row is all
+  pub twice-deleted : d ≡ true → {S′ : List ℕ} {b : Bool} → Judges twice T P S S′ h b → Judges (twiceIn d) T P S S′ h b
+  twice-deleted e J = record { kept = J .kept; is = λ r g starts e₁ i₁ row ss W. J .is r g starts e₁ i₁ row ss W ∙ ap (λ (c : Bool). twiceIn c (nodes g r row ss (h .place))) (sym e) }
 
-  pub either-judged : (f f′ : Xml → Bool) {S″ : List ℕ} {a b c : Bool} → Judges f T P S S′ h b → Judges f′ T P S′ S″ h a → c ≡ (a || b) → Judges (λ x. f′ x || f x) T P S S″ h c
-  either-judged f f′ J K e = record {
+  pub not-one-deleted : d ≡ true → {S′ : List ℕ} {b : Bool} → Judges notOne T P S S′ h b → Judges (notOneIn d) T P S S′ h b
+  not-one-deleted e J = record { kept = J .kept; is = λ r g starts e₁ i₁ row ss W. J .is r g starts e₁ i₁ row ss W ∙ ap (λ (c : Bool). notOneIn c (nodes g r row ss (h .place))) (sym e) }
+
+  -- an element
+  pub twice-element : d ≡ false → {S′ S″ : List ℕ} {a b c : Bool} → Judges twice T P S S′ h b → Judges repeated T P S′ S″ h a → c ≡ (a || b) → Judges (twiceIn d) T P S S″ h c
+  twice-element e J K f = record {
     kept = K .kept ∙ J .kept;
-    is = λ r g starts e₁ i₁ row ss W. e ∙ ap₂ _||_ (K .is r g starts e₁ i₁ row ss (rw (J .kept) W)) (J .is r g starts e₁ i₁ row ss W);
+    is = λ r g starts e₁ i₁ row ss W. f ∙ ap₂ _||_ (K .is r g starts e₁ i₁ row ss (rw (J .kept) W)) (J .is r g starts e₁ i₁ row ss W) ∙ ap (λ (c : Bool). twiceIn c (nodes g r row ss (h .place))) (sym e);
   }
+
+  pub not-one-element : d ≡ false → Judges (notOneIn d) T P S S h false
+  not-one-element e = record { kept = refl; is = λ r g starts e₁ i₁ row ss W. ap (λ (c : Bool). notOneIn c (nodes g r row ss (h .place))) (sym e) }
 
 -- a row stands as before
 pub standing-again : {T P : List ℕ} {r : Text} {S S′ : List ℕ} {h : Spot} → S′ ≡ S → Standing T P r S h → Standing T P r S′ h
@@ -115,16 +123,26 @@ document-around {g = g} R =
     let k = 20 + markNumber (g .root .mark) in
     ⊎-elim (λ e. document-deleted R (eqb-true k 23 e) ∙ ap (λ (b : Bool). around b (g .root .name) (R .inner)) (sym e)) (λ e. document-element R (eqb-false k 23 e) ∙ ap (λ (b : Bool). around b (g .root .name) (R .inner)) (sym e)) (look (eqb k 23))
 
+-- the row of the root's alternative
+found-first : {T : List ℕ} {x a item : ℕ} (P : List ℕ) → a ≡ getD P 0 0 → Found T x a item → Found T x (getD P 0 0) item
+found-first P e F = rw e at F
+
+pub root-standing : {T : List ℕ} {x : ℕ} {P : List ℕ} {r : Text} {S : List ℕ} {a item : ℕ} → Room T P S → Some T x P r S → a ≡ getD P 0 0 → Found T x a item → Standing T P r S (spot item 1 0 0)
+root-standing {P = P} {item = item} room J e F = rooted room (J .job) item (found-first P e F) .standing
+
 -- the judgment of the root is that of the derivation
-pub root-judged : {T : List ℕ} {x : ℕ} {P : List ℕ} {r : Text} {S S′ : List ℕ} {head mark item q : ℕ} → Room T P S → Headed T head → mark ≡ getD T head 0 → Found T x (getD P 0 0) item → RowJudged T P r S S′ head mark (spot item 1 0 0) q → (g : Grammar) (t : Row) → Job T x P r S g t → q ≡ judgmentOf g r t
-root-judged {r = r} {mark = mark} {item = item} room H me found J g t job =
-    let R = rooted room job item found in
-    let D = R .standing in
-    let N = H .named g (job .tokens) in
-    let n = g .root .name in
-    let k = 20 + markNumber (g .root .mark) in
-    let e : mark ≡ k = me ∙ head-number N in
-    J .is k n N (D .g) (D .starts) (D .e₁) (D .i₁) (D .row) (D .ss) (D .walk)
-    ∙ ap (λ (y : Xml). judgment (eqb mark 22) (around (eqb mark 23) n y)) (sym (R .same))
-    ∙ ap (λ (j : ℕ). judgment (eqb j 22) (around (eqb j 23) n (R .inner))) e
-    ∙ ap₂ judgment (attribute-number (g .root .mark) ∙ ap isAttribute (sym (root-mark g))) (sym (document-around R))
+pub root-judged : {T : List ℕ} {x : ℕ} {P : List ℕ} {r : Text} {S S′ : List ℕ} {head mark a item q : ℕ} → Room T P S → Headed T head → mark ≡ getD T head 0 → a ≡ getD P 0 0 → Found T x a item → RowJudged T P r S S′ head mark (spot item 1 0 0) q → Judged T x P r S S′ q
+root-judged {T} {x} {P} {r} {S} {S′} {head} {mark} {a} {item} {q} room H me ae F J = record { kept = J .kept; is = go }
+  where
+    go : (g : Grammar) (t : Row) → Job T x P r S g t → q ≡ judgmentOf g r t
+    go g t job =
+        let R = rooted room job item (found-first P ae F) in
+        let D = R .standing in
+        let N = H .named g (job .tokens) in
+        let n = g .root .name in
+        let k = 20 + markNumber (g .root .mark) in
+        let e : mark ≡ k = me ∙ head-number N in
+        J .is k n N (D .g) (D .starts) (D .e₁) (D .i₁) (D .row) (D .ss) (D .walk)
+        ∙ ap (λ (y : Xml). judgment (eqb mark 22) (around (eqb mark 23) n y)) (sym (R .same))
+        ∙ ap (λ (j : ℕ). judgment (eqb j 22) (around (eqb j 23) n (R .inner))) e
+        ∙ ap₂ judgment (attribute-number (g .root .mark) ∙ ap isAttribute (sym (root-mark g))) (sym (document-around R))
