@@ -1,5 +1,5 @@
 -- The steps of the walk that looks for an element with an attribute twice.
-use mathlib.Core.Path.{_≡_, refl, sym, ap, ap₂, _∙_}
+use mathlib.Core.Path.{_≡_, refl, sym, ap, _∙_}
 use mathlib.Core.Bool.{Bool, false, _||_}
 use mathlib.Core.List.{List, [], _∷_}
 use Prim.Native.Nat.{ℕ, _+_, _*_, _≤_, _<_}
@@ -26,7 +26,6 @@ use Rattle.writer.proofs.Rows.{enters-at, enter-falls}
 use Rattle.writer.proofs.Steps.{node-inside, node-standing}
 use Rattle.clash.specs.Ahead.{behind, Ahead, Judges}
 use Rattle.clash.specs.Names.{repeated}
-use Rattle.clash.proofs.Laws.{join-assoc}
 use Rattle.clash.proofs.Steps.{past-text, past-attribute, ahead-enter, ahead-leave, ahead-over, ahead-begin}
 use Rattle.judge.specs.declared.Hunt.{Hunt}
 use Rattle.judge.specs.Within.{Hunting, SomeHunt, Hunted}
@@ -35,20 +34,23 @@ use Rattle.judge.specs.Within.{Hunting, SomeHunt, Hunted}
 abbrev pub hunt : Spot → Bool → Hunt
 hunt h b = record { at = h; found = b }
 
--- what each node adds
+-- text adds nothing
 twice-text : (cs : Text) (y : Xml) → twice (join (text cs) y) ≡ twice y
 unfolding twice
 twice-text [] y = refl
 twice-text (c ∷ cs) y = twice-text cs y
 
+-- nor does an attribute
 twice-attr : (n v : Text) (y : Xml) → twice (attr n v y) ≡ twice y
 unfolding twice
 twice-attr n v y = refl
 
+-- nor the end
 twice-none : twice none ≡ false
 unfolding twice
 twice-none = refl
 
+-- an element adds its own attributes, and what stands in it
 twice-elem : (n : Text) (i y : Xml) → twice (elem n i y) ≡ (repeated i || twice (join i y))
 unfolding twice
 twice-elem n i y = or-assoc (repeated i) (twice i) (twice y) ∙ sym (ap (λ (b : Bool). repeated i || b) (twice-join i y))
@@ -66,6 +68,7 @@ pub record Element (T P : List ℕ) (r : Text) (S₀ S : List ℕ) (h : Spot) (x
   pub enters : Enters S h
   pub enter : (S′ : List ℕ) (n : Spot) → Entered T P S S′ h n → Ahead T P r S₀ S′ n (join (nodes g r c (alternative g s a) (h .place)) y) × (weight T P n < weight T P h)
 
+-- it is there, by the item's kind
 pub element-ahead : {T P : List ℕ} {r : Text} {S₀ S : List ℕ} {h : Spot} {x : Xml} → Ahead T P r S₀ S h x → kindAt T (h .item) ≡ 2 → Element T P r S₀ S h x
 element-ahead {T} {P} {r} {S₀} {S} {h} {x} A k = go (seen (A .walk)) (A .walk) (A .meets)
   where
@@ -111,21 +114,25 @@ module _ {T P S : List ℕ} {s : Hunt} where
   on n y L e A = record { x = y; ahead = A; owes = ap (λ (b : Bool). s .found || b) (sym e) ∙ L .owes }
 
   module _ (A : SomeHunt T P S s) where
+    -- over a terminal
     pub hunt-skip : kindAt T (s .at .item) ≡ 1 → {n : Spot} → Skipped T (s .at) n → Hunted T P S S s (hunt n (s .found))
     hunt-skip k {n} K = record { goes = go; falls = past-text (A .going .ahead) k n K .falls }
       where
         go : (r : Text) (S₀ : List ℕ) (fin : Bool) → Hunting T P r S₀ S s fin → Hunting T P r S₀ S (hunt n (s .found)) fin
         go r S₀ fin L = let p = past-text (L .ahead) k n K in on n (p .y) L (ap twice (p .met) ∙ twice-text (textAt r (p .t) (s .at .place)) (p .y)) (p .ahead)
 
+    -- over an attribute
     pub hunt-jump : kindAt T (s .at .item) ≡ 3 → {n : Spot} → n ≡ jumped S (s .at) → Hunted T P S S s (hunt n (s .found))
     hunt-jump k {n} e = record { goes = go; falls = past-attribute (A .going .ahead) k n e .falls }
       where
         go : (r : Text) (S₀ : List ℕ) (fin : Bool) → Hunting T P r S₀ S s fin → Hunting T P r S₀ S (hunt n (s .found)) fin
         go r S₀ fin L = let p = past-attribute (L .ahead) k n e in on n (p .y) L (ap twice (p .met) ∙ twice-attr (p .name) (p .value) (p .y)) (p .ahead)
 
+    -- into a deleted node
     pub hunt-enter : kindAt T (s .at .item) ≡ 4 → {S′ : List ℕ} {n : Spot} → Entered T P S S′ (s .at) n → Hunted T P S S′ s (hunt n (s .found))
     hunt-enter k {S′} {n} E = record { goes = λ r S₀ fin L. on n (L .x) L refl (ahead-enter (L .ahead) k S′ n E .0); falls = ahead-enter (A .going .ahead) k S′ n E .1 }
 
+    -- out of a node
     pub hunt-leave : 5 ≤ kindAt T (s .at .item) → 0 < s .at .inner → {S′ : List ℕ} {n : Spot} → ends.Left S S′ (s .at) n → Hunted T P S S′ s (hunt n (s .found))
     hunt-leave k some {S′} {n} E = record { goes = λ r S₀ fin L. on n (L .x) L refl (ahead-leave (L .ahead) k some S′ n E .0); falls = ahead-leave (A .going .ahead) k some S′ n E .1 }
 
@@ -133,6 +140,7 @@ module _ {T P S : List ℕ} {s : Hunt} where
     pub hunt-standing : kindAt T (s .at .item) ≡ 2 → (i : Spot) → Inside T P (s .at) i → (r : Text) × Standing T P r S i
     hunt-standing k i I = (A .r, node-standing (element-ahead (A .going .ahead) k .node) i I (omega arith))
 
+    -- there is room to enter it
     pub hunt-enters : kindAt T (s .at .item) ≡ 2 → {S′ : List ℕ} → S′ ≡ S → Enters S′ (s .at)
     hunt-enters k e = rw e (element-ahead (A .going .ahead) k .enters)
 
@@ -169,6 +177,7 @@ hunt-over {s = s} L o =
     let e = ahead-over (L .ahead) o in
     (e .0, sym (or-false (s .found)) ∙ sym (ap (λ (b : Bool). s .found || b) (ap twice (e .1) ∙ twice-none)) ∙ L .owes)
 
+-- all of the row was looked at
 pub hunt-done : {T P S S′ : List ℕ} {h : Spot} {s : Hunt} → ((r : Text) × Standing T P r S h) → ((r : Text) (S₀ : List ℕ) (fin : Bool) → Hunting T P r S₀ S (hunt h false) fin → Hunting T P r S₀ S′ s fin) → Over T (s .at)
     → Judges twice T P S S′ h (s .found)
 hunt-done {S = S} {h = h} D goes o =

@@ -15,7 +15,7 @@ use Rattle.tree.specs.Tokens.{markNumber}
 use Rattle.derive.specs.Derive.{Row, root}
 use Rattle.items.specs.Items.{Starts}
 use Rattle.xml.specs.Names.{xmlName}
-use Rattle.xml.specs.Document.{Xml, none, elem, nodes, markOf, ruleMark, document, twice, misnamed, unwritable, isAttribute, notOne, namespaced}
+use Rattle.xml.specs.Document.{Xml, nodes, markOf, ruleMark, document, twice, misnamed, unwritable, isAttribute, notOne, namespaced}
 use Rattle.ends.specs.declared.Spot.{Spot}
 use Rattle.ends.specs.Noted.{Room}
 use Rattle.ends.specs.Walk.{Walk}
@@ -28,32 +28,35 @@ use Rattle.writer.proofs.Whole.{Rooted, rooted, head-number, document-deleted, 
 use Rattle.clash.specs.Ahead.{Judges}
 use Rattle.clash.specs.Names.{repeated}
 use Rattle.fault.specs.declared.Faults.{Faults}
-use Rattle.fault.specs.Flags.{Finds}
 use Rattle.fault.specs.Rows.{Told}
 use Rattle.judge.specs.Judgment.{topmost, judgment, judgmentOf, around, twiceIn, misnamedIn, notOneIn, RowJudged, Judged}
 
--- each judgment of the document, from that of the row
+-- each judgment of the document, from that of the row: 17
 module _ (n : Text) (x : Xml) where
   twice-around : (b : Bool) → twiceIn b x ≡ twice (around b n x)
   unfolding twice
   twice-around true = refl
   twice-around false = sym (or-false (repeated x || twice x))
 
+  -- 18
   misnamed-around : (b : Bool) → misnamedIn b n (misnamed x) ≡ misnamed (around b n x)
   unfolding misnamed
   misnamed-around true = refl
   misnamed-around false = sym (or-false (not (xmlName n) || misnamed x))
 
+  -- 19
   unwritable-around : (b : Bool) → unwritable x ≡ unwritable (around b n x)
   unfolding unwritable
   unwritable-around true = refl
   unwritable-around false = sym (or-false (unwritable x))
 
+  -- 21
   not-one-around : (b : Bool) → notOneIn b x ≡ notOne (around b n x)
   unfolding notOne
   not-one-around true = refl
   not-one-around false = refl
 
+  -- 22
   namespaced-around : (b : Bool) → namespaced x ≡ namespaced (around b n x)
   unfolding namespaced
   namespaced-around true = refl
@@ -65,16 +68,18 @@ module _ {T P S : List ℕ} {h : Spot} {d : Bool} where
   pub twice-deleted : d ≡ true → {S′ : List ℕ} {b : Bool} → Judges twice T P S S′ h b → Judges (twiceIn d) T P S S′ h b
   twice-deleted e J = record { kept = J .kept; is = λ r g starts e₁ i₁ row ss W. J .is r g starts e₁ i₁ row ss W ∙ ap (λ (c : Bool). twiceIn c (nodes g r row ss (h .place))) (sym e) }
 
+  -- the same for one element
   pub not-one-deleted : d ≡ true → {S′ : List ℕ} {b : Bool} → Judges notOne T P S S′ h b → Judges (notOneIn d) T P S S′ h b
   not-one-deleted e J = record { kept = J .kept; is = λ r g starts e₁ i₁ row ss W. J .is r g starts e₁ i₁ row ss W ∙ ap (λ (c : Bool). notOneIn c (nodes g r row ss (h .place))) (sym e) }
 
-  -- an element
+  -- an element: its own attributes are compared too
   pub twice-element : d ≡ false → {S′ S″ : List ℕ} {a b c : Bool} → Judges twice T P S S′ h b → Judges repeated T P S′ S″ h a → c ≡ (a || b) → Judges (twiceIn d) T P S S″ h c
   twice-element e J K f = record {
     kept = K .kept ∙ J .kept;
     is = λ r g starts e₁ i₁ row ss W. f ∙ ap₂ _||_ (K .is r g starts e₁ i₁ row ss (rw (J .kept) W)) (J .is r g starts e₁ i₁ row ss W) ∙ ap (λ (c : Bool). twiceIn c (nodes g r row ss (h .place))) (sym e);
   }
 
+  -- an element is one
   pub not-one-element : d ≡ false → Judges (notOneIn d) T P S S h false
   not-one-element e = record { kept = refl; is = λ r g starts e₁ i₁ row ss W. ap (λ (c : Bool). notOneIn c (nodes g r row ss (h .place))) (sym e) }
 
@@ -101,15 +106,16 @@ row-judged {T} {P} {r} {S} {S₁} {S₂} {S₃} {head} {mark} {h} {d} {t} {m} {b
         ∙ same-line (eqb mark 22) (J .is r g starts e₁ i₁ row ss W ∙ twice-around n x d) (M k n N ∙ ap (misnamedIn d n) (D .misnamed) ∙ misnamed-around n x d) (D .unwritable ∙ unwritable-around n x d) (K .is r g starts e₁ i₁ row ss W₂ ∙ not-one-around n x d) (D .namespaced ∙ namespaced-around n x d)
         ∙ ap (λ (c : Bool). judgment (eqb mark 22) (around c n x)) de
 
--- the root's mark is that of the first rule
+-- a name is the same as itself
 same-self : (t : Text) → same t t ≡ true
 same-self [] = refl
 same-self (c ∷ cs) = rw (eq-eqb c c refl) (same-self cs)
 
+-- the root's mark is that of the first rule
 root-mark : (g : Grammar) → markOf g (root g) ≡ g .root .mark
 root-mark g = ap (λ (b : Bool). pick b (g .root .mark) (ruleMark (g .others) (g .root .name))) (same-self (g .root .name))
 
--- it is @ where its number says so
+-- a mark is @ where its number says so
 attribute-number : (m : Mark) → eqb (20 + markNumber m) 22 ≡ isAttribute m
 unfolding isAttribute
 attribute-number unmarked = refl
@@ -123,10 +129,11 @@ document-around {g = g} R =
     let k = 20 + markNumber (g .root .mark) in
     ⊎-elim (λ e. document-deleted R (eqb-true k 23 e) ∙ ap (λ (b : Bool). around b (g .root .name) (R .inner)) (sym e)) (λ e. document-element R (eqb-false k 23 e) ∙ ap (λ (b : Bool). around b (g .root .name) (R .inner)) (sym e)) (look (eqb k 23))
 
--- the row of the root's alternative
+-- the root's alternative is the first entry
 found-first : {T : List ℕ} {x a item : ℕ} (P : List ℕ) → a ≡ getD P 0 0 → Found T x a item → Found T x (getD P 0 0) item
 found-first P e F = rw e at F
 
+-- the row in the root begins at its alternative
 pub root-standing : {T : List ℕ} {x : ℕ} {P : List ℕ} {r : Text} {S : List ℕ} {a item : ℕ} → Room T P S → Some T x P r S → a ≡ getD P 0 0 → Found T x a item → Standing T P r S (spot item 1 0 0)
 root-standing {P = P} {item = item} room J e F = rooted room (J .job) item (found-first P e F) .standing
 

@@ -32,13 +32,15 @@ judgmentOf g r t = judgment (isAttribute (markOf g (root g))) (document g r t)
 abbrev pub around : Bool → Text → Xml → Xml
 around deleted n x = pick deleted x (elem n x none)
 
--- 17, 18 and 21 of it, from those of what stands in the root
+-- 17 of it, by what stands in the root
 abbrev pub twiceIn : Bool → Xml → Bool
 twiceIn deleted x = pick deleted (twice x) (repeated x || twice x)
 
+-- 18 of it, from whether what stands in the root is misnamed
 abbrev pub misnamedIn : Bool → Text → Bool → Bool
 misnamedIn deleted n found = pick deleted found (not (xmlName n) || found)
 
+-- 21 of it, by what stands in the root
 abbrev pub notOneIn : Bool → Xml → Bool
 notOneIn deleted x = pick deleted (notOne x) false
 

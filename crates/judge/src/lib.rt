@@ -154,18 +154,18 @@ fn not_one_in(table: &[u32], parse: &[u32], scratch: &mut [u32], first: Spot, de
     false
 }
 
-// One number or another.
-fn choose(test: bool, number: u32, other: u32) -> u32
-    ensures { λ r. ⌜ r ≡ pick test number other ⌝ }
+// A line of the table: its number if it applies, else what the lines below give.
+fn line(applies: bool, number: u32, below: u32) -> u32
+    ensures { λ r. ⌜ r ≡ pick applies number below ⌝ }
 {
-    if test {
+    if applies {
         return number;
     }
-    other
+    below
 }
 
 // The number of the topmost line that applies.
-fn line_of(
+fn top_line(
     twice: bool,
     misnamed: bool,
     unwritable: bool,
@@ -175,13 +175,9 @@ fn line_of(
 ) -> u32
     ensures { λ r. ⌜ r ≡ topmost twice misnamed unwritable attribute beside namespaced ⌝ }
 {
-    let n = choose(beside, 21, choose(namespaced, 22, 0));
-    let n = choose(
-        misnamed,
-        18,
-        choose(unwritable, 19, choose(attribute, 20, n)),
-    );
-    choose(twice, 17, n)
+    let n = line(beside, 21, line(namespaced, 22, 0));
+    let n = line(misnamed, 18, line(unwritable, 19, line(attribute, 20, n)));
+    line(twice, 17, n)
 }
 
 // The judgment of a root, whose token is known, by the row that stands in it.
@@ -205,7 +201,7 @@ fn judge_row(
     let misnamed = misnamed_in(table, head, deleted, f.misnamed);
     let beside = not_one_in(table, parse, scratch, first, deleted);
     let attribute = mark == 22;
-    line_of(
+    top_line(
         twice,
         misnamed,
         f.unwritable,

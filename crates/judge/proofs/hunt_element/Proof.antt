@@ -1,4 +1,3 @@
-use mathlib.Core.Path.{sym, _∙_}
 use Rattle.clash.proofs.Steps.{ahead-small}
 use Rattle.judge.proofs.Hunts.{hunt-standing, hunt-enters, hunt-open}
 use borrow.Author.Needs.{needs}

@@ -17,8 +17,8 @@ misnamed-in-requires c κs = search needs
 not-one-in-requires : tie.Need-not-one-in-requires
 not-one-in-requires c κs = (now (c .before .before .before .before .before .before .before .before .before .before .before .before .before .before .before .before .before .before .args .«record»), standing-again (c .before .before .before .before .faults-of .ensures .kept ∙ c .before .before .before .before .before .before .before .before .before .before .twice-in .ensures .kept) (c .before .before .before .before .before .before .before .before .before .before .before .before .before .before .before .before .before .before .pre .1))
 
-line-of-requires : tie.Need-line-of-requires
-line-of-requires c κs = search needs
+top-line-requires : tie.Need-top-line-requires
+top-line-requires c κs = search needs
 
 same-length : tie.Need-same-length
 same-length c = search needs
@@ -27,7 +27,7 @@ same-length-2 : tie.Need-same-length-2
 same-length-2 c = search needs
 
 returns : tie.Need-returns
-returns c = row-judged refl (c .before .before .before .before .before .before .before .before .before .before .before .before .before .before .twice-in .ensures) (c .before .before .before .before .before .before .before .before .faults-of .ensures) (c .before .before .before .before .before .misnamed-in .ensures) (c .before .before .before .not-one-in .ensures) (c .line-of .ensures)
+returns c = row-judged refl (c .before .before .before .before .before .before .before .before .before .before .before .before .before .before .twice-in .ensures) (c .before .before .before .before .before .before .before .before .faults-of .ensures) (c .before .before .before .before .before .misnamed-in .ensures) (c .before .before .before .not-one-in .ensures) (c .top-line .ensures)
 
 pub judge-row-spec : {M : Type 1} → statement M
 judge-row-spec =
@@ -37,7 +37,7 @@ judge-row-spec =
     faults-of-requires
     misnamed-in-requires
     not-one-in-requires
-    line-of-requires
+    top-line-requires
     same-length
     same-length-2
     returns)
