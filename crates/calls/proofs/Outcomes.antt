@@ -17,8 +17,13 @@ use Rattle.answer.specs.Answer.{Job, Shown}
 use Rattle.answer.specs.Compute.{Test, firstOf, grammarTests, recordTests, mismatch, Result, Outcome, outcome, resultOf, resultBy, longTest, callOf}
 use Rattle.job.specs.declared.Start.{Start}
 use Rattle.job.specs.declared.Found.{Found}
-use Rattle.job.specs.Stages.{Stopped, Started}
-use Rattle.job.specs.Found.{firstTest, IsRead, NotRead}
+use Rattle.job.specs.declared.Begun.{Begun}
+use Rattle.job.specs.declared.Begun.the-variants.{At, Refused as Ended}
+use Rattle.job.specs.declared.Read.{Read}
+use Rattle.job.specs.declared.Read.the-variants.{Reading, Refused as Not-read}
+use Rattle.job.specs.Stages.{Started, Begins}
+use Rattle.job.specs.Found.{firstTest, IsRead, Ends}
+use Rattle.calls.specs.Calls.{whyBegun, whyRead}
 
 -- a refusal, and an answer
 abbrev pub refusing : List ℕ → ℕ → Bool → Outcome
@@ -41,6 +46,26 @@ module _ (j : Job) (old : List ℕ) (F : Shown) (ts : List Test) where
 
   pub call-answered : (m : Bool) (x : Result) → firstTest j ts ≡ 0 → m ≡ mismatch (j .grammar) → resultOf j (resultBy F) ≡ x → callOf ts F j old ≡ answering old m x
   call-answered m x e q f = ap (λ (k : ℕ). outcome old (mismatch (j .grammar)) k (resultOf j (resultBy F))) e ∙ ap (answering old (mismatch (j .grammar))) f ∙ ap (λ (b : Bool). answering old b x) (sym q)
+
+  -- a stage before 16 refuses
+  pub call-ended : (T new : List ℕ) (b : Begun) (k n : ℕ) → b ≡ Ended k → n ≡ whyBegun b → Begins j T new b → callOf ts F j old ≡ refusing old n false
+  call-ended T new b k n q e w =
+      let h : n ≡ k = e ∙ ap whyBegun q in
+      let s = subst (Begins j T new) q w in
+      rw h (call-early k false (s .is ts) (s .some) (s .early))
+
+  -- there is no reading, or it is too long
+  pub call-not-read : (T new : List ℕ) (s : Start) (w : Started j T new s) (T′ P : List ℕ) (r : Read) (k n : ℕ) → r ≡ Not-read k → n ≡ whyRead r → Ends j T new s w T′ P r → callOf ts F j old ≡ refusing old n (s .passed .mismatch)
+  call-not-read T new s w T′ P r k n q e x =
+      let h : n ≡ k = e ∙ ap whyRead q in
+      let y = subst (Ends j T new s w T′ P) q x in
+      rw h (call-refused k (s .passed .mismatch) (y .is ts) (λ f. ⊎-elim (λ g. omega arith) (λ g. omega arith) (y .late)) (w .grammar .version))
+
+pub begun-at : (j : Job) (T new : List ℕ) (b : Begun) (s : Start) → b ≡ At s → Begins j T new b → Started j T new s
+begun-at j T new b s q w = subst (Begins j T new) q w
+
+pub read-is : (j : Job) (T new : List ℕ) (s : Start) (w : Started j T new s) (T′ P : List ℕ) (r : Read) (f : Found) → r ≡ Reading f → Ends j T new s w T′ P r → IsRead j T new s w T′ P f
+read-is j T new s w T′ P r f q x = subst (Ends j T new s w T′ P) q x
 
 module _ (j : Job) (T new : List ℕ) (s : Start) (w : Started j T new s) (F : Shown) (row : Row) (c : chosenOf (w .grammar .tree) (w .input .chars) ≡ found row) where
   -- the result is that of the chosen derivation

@@ -1,0 +1,86 @@
+-- From the judgment and the writer's answer to the conclusion.
+use mathlib.Core.Bool.{Bool, true, false}
+use mathlib.Core.Path.{_≡_, refl, sym, ap, _∙_, subst}
+use mathlib.Core.Logic.{_⊎_, inl, inr, ⊎-elim}
+use mathlib.Core.List.{List, [], _∷_, _++_}
+use Prim.Native.Nat.{ℕ, _*_, _<_, _≤_}
+use native.Mathlib.Omega.{arith}
+use lib.ListN.{length, drop}
+use Rattle.text.specs.Lists.{Text}
+use Rattle.text.proofs.Tests.{split}
+use Rattle.tree.specs.Tree.{Grammar}
+use Rattle.derive.specs.Derive.{Row, root}
+use Rattle.xml.specs.Document.{document, markOf, twice, misnamed, unwritable, isAttribute, notOne, namespaced}
+use Rattle.xml.specs.Bytes.{bytes}
+use Rattle.ends.specs.Noted.{Noted, Parsed, Room}
+use Rattle.writer.specs.declared.Written as writer
+use Rattle.writer.specs.declared.Written.the-variants as written
+use Rattle.writer.specs.Whole.{Job, Some, Writable, Answered}
+use Rattle.judge.specs.Judgment.{topmost, judgmentOf, Judged}
+use Rattle.convert.specs.declared.Converted.the-variants.{Xml, Refused}
+use Rattle.convert.specs.Concluded.{Parsing, Ready, Written, NotWritten, Concludes}
+
+-- where no line applies, no test holds
+record Clear (t m u b : Bool) : Type 0 where
+  names : m ≡ false
+  chars : u ≡ false
+  one : b ≡ false
+
+clear : (t m u a b n : Bool) → topmost t m u a b n ≡ 0 → Clear t m u b
+clear true m u a b n e = absurd (let z : _≡_ {A = ℕ} 17 0 = e in omega arith)
+clear false true u a b n e = absurd (let z : _≡_ {A = ℕ} 18 0 = e in omega arith)
+clear false false true a b n e = absurd (let z : _≡_ {A = ℕ} 19 0 = e in omega arith)
+clear false false false true b n e = absurd (let z : _≡_ {A = ℕ} 20 0 = e in omega arith)
+clear false false false false true n e = absurd (let z : _≡_ {A = ℕ} 21 0 = e in omega arith)
+clear false false false false false n e = record { names = refl; chars = refl; one = refl }
+
+writable : (g : Grammar) (r : Text) (t : Row) → judgmentOf g r t ≡ 0 → Writable g r t
+writable g r t e =
+    let d = document g r t in
+    let w = clear (twice d) (misnamed d) (unwritable d) (isAttribute (markOf g (root g))) (notOne d) (namespaced d) e in
+    record { names = w .names; chars = w .chars; one = w .one }
+
+module _ {T : List ℕ} {root : ℕ} {P : List ℕ} {r : Text} where
+  pub room : {S : List ℕ} → Ready T root P r → length S ≡ 8192 → Room T P S
+  room w l = record { table = omega (arith, w .table); list = omega (arith, w .few); scratch = omega (arith, w .few) }
+
+  job-of : {g : Grammar} {t : Row} {S : List ℕ} → Parsing T root P r g t → Noted S 0 t → Job T root P r S g t
+  job-of p n = record { parsed = p .parsed; noted = n; tokens = p .tokens }
+
+  module _ {S : List ℕ} (notes : (g : Grammar) (q : Text) (t : Row) → Parsed T root P g q t → Noted S 0 t) where
+    its-job : {g : Grammar} {t : Row} → Parsing T root P r g t → Job T root P r S g t
+    its-job {g} {t} p = job-of p (notes g r t (p .parsed))
+
+    pub some-job : Ready T root P r → Some T root P r S
+    some-job w = record { g = w .g; t = w .t; job = its-job (w .parsing) }
+
+    module _ {S′ : List ℕ} {k : ℕ} (j : Judged T root P r S S′ k) where
+      later-job : {g : Grammar} {t : Row} → Parsing T root P r g t → Job T root P r S′ g t
+      later-job {g} {t} p = subst (λ (x : List ℕ). Job T root P r x g t) (sym (j .kept)) (its-job p)
+
+      pub some-later : Ready T root P r → Some T root P r S′
+      some-later w = record { g = w .g; t = w .t; job = later-job (w .parsing) }
+
+      pub forbidden : (g : Grammar) (t : Row) (a m : Bool) (old : List ℕ) → Parsing T root P r g t → (k ≡ 0 → ⊥) → Concludes g r t a m old old (Refused k)
+      forbidden g t a m old p z = record { why = inl (j .is g t (its-job p), z); buffer = refl }
+
+      module _ (g : Grammar) (t : Row) (a m : Bool) (old new : List ℕ) (x : writer.Written) (p : Parsing T root P r g t) (e : k ≡ 0)
+          (w : Job T root P r S′ g t → Writable g r t → Answered (bytes a m (document g r t)) old new x) where
+        allowed : judgmentOf g r t ≡ 0
+        allowed = sym (j .is g t (its-job p)) ∙ e
+
+        answered : Answered (bytes a m (document g r t)) old new x
+        answered = w (later-job p) (writable g r t allowed)
+
+        pub concluded : (n : ℕ) → x ≡ written.Xml n → Concludes g r t a m old new (Xml n)
+        concluded n q = ⊎-elim
+            (λ (l : length old < length (bytes a m (document g r t))). absurd (let s : written.Xml n ≡ written.TooLong = sym q ∙ answered .long l .0 in let z : _≡_ {A = ℕ} 0 1 = cc in omega arith))
+            (λ (l : length (bytes a m (document g r t)) ≤ length old). (let v = answered .fits l in let s : written.Xml n ≡ written.Xml (length (bytes a m (document g r t))) = sym q ∙ v .0 in let c : n ≡ length (bytes a m (document g r t)) = cc in
+            record { allowed = allowed; count = c; fits = l; buffer = v .1 }))
+            (split (length old) (length (bytes a m (document g r t))))
+
+        pub too-long : x ≡ written.TooLong → Concludes g r t a m old new (Refused 23)
+        too-long q = ⊎-elim
+            (λ (l : length old < length (bytes a m (document g r t))). record { why = inr (allowed, refl, l); buffer = answered .long l .1 })
+            (λ (l : length (bytes a m (document g r t)) ≤ length old). absurd (let s : written.TooLong ≡ written.Xml (length (bytes a m (document g r t))) = sym q ∙ answered .fits l .0 in let z : _≡_ {A = ℕ} 0 1 = cc in omega arith))
+            (split (length old) (length (bytes a m (document g r t))))

@@ -1,0 +1,47 @@
+-- What converting a left parse answers.
+use mathlib.Core.Bool.{Bool}
+use mathlib.Core.Path.{_≡_}
+use mathlib.Core.Logic.{_⊎_}
+use mathlib.Core.List.{List, _++_}
+use Prim.Native.Nat.{ℕ, _<_, _≤_}
+use lib.ListN.{length, drop}
+use Rattle.text.specs.Limits.{grammarTable, readingNumbers}
+use Rattle.text.specs.Lists.{Text}
+use Rattle.tree.specs.Tree.{Grammar}
+use Rattle.tree.specs.Tokens.{grammarTokens}
+use Rattle.derive.specs.Derive.{Row}
+use Rattle.items.specs.Items.{Reads}
+use Rattle.xml.specs.Document.{document}
+use Rattle.xml.specs.Bytes.{bytes}
+use Rattle.ends.specs.Noted.{Parsed}
+use Rattle.judge.specs.Judgment.{judgmentOf}
+use Rattle.convert.specs.declared.Converted.{Converted}
+use Rattle.convert.specs.declared.Converted.the-variants.{Xml, Refused}
+
+-- the list names a derivation by the rules in the table, which has the grammar's tokens too
+pub record Parsing (T : List ℕ) (root : ℕ) (P : List ℕ) (r : Text) (g : Grammar) (t : Row) : Type 0 where
+  pub parsed : Parsed T root P g r t
+  pub tokens : Reads T 0 (grammarTokens g)
+
+pub record Ready (T : List ℕ) (root : ℕ) (P : List ℕ) (r : Text) : Type 0 where
+  pub table : length T ≡ grammarTable
+  pub few : length P ≤ readingNumbers
+  pub g : Grammar
+  pub t : Row
+  pub parsing : Parsing T root P r g t
+
+-- nothing forbids the XML, and it fits
+pub record Written (bs : List ℕ) (judgment : ℕ) (old new : List ℕ) (n : ℕ) : Type 0 where
+  pub allowed : judgment ≡ 0
+  pub count : n ≡ length bs
+  pub fits : length bs ≤ length old
+  pub buffer : new ≡ bs ++ drop (length bs) old
+
+-- it is forbidden, or it does not fit
+pub record NotWritten (bs : List ℕ) (judgment : ℕ) (old new : List ℕ) (n : ℕ) : Type 0 where
+  pub why : ((n ≡ judgment) × (n ≡ 0 → ⊥)) ⊎ ((judgment ≡ 0) × (n ≡ 23) × (length old < length bs))
+  pub buffer : new ≡ old
+
+abbrev pub Concludes : Grammar → Text → Row → Bool → Bool → List ℕ → List ℕ → Converted → Type 0
+Concludes g r t ambiguous mismatch old new (Xml n) = Written (bytes ambiguous mismatch (document g r t)) (judgmentOf g r t) old new n
+Concludes g r t ambiguous mismatch old new (Refused n) = NotWritten (bytes ambiguous mismatch (document g r t)) (judgmentOf g r t) old new n

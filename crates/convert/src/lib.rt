@@ -1,0 +1,47 @@
+// A left parse as XML: what forbids it, and then its bytes.
+ghost use Rattle.tree.specs.Tree.{Grammar};
+ghost use Rattle.derive.specs.Derive.{Row};
+ghost use Rattle.convert.specs.Concluded.{Ready, Parsing, Concludes};
+use writer::Written;
+
+// The count of the XML's bytes, or the refusal.
+pub enum Converted {
+    Xml(usize),
+    Refused(u32),
+}
+
+// 17 to 23. The numbers noted of the entries and the names seen are local: 49,152 bytes.
+pub fn convert(
+    table: &[u32],
+    root: usize,
+    parse: &[u32],
+    record: &[u32],
+    ambiguous: bool,
+    mismatch: bool,
+    out: &mut [u8],
+) -> Converted
+    requires { ⌜ Ready (now table) root (now parse) (now «record») ⌝ }
+    ensures { λ a. ⌜ ((g : Grammar) (t : Row) → Parsing (now (table .entry)) root (now (parse .entry)) (now («record» .entry)) g t → Concludes g (now («record» .entry)) t ambiguous mismatch (now (out .entry)) (now (out .exit)) a) ⌝ }
+{
+    let mut scratch = [0u32; 8192];
+    let mut seen = [0u32; 4096];
+    ends::note(table, root, parse, &mut scratch);
+    let number = judge::judge(table, root, parse, record, &mut scratch, &mut seen);
+    if number != 0 {
+        return Converted::Refused(number);
+    }
+    let written = writer::write_xml(
+        table,
+        root,
+        parse,
+        record,
+        ambiguous,
+        mismatch,
+        &mut scratch,
+        out,
+    );
+    let Written::Xml(n) = written else {
+        return Converted::Refused(23);
+    };
+    Converted::Xml(n)
+}
