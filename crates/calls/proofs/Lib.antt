@@ -1,4 +1,5 @@
 pub mod Checks
 pub mod Outcomes
 pub mod ReadsAs
+pub mod ConvertsAs
 pub mod Copies

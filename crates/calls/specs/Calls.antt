@@ -5,14 +5,16 @@ use mathlib.Core.List.{List}
 use Prim.Native.Nat.{ℕ}
 use lib.Dec.{eqb}
 use Rattle.answer.specs.Answer as defined
-use Rattle.answer.specs.Answer.{Job, Checks, Reads}
-use Rattle.answer.specs.Compute.{checkOf, readOf}
+use Rattle.answer.specs.Answer.{Job, Checks, Reads, Converts}
+use Rattle.answer.specs.Compute.{checkOf, readOf, convertOf}
 use Rattle.load.specs.declared.Judged.{Judged}
 use Rattle.load.specs.declared.Judged.the-variants.{Grammar as Accepted, Refused}
 use Rattle.job.specs.declared.Begun.{Begun}
 use Rattle.job.specs.declared.Begun.the-variants.{At, Refused as Ended}
 use Rattle.job.specs.declared.Read.{Read}
 use Rattle.job.specs.declared.Read.the-variants.{Reading, Refused as Not-read}
+use Rattle.convert.specs.declared.Converted.{Converted}
+use Rattle.convert.specs.declared.Converted.the-variants.{Xml, Refused as Not-converted}
 use Rattle.calls.specs.declared.Answer.{Answer}
 
 abbrev pub shown : Answer → defined.Answer
@@ -35,6 +37,10 @@ abbrev pub whyRead : Read → ℕ
 whyRead (Reading f) = 0
 whyRead (Not-read n) = n
 
+abbrev pub whyConverted : Converted → ℕ
+whyConverted (Xml n) = 0
+whyConverted (Not-converted n) = n
+
 -- "The version mark is set, for 0 and 16, exactly when …"
 abbrev pub refusalOf : ℕ → Bool → Answer
 refusalOf n mismatch = record { number = n; length = 0; ambiguous = false; version = eqb n 16 && mismatch }
@@ -44,3 +50,9 @@ pub record ReadAs (j : Job) (old : List ℕ) (a : Answer) (new : List ℕ) : Typ
   pub computed : shown a ≡ readOf j old .answer
   pub buffer : new ≡ readOf j old .buffer
   pub defines : Reads j old (shown a) new
+
+-- of converting
+pub record ConvertedAs (j : Job) (old : List ℕ) (a : Answer) (new : List ℕ) : Type 0 where
+  pub computed : shown a ≡ convertOf j old .answer
+  pub buffer : new ≡ convertOf j old .buffer
+  pub defines : Converts j old (shown a) new

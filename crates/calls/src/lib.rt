@@ -7,7 +7,8 @@ ghost use lib.Dec.{eqb};
 ghost use lib.ListN.{length, take, drop};
 ghost use Rattle.category.specs.Category.{categoryNumber};
 ghost use Rattle.job.specs.Stages.{job};
-ghost use Rattle.calls.specs.Calls.{Checked, whyOf, whyBegun, whyRead, refusalOf, ReadAs};
+ghost use Rattle.calls.specs.Calls.{Checked, whyOf, whyBegun, whyRead, whyConverted, refusalOf, ReadAs, ConvertedAs};
+use convert::Converted;
 use job::Begun;
 use job::Read;
 use load::Judged;
@@ -157,6 +158,67 @@ pub extern "C" fn ixml_read(
     Answer {
         number: 0,
         length: found.count,
+        ambiguous: found.ambiguous,
+        version: passed.mismatch,
+    }
+}
+
+fn why_converted(converted: Converted) -> u32
+    ensures { λ r. ⌜ r ≡ whyConverted converted ⌝ }
+{
+    match converted {
+        Converted::Xml(_) => 0,
+        Converted::Refused(number) => number,
+    }
+}
+
+// Converts a record.
+#[no_mangle]
+pub extern "C" fn ixml_convert(
+    grammar: &[u8],
+    record: &[u8],
+    main: &mut [u32],
+    second: &[u32],
+    result: &mut [u8],
+) -> Answer
+    ensures { λ r. ⌜ ConvertedAs (job (now (grammar .entry)) (now («record» .entry)) (length (now (main .entry))) (length (now (second .entry)))) (now (result .entry)) r (now (result .exit)) ⌝ }
+{
+    let mut table = [0u32; 16384];
+    let mut text = [0u32; 120];
+    let mut parse = [0u32; 4096];
+    let begun = job::begin(
+        grammar,
+        record,
+        main.len(),
+        second.len(),
+        &mut table,
+        &mut text,
+    );
+    let Begun::At(start) = begun else {
+        return refusal(why_begun(begun), false);
+    };
+    let passed = start.passed;
+    let read = job::read_record(&mut table, start, &text, main, &mut parse);
+    let Read::Reading(found) = read else {
+        return refusal(why_read(read), passed.mismatch);
+    };
+    let count = found.count;
+    let chars = start.chars;
+    let converted = convert::convert(
+        &table,
+        found.root,
+        &parse[..count],
+        &text[..chars],
+        found.ambiguous,
+        passed.mismatch,
+        result,
+    );
+    let Converted::Xml(length) = converted else {
+        return refusal(why_converted(converted), passed.mismatch);
+    };
+    Answer {
+        number: 0,
+        length,
         ambiguous: found.ambiguous,
         version: passed.mismatch,
     }
