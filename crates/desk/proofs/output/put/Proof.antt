@@ -1,0 +1,39 @@
+use borrow.Author.Needs.{needs}
+use Rattle.desk.proofs.output.put.Statement.{statement}
+use Rattle.desk.proofs.output.put.Tie as tie
+use Rattle.desk.proofs.output.put.Reads as reads
+use Rattle.desk.proofs.output.put.Lts as lts
+use Rattle.bytes.proofs.copy.Reads as copy-reads
+
+-- src/output.rt:15:28
+sub-copy : tie.Need-sub-copy
+sub-copy c = search needs
+
+-- src/output.rt:15:28
+part-copy-start : tie.Need-part-copy-start
+part-copy-start c = search needs
+
+-- src/output.rt:15:28
+part-copy-end : tie.Need-part-copy-end
+part-copy-end c = search needs
+
+-- src/output.rt:15:10
+copy-requires : tie.Need-copy-requires
+copy-requires c κs = search needs
+
+-- src/output.rt:15:5
+add-result : tie.Need-add-result
+add-result c = search needs
+
+-- src/output.rt:11:1
+same-length : tie.Need-same-length
+same-length c = search needs
+
+-- src/output.rt:11:1
+returns : tie.Need-returns
+returns c = ?
+
+pub put-spec : {M : Type 1} → statement M
+put-spec =
+    tie.close
+    (tie.spec sub-copy part-copy-start part-copy-end copy-requires add-result same-length returns)

@@ -1,0 +1,51 @@
+use borrow.Author.Needs.{needs}
+use Rattle.desk.proofs.output.put_fail.Statement.{statement}
+use Rattle.desk.proofs.output.put_fail.Tie as tie
+use Rattle.desk.proofs.output.put_fail.Reads as reads
+use Rattle.desk.proofs.output.put_fail.Lts as lts
+use Rattle.desk.proofs.output.put.Reads as put-reads
+
+-- src/output.rt:31:13
+slice-aggregate-put : tie.Need-slice-aggregate-put
+slice-aggregate-put c = search needs
+
+-- src/output.rt:30:9
+put-requires : tie.Need-put-requires
+put-requires c κs = search needs
+
+-- src/output.rt:30:9
+same-length : tie.Need-same-length
+same-length c = search needs
+
+-- src/output.rt:30:9
+returns : tie.Need-returns
+returns c = ?
+
+-- src/output.rt:37:9
+slice-aggregate-put-2 : tie.Need-slice-aggregate-put-2
+slice-aggregate-put-2 c = search needs
+
+-- src/output.rt:36:5
+put-requires-2 : tie.Need-put-requires-2
+put-requires-2 c κs = search needs
+
+-- src/output.rt:25:1
+same-length-2 : tie.Need-same-length-2
+same-length-2 c = search needs
+
+-- src/output.rt:25:1
+returns-2 : tie.Need-returns-2
+returns-2 c = ?
+
+pub put-fail-spec : {M : Type 1} → statement M
+put-fail-spec =
+    tie.close
+    (tie.spec
+    slice-aggregate-put
+    put-requires
+    same-length
+    returns
+    slice-aggregate-put-2
+    put-requires-2
+    same-length-2
+    returns-2)
