@@ -42,7 +42,7 @@ fn put_fail(version: bool, out: &mut [u8]) -> usize
 
 // A digit; a larger number has none.
 fn digit(d: u32) -> u8
-    ensures { λ r. ⌜ d < 10 → r ≡ 0x30 + d ⌝ }
+    ensures { λ r. ⌜ (d < 10 → r ≡ 48 + d) ⌝ }
 {
     if d < 10 {
         return 0x30 + d as u8;

@@ -1,66 +1,61 @@
+use mathlib.Core.Path.{_≡_, refl, sym}
+use Prim.Native.Nat.{_≤_, _<_, _-_}
+use native.Mathlib.Omega.{arith}
+use lib.ListN.{length}
+use borrow.Author.Needs.{needs}
+use Rattle.desk.specs.Desk.{Onwards}
+use Rattle.io.proofs.Counting.{counts}
 use Rattle.desk.proofs.files.fill.Statement.{statement}
 use Rattle.desk.proofs.files.fill.Tie as tie
-use Rattle.desk.proofs.files.fill.Reads as reads
-use Rattle.desk.proofs.files.fill.Lts as lts
-use Rattle.desk.proofs.files.read_some.Reads as read-some-reads
 
 abbrev Inv-loop : tie.InvT-loop
-Inv-loop fd buf₀ done₀ buf done = ?
+Inv-loop fd buf₀ done₀ buf done = (length buf ≡ length buf₀) × (done ≤ length buf)
 
 abbrev μ-loop : tie.MeasureT-loop
-μ-loop fd buf₀ done₀ buf done = ?
+μ-loop fd buf₀ done₀ buf done = length buf₀ - done
 
--- src/files.rt:42:5
 loop-holds : tie.Need-loop-holds Inv-loop μ-loop
-loop-holds c = ?
+loop-holds c = (refl, omega arith)
 
--- src/files.rt:43:15
 read-some-requires : tie.Need-read-some-requires Inv-loop μ-loop
-read-some-requires c κs = ?
+read-some-requires c κs = omega arith
 
--- src/files.rt:45:17
 enum-told : tie.Need-enum-told Inv-loop μ-loop
-enum-told c = ?
+enum-told c = search needs
 
--- src/files.rt:45:17
 same-length : tie.Need-same-length Inv-loop μ-loop
-same-length c = ?
+same-length c = omega arith
 
--- src/files.rt:45:17
 returns : tie.Need-returns Inv-loop μ-loop
-returns c = ?
+returns c = search needs
 
--- src/files.rt:51:17
 enum-told-2 : tie.Need-enum-told-2 Inv-loop μ-loop
-enum-told-2 c = ?
+enum-told-2 c = search needs
 
--- src/files.rt:51:17
 same-length-2 : tie.Need-same-length-2 Inv-loop μ-loop
-same-length-2 c = ?
+same-length-2 c = omega arith
 
--- src/files.rt:51:17
 returns-2 : tie.Need-returns-2 Inv-loop μ-loop
-returns-2 c = ?
+returns-2 c = counts _ _ (omega arith)
 
--- src/files.rt:56:24
 enum-known-next : tie.Need-enum-known-next Inv-loop μ-loop
-enum-known-next c = ?
+enum-known-next c = search needs
 
--- src/files.rt:42:5
 loop-less : tie.Need-loop-less Inv-loop μ-loop
-loop-less c = ?
+loop-less c =
+    let q = rw (c .before .next .given .1) at (c .before .before .before .before .before .read-some .ensures) in
+    omega arith
 
--- src/files.rt:42:5
 loop-again : tie.Need-loop-again Inv-loop μ-loop
-loop-again c = ?
+loop-again c =
+    let q = rw (c .before .next .given .1) at (c .before .before .before .before .before .read-some .ensures) in
+    omega arith
 
--- src/files.rt:38:1
 same-length-3 : tie.Need-same-length-3 Inv-loop μ-loop
-same-length-3 c = ?
+same-length-3 c = omega arith
 
--- src/files.rt:38:1
 returns-3 : tie.Need-returns-3 Inv-loop μ-loop
-returns-3 c = ?
+returns-3 c = counts _ _ (omega arith)
 
 pub fill-spec : {M : Type 1} → statement M
 fill-spec =

@@ -1,3 +1,5 @@
+use native.Mathlib.Omega.{arith}
+use Rattle.desk.proofs.Texts.{put-holds}
 use borrow.Author.Needs.{needs}
 use Rattle.desk.proofs.output.put.Statement.{statement}
 use Rattle.desk.proofs.output.put.Tie as tie
@@ -31,7 +33,7 @@ same-length c = search needs
 
 -- src/output.rt:11:1
 returns : tie.Need-returns
-returns c = ?
+returns c = put-holds (c .before .before .before .before .before .before .args .text .now) (c .before .before .before .before .before .before .args .out .now) (c .before .before .copy .last .1 .0) _ _ (c .before .before .before .before .before .before .args .at) _ (omega arith) (c .before .before .copy .ensures .0) (c .before .before .copy .ensures .1)
 
 pub put-spec : {M : Type 1} → statement M
 put-spec =

@@ -1,3 +1,5 @@
+use native.Mathlib.Omega.{arith}
+use Rattle.xml.specs.Bytes.{failDocument}
 use borrow.Author.Needs.{needs}
 use Rattle.desk.proofs.output.put_fail.Statement.{statement}
 use Rattle.desk.proofs.output.put_fail.Tie as tie
@@ -19,7 +21,8 @@ same-length c = search needs
 
 -- src/output.rt:30:9
 returns : tie.Need-returns
-returns c = ?
+unfolding failDocument
+returns c = (omega (arith, c .before .before .put .ensures .ends), rw (c .before .before .before .before .before .if1 .taken) (c .before .before .put .ensures .holds))
 
 -- src/output.rt:37:9
 slice-aggregate-put-2 : tie.Need-slice-aggregate-put-2
@@ -35,7 +38,8 @@ same-length-2 c = search needs
 
 -- src/output.rt:25:1
 returns-2 : tie.Need-returns-2
-returns-2 c = ?
+unfolding failDocument
+returns-2 c = (omega (arith, c .before .before .put2 .ensures .ends), rw (c .before .before .before .before .before .if1 .left) (c .before .before .put2 .ensures .holds))
 
 pub put-fail-spec : {M : Type 1} → statement M
 put-fail-spec =

@@ -1,3 +1,8 @@
+use mathlib.Core.Path.{_∙_, ap}
+use mathlib.Core.List.{List, _++_}
+use Prim.Native.Nat.{ℕ}
+use native.Mathlib.Omega.{arith}
+use Rattle.answer.specs.Program.{decimal}
 use borrow.Author.Needs.{needs}
 use Rattle.desk.proofs.output.put_refused.Statement.{statement}
 use Rattle.desk.proofs.output.put_refused.Tie as tie
@@ -24,7 +29,7 @@ same-length c = search needs
 
 -- src/output.rt:65:1
 returns : tie.Need-returns
-returns c = ?
+returns c = (omega (arith, c .before .before .before .before .before .before .put .ensures .ends, c .before .before .put-decimal .ensures .0), λ h. c .before .before .put-decimal .ensures .1 h ∙ ap (λ (x : List ℕ). x ++ decimal (c .before .before .before .before .before .before .before .before .before .before .args .n)) (c .before .before .before .before .before .before .put .ensures .holds))
 
 pub put-refused-spec : {M : Type 1} → statement M
 put-refused-spec =
