@@ -40,7 +40,7 @@ cut : (l : ℕ) (xs : List ℕ) → take (min l (length xs)) xs ≡ take l xs
 cut l xs = ⊎-elim (λ p. ap (λ k. take k xs) (min-eq-left {n = l} {m = length xs} (omega arith))) (λ p. ap (λ k. take k xs) (min-eq-right {n = length xs} {m = l} p) ∙ take-length xs ∙ sym (take-all l xs p)) (split l (length xs))
 
 -- the three kinds of answer
-module _ {n l : ℕ} {v : Bool} {xml : List ℕ} where
+module _ (n l : ℕ) (v : Bool) (xml : List ℕ) where
   pub body-0 : {k r : ℕ} {old new : List ℕ} → n ≡ 0 → k ≡ min l (length xml) → Put (take k xml) 0 old new r → take r new ≡ bodyOf n l v xml
   body-0 {k} z e p = p .holds ∙ ap (λ j. take j xml) e ∙ cut l xml ∙ rw z
 

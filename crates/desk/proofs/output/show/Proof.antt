@@ -1,3 +1,7 @@
+use mathlib.Core.Path.{_∙_, ap}
+use mathlib.Core.List.{List, _++_, _∷_, []}
+use Prim.Native.Nat.{ℕ}
+use native.Mathlib.Omega.{arith}
 use borrow.Author.Needs.{needs}
 use Rattle.desk.proofs.output.show.Statement.{statement}
 use Rattle.desk.proofs.output.show.Tie as tie
@@ -20,7 +24,7 @@ put-requires c κs = search needs
 
 -- src/output.rt:90:1
 returns : tie.Need-returns
-returns c = ?
+returns c = record { fits = omega (arith, c .put .ensures .ends, c .before .before .before .put-answer .ensures .0); holds = λ h. c .put .ensures .holds ∙ ap (λ (x : List ℕ). x ++ 10 ∷ []) (c .before .before .before .put-answer .ensures .1 h) }
 
 pub show-spec : {M : Type 1} → statement M
 show-spec = tie.close (tie.spec put-answer-requires slice-aggregate-put put-requires returns)
