@@ -4,12 +4,13 @@ use mathlib.Core.Path.{_≡_}
 use mathlib.Core.List.{List, _++_}
 use Prim.Native.Nat.{ℕ, _+_, _≤_, _<_}
 use lib.Dec.{eqb}
-use lib.ListN.{length, take}
-use Rattle.text.specs.Limits.{fileBytes}
+use lib.ListN.{length, take, replicate}
+use Rattle.text.specs.Limits.{fileBytes, programBytes}
 use Rattle.text.specs.Lists.{Text, chars, pick}
 use Rattle.xml.specs.Bytes.{failDocument}
 use Rattle.answer.specs.Answer.{Answer}
-use Rattle.answer.specs.Program.{File, unreadable, bytes, decimal, Writes, shows}
+use Rattle.answer.specs.Compute.{Outcome, convertOf}
+use Rattle.answer.specs.Program.{File, unreadable, bytes, decimal, Writes, shows, programJob}
 use Rattle.desk.specs.declared.files.Turn.{Turn}
 use Rattle.desk.specs.declared.files.Turn.the-variants.{More, End, Failed}
 
@@ -64,3 +65,15 @@ pub data Seen : File → Bool → List ℕ → Type 0 where
 -- the text is what is written for any two files of which this is seen
 abbrev pub Written : Bool → List ℕ → Bool → List ℕ → Text → Type 0
 Written p g q r text = (f e : File) → Seen f p g → Seen e q r → Writes f e text
+
+-- what a job of the program comes to, and the text of that
+abbrev pub jobOutcome : List ℕ → List ℕ → Outcome
+jobOutcome g r = convertOf (programJob g r) (replicate programBytes 0)
+
+abbrev pub jobText : List ℕ → List ℕ → Text
+jobText g r = shows (jobOutcome g r .answer) (jobOutcome g r .buffer)
+
+-- the first n bytes are what is written for any two files of which this is seen
+pub record Replies (p : Bool) (g : List ℕ) (q : Bool) (r : List ℕ) (new : List ℕ) (n : ℕ) : Type 0 where
+  pub fits : n ≤ length new
+  pub written : Written p g q r (take n new)

@@ -3,9 +3,9 @@
 mod files;
 mod output;
 
-pub use files::load;
 pub use files::Loaded;
 pub use files::Turn;
+pub use files::load;
 pub use output::show;
 pub use output::show_long;
 pub use output::show_unreadable;

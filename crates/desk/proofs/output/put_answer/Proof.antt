@@ -34,7 +34,7 @@ same-length c = search needs
 returns : tie.Need-returns
 returns c =
     let k = length-take-le (c .before .before .before .before .before .least .result) (c .before .before .before .before .before .before .before .before .before .args .xml .now) (omega (arith, c .before .before .before .before .before .least .ensures, min-le-right (c .before .before .before .before .before .before .before .before .before .args .size) (length (c .before .before .before .before .before .before .before .before .before .args .xml .now)))) in
-        (omega (arith, c .before .before .put .ensures .ends, c .before .before .before .before .before .least .ensures, min-le-right (c .before .before .before .before .before .before .before .before .before .args .size) (length (c .before .before .before .before .before .before .before .before .before .args .xml .now)), c .before .before .before .before .before .before .before .before .before .pre), λ h. body-0 (c .before .before .before .before .before .before .before .before .before .args .number) (c .before .before .before .before .before .before .before .before .before .args .size) (c .before .before .before .before .before .before .before .before .before .args .version) (c .before .before .before .before .before .before .before .before .before .args .xml .now) (c .before .before .before .before .before .before .if1 .taken) (c .before .before .before .before .before .least .ensures) (c .before .before .put .ensures))
+    (omega (arith, c .before .before .put .ensures .ends, c .before .before .before .before .before .least .ensures, min-le-right (c .before .before .before .before .before .before .before .before .before .args .size) (length (c .before .before .before .before .before .before .before .before .before .args .xml .now)), c .before .before .before .before .before .before .before .before .before .pre), λ h. body-0 (c .before .before .before .before .before .before .before .before .before .args .number) (c .before .before .before .before .before .before .before .before .before .args .size) (c .before .before .before .before .before .before .before .before .before .args .version) (c .before .before .before .before .before .before .before .before .before .args .xml .now) (c .before .before .before .before .before .before .if1 .taken) (c .before .before .before .before .before .least .ensures) (c .before .before .put .ensures))
 
 -- src/output.rt:83:9
 put-fail-requires : tie.Need-put-fail-requires
