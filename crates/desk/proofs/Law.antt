@@ -9,14 +9,14 @@ use lib.Dec.{T, ltb, leb, leb→le}
 use lib.ListN.{length, take, replicate, length-take}
 use lib.Seq.{take-all, length-take-le}
 use borrow.Author.Tests.{lt-ltb, le-ltb}
-use Rattle.text.specs.Limits.{grammarBytes, fileBytes, programBytes}
+use Rattle.text.specs.Limits.{grammarBytes, grammarTable, fileBytes, programBytes, programTable}
 use Rattle.text.specs.Lists.{Text, all}
 use Rattle.text.proofs.Tests.{split, and-left, and-right, clash}
 use Rattle.answer.specs.Answer.{Line, Topmost, Job, Answer, Answers, Converts, grammarLines, recordLines, documentLines, tooLong, asXml}
 use Rattle.answer.specs.Compute.{Outcome, convertOf}
 use Rattle.answer.specs.Program.{File, unreadable, bytes, shows, programJob, Writes, no-grammar, no-record, long-record, job}
 use Rattle.answer.proofs.Settled.{convert-settled, convert-answers}
-use Rattle.desk.specs.Desk.{Seen, shut, begins, Written, noFile, longFile, askedBytes, jobOutcome, jobText}
+use Rattle.desk.specs.Desk.{Seen, shut, begins, Written, noFile, longFile, askedBytes, jobOutcome, jobText, Shows, Holds}
 
 -- no line's number is above m, so neither is the topmost that applies
 topmost-below : (m n : ℕ) (ls : List Line) → T (all (λ l. leb (l .number) m) ls) → Topmost ls n → n ≤ m
@@ -94,3 +94,12 @@ one-text (job {g = g} {r = r} {new = m} {a = a} k c) (job {new = n} {a = b} l d)
     let p = convert-settled (programJob g r) (replicate programBytes 0) a m c in
     let q = convert-settled (programJob g r) (replicate programBytes 0) b n d in
     λ ι. shows ((p .0 ∙ sym (q .0)) ι) ((p .1 ∙ sym (q .1)) ι)
+
+-- an answer of converting, shown, where the program lends its tables and an empty buffer
+module _ {g r old xml new : List ℕ} {s t n l k : ℕ} {m v : Bool} where
+  pub job-shown : s ≡ programTable → t ≡ grammarTable → old ≡ replicate programBytes 0 → Converts (record { grammar = g; input = r; mainTable = s; secondTable = t }) old (record { number = n; length = l; ambiguous = m; version = v }) xml → Shows n l v xml new k
+      → Holds (jobText g r) new k
+  job-shown es et eo c w =
+      let d : Converts (programJob g r) (replicate programBytes 0) (record { number = n; length = l; ambiguous = m; version = v }) xml = rw (es, et, eo) at c in
+      let p = convert-settled (programJob g r) (replicate programBytes 0) (record { number = n; length = l; ambiguous = m; version = v }) xml d in
+      record { fits = w .fits; holds = w .holds (two-places (programJob g r) (replicate programBytes 0) (record { number = n; length = l; ambiguous = m; version = v }) xml d) ∙ (λ ι. shows (p .0 ι) (p .1 ι)) }

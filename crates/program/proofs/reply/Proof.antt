@@ -1,0 +1,53 @@
+use borrow.Author.Needs.{needs}
+use Rattle.program.proofs.reply.Statement.{statement}
+use Rattle.program.proofs.reply.Tie as tie
+use Rattle.program.proofs.reply.Reads as reads
+use Rattle.program.proofs.reply.Lts as lts
+use Rattle.desk.proofs.show_long.Reads as show-long-reads
+use Rattle.desk.proofs.show_unreadable.Reads as show-unreadable-reads
+use Rattle.program.proofs.convert.Reads as convert-reads
+
+-- src/main.rt:29:9
+show-unreadable-requires : tie.Need-show-unreadable-requires
+show-unreadable-requires c κs = search needs
+
+-- src/main.rt:29:9
+returns : tie.Need-returns
+returns c = ?
+
+-- src/main.rt:32:9
+show-unreadable-requires-2 : tie.Need-show-unreadable-requires-2
+show-unreadable-requires-2 c κs = search needs
+
+-- src/main.rt:32:9
+returns-2 : tie.Need-returns-2
+returns-2 c = ?
+
+-- src/main.rt:35:9
+show-long-requires : tie.Need-show-long-requires
+show-long-requires c κs = search needs
+
+-- src/main.rt:35:9
+returns-3 : tie.Need-returns-3
+returns-3 c = ?
+
+-- src/main.rt:37:5
+convert-requires : tie.Need-convert-requires
+convert-requires c κs = search needs
+
+-- src/main.rt:25:1
+returns-4 : tie.Need-returns-4
+returns-4 c = ?
+
+pub reply-spec : {M : Type 1} → statement M
+reply-spec =
+    tie.close
+    (tie.spec
+    show-unreadable-requires
+    returns
+    show-unreadable-requires-2
+    returns-2
+    show-long-requires
+    returns-3
+    convert-requires
+    returns-4)
