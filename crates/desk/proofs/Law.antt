@@ -1,5 +1,5 @@
 -- What is written follows from what is seen of two files.
-use mathlib.Core.Bool.{Bool, true, false}
+use mathlib.Core.Bool.{Bool, true, false, not}
 use mathlib.Core.Logic.{_⊎_, inl, inr, _↔_, ⊎-elim}
 use mathlib.Core.Path.{_≡_, refl, sym, subst, ap, _∙_}
 use mathlib.Core.List.{List, [], _∷_, _++_}
@@ -16,7 +16,7 @@ use Rattle.answer.specs.Answer.{Line, Topmost, Job, Answer, Answers, Converts, 
 use Rattle.answer.specs.Compute.{Outcome, convertOf}
 use Rattle.answer.specs.Program.{File, unreadable, bytes, shows, programJob, Writes, no-grammar, no-record, long-record, job}
 use Rattle.answer.proofs.Settled.{convert-settled, convert-answers}
-use Rattle.desk.specs.Desk.{Seen, shut, begins, Written, noFile, longFile, askedBytes, jobOutcome, jobText, Shows, Holds}
+use Rattle.desk.specs.Desk.{Seen, shut, begins, Written, noFile, longFile, askedBytes, jobOutcome, jobText, Shows, Holds, Replies}
 
 -- no line's number is above m, so neither is the topmost that applies
 topmost-below : (m n : ℕ) (ls : List Line) → T (all (λ l. leb (l .number) m) ls) → Topmost ls n → n ≤ m
@@ -103,3 +103,16 @@ module _ {g r old xml new : List ℕ} {s t n l k : ℕ} {m v : Bool} where
       let d : Converts (programJob g r) (replicate programBytes 0) (record { number = n; length = l; ambiguous = m; version = v }) xml = rw (es, et, eo) at c in
       let p = convert-settled (programJob g r) (replicate programBytes 0) (record { number = n; length = l; ambiguous = m; version = v }) xml d in
       record { fits = w .fits; holds = w .holds (two-places (programJob g r) (replicate programBytes 0) (record { number = n; length = l; ambiguous = m; version = v }) xml d) ∙ (λ ι. shows (p .0 ι) (p .1 ι)) }
+
+-- a negated test
+pub closed : (b : Bool) → not b ≡ true → b ≡ false
+closed true e = absurd (clash refl e)
+closed false e = refl
+
+pub opened : (b : Bool) → not b ≡ false → b ≡ true
+opened true e = refl
+opened false e = absurd (clash e refl)
+
+-- a text that is held is what is replied
+pub replies : {p q x y : Bool} {g r new : List ℕ} {text : Text} {n : ℕ} → p ≡ x → q ≡ y → Holds text new n → Written x g y r text → Replies p g q r new n
+replies {g = g} {r = r} e f h w = record { fits = h .fits; written = rw (e, f, h .holds) w }

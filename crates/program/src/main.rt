@@ -48,7 +48,13 @@ fn run(at: usize)
     let g = first.count;
     let r = second.count;
     let mut out = [0u8; 65537];
-    let n = reply(first.readable, &grammar[..g], second.readable, &input[..r], &mut out);
+    let n = reply(
+        first.readable,
+        &grammar[..g],
+        second.readable,
+        &input[..r],
+        &mut out,
+    );
     if !io::write_all(STDOUT_FILENO, &out[..n]) {
         os::fail(b"ixml");
     }

@@ -9,7 +9,13 @@ pub struct Answer {
     pub version: bool,
 }
 
-pub fn ixml_convert(grammar: &[u8], input: &[u8], main: &mut [u32], second: &[u32], result: &mut [u8]) -> Answer
+pub fn ixml_convert(
+    grammar: &[u8],
+    input: &[u8],
+    main: &mut [u32],
+    second: &[u32],
+    result: &mut [u8],
+) -> Answer
     ensures { λ r. ⌜ Converted (job (now (grammar .entry)) (now (input .entry)) (length (now (main .entry))) (length (now (second .entry)))) (now (result .entry)) r (now (result .exit)) ⌝ }
 {
     Answer {

@@ -1,3 +1,7 @@
+use Prim.Native.Nat.{ℕ}
+use mathlib.Core.Path.{refl}
+use lib.ListN.{length-replicate}
+use Rattle.desk.proofs.Law.{job-shown}
 use borrow.Author.Needs.{needs}
 use Rattle.program.proofs.convert.Statement.{statement}
 use Rattle.program.proofs.convert.Tie as tie
@@ -32,7 +36,7 @@ show-requires c κs = search needs
 
 -- src/main.rt:13:1
 returns : tie.Need-returns
-returns c = ?
+returns c = job-shown (length-replicate {A = ℕ} 16384 0) (length-replicate {A = ℕ} 16384 0) refl (c .before .before .before .before .before .ixml-convert .ensures .defines) (c .show .ensures)
 
 pub convert-spec : {M : Type 1} → statement M
 convert-spec =

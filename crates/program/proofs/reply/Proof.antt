@@ -1,3 +1,6 @@
+use native.Mathlib.Omega.{arith}
+use mathlib.Core.Path.{refl}
+use Rattle.desk.proofs.Law.{unreadable-grammar, unreadable-record, record-too-long, computed-written, replies, closed, opened}
 use borrow.Author.Needs.{needs}
 use Rattle.program.proofs.reply.Statement.{statement}
 use Rattle.program.proofs.reply.Tie as tie
@@ -13,7 +16,7 @@ show-unreadable-requires c κs = search needs
 
 -- src/main.rt:29:9
 returns : tie.Need-returns
-returns c = ?
+returns c = replies (closed (c .before .before .before .before .before .args .first) (c .before .before .if1 .taken)) refl (c .show-unreadable .ensures) (unreadable-grammar (c .before .before .before .before .before .args .grammar .now) (c .before .before .before .before .before .args .input .now) (c .before .before .before .before .before .args .second))
 
 -- src/main.rt:32:9
 show-unreadable-requires-2 : tie.Need-show-unreadable-requires-2
@@ -21,7 +24,7 @@ show-unreadable-requires-2 c κs = search needs
 
 -- src/main.rt:32:9
 returns-2 : tie.Need-returns-2
-returns-2 c = ?
+returns-2 c = replies (opened (c .before .before .before .before .before .before .args .first) (c .before .before .before .if1 .left)) (closed (c .before .before .before .before .before .before .args .second) (c .before .before .if2 .taken)) (c .show-unreadable2 .ensures) (unreadable-record (c .before .before .before .before .before .before .args .grammar .now) (c .before .before .before .before .before .before .args .input .now))
 
 -- src/main.rt:35:9
 show-long-requires : tie.Need-show-long-requires
@@ -29,7 +32,7 @@ show-long-requires c κs = search needs
 
 -- src/main.rt:35:9
 returns-3 : tie.Need-returns-3
-returns-3 c = ?
+returns-3 c = replies (opened (c .before .before .before .before .before .before .before .args .first) (c .before .before .before .before .if1 .left)) (opened (c .before .before .before .before .before .before .before .args .second) (c .before .before .before .if2 .left)) (c .show-long .ensures) (record-too-long (c .before .before .before .before .before .before .before .args .grammar .now) (c .before .before .before .before .before .before .before .args .input .now) (omega (arith, c .before .before .if3 .taken)))
 
 -- src/main.rt:37:5
 convert-requires : tie.Need-convert-requires
@@ -37,7 +40,7 @@ convert-requires c κs = search needs
 
 -- src/main.rt:25:1
 returns-4 : tie.Need-returns-4
-returns-4 c = ?
+returns-4 c = replies (opened (c .before .before .before .before .before .before .before .args .first) (c .before .before .before .before .if1 .left)) (opened (c .before .before .before .before .before .before .before .args .second) (c .before .before .before .if2 .left)) (c .convert .ensures) (computed-written (c .before .before .before .before .before .before .before .args .grammar .now) (c .before .before .before .before .before .before .before .args .input .now) (omega (arith, c .before .before .if3 .left)))
 
 pub reply-spec : {M : Type 1} → statement M
 reply-spec =

@@ -1,3 +1,5 @@
+use mathlib.Core.Path.{sym}
+use lib.Seq.{length-take-le}
 use borrow.Author.Needs.{needs}
 use Rattle.program.proofs.run.Statement.{statement}
 use Rattle.program.proofs.run.Tie as tie
@@ -54,7 +56,7 @@ array-share-prefix-out c = search needs
 
 -- src/main.rt:52:38
 slice-aggregate-write-all : tie.Need-slice-aggregate-write-all
-slice-aggregate-write-all c = ?
+slice-aggregate-write-all c = sym (length-take-le _ _ (c .before .reply .ensures .fits))
 
 -- src/main.rt:52:9
 write-all-requires : tie.Need-write-all-requires
