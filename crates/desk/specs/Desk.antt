@@ -20,6 +20,11 @@ Onwards (More next) at m = (at < next) × (next ≤ m)
 Onwards End at m = Unit {0}
 Onwards Failed at m = Unit {0}
 
+-- what was in the buffer before that place is kept
+pub record Turned (t : Turn) (at : ℕ) (old new : List ℕ) : Type 0 where
+  pub onwards : Onwards t at (length new)
+  pub kept : take at new ≡ take at old
+
 -- a text put behind the first `at` bytes of a buffer, up to place r
 pub record Put (text : List ℕ) (at : ℕ) (old new : List ℕ) (r : ℕ) : Type 0 where
   pub ends : r ≡ at + length text

@@ -2,7 +2,7 @@
 ghost use Prim.Native.Nat.{_≤_};
 ghost use lib.ListN.{length};
 ghost use Rattle.io.specs.Counts.{Counts};
-ghost use Rattle.desk.specs.Desk.{Onwards};
+ghost use Rattle.desk.specs.Desk.{Turned};
 
 // Whether a file can be read, and how many of its bytes were.
 pub struct Loaded {
@@ -17,10 +17,10 @@ pub enum Turn {
     Failed,
 }
 
-// Reads once, into the buffer from a place on.
+// Reads once, into the buffer from a place on; what stands before it is kept.
 fn read_some(fd: i32, buf: &mut [u8], at: usize) -> Turn
     requires { ⌜ at ≤ length (now buf) ⌝ }
-    ensures { λ r. ⌜ Onwards r at (length (now (buf .exit))) ⌝ }
+    ensures { λ r. ⌜ Turned r at (now (buf .entry)) (now (buf .exit)) ⌝ }
 {
     let part = &mut buf[at..];
     let got = libc::read(fd, part);

@@ -3,7 +3,7 @@ use Prim.Native.Nat.{_≤_, _<_, _-_}
 use native.Mathlib.Omega.{arith}
 use lib.ListN.{length}
 use borrow.Author.Needs.{needs}
-use Rattle.desk.specs.Desk.{Onwards}
+use Rattle.desk.specs.Desk.{Turned}
 use Rattle.io.proofs.Counting.{counts}
 use Rattle.desk.proofs.files.fill.Statement.{statement}
 use Rattle.desk.proofs.files.fill.Tie as tie
@@ -43,12 +43,12 @@ enum-known-next c = search needs
 
 loop-less : tie.Need-loop-less Inv-loop μ-loop
 loop-less c =
-    let q = rw (c .before .next .given .1) at (c .before .before .before .before .before .read-some .ensures) in
+    let q = rw (c .before .next .given .1) at (c .before .before .before .before .before .read-some .ensures .onwards) in
     omega arith
 
 loop-again : tie.Need-loop-again Inv-loop μ-loop
 loop-again c =
-    let q = rw (c .before .next .given .1) at (c .before .before .before .before .before .read-some .ensures) in
+    let q = rw (c .before .next .given .1) at (c .before .before .before .before .before .read-some .ensures .onwards) in
     omega arith
 
 same-length-3 : tie.Need-same-length-3 Inv-loop μ-loop
