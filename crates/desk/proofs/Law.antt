@@ -1,22 +1,22 @@
 -- What is written follows from what is seen of two files.
 use mathlib.Core.Bool.{Bool, true, false, not}
-use mathlib.Core.Logic.{_⊎_, inl, inr, _↔_, ⊎-elim}
-use mathlib.Core.Path.{_≡_, refl, sym, subst, ap, _∙_}
-use mathlib.Core.List.{List, [], _∷_, _++_}
-use Prim.Native.Nat.{ℕ, _+_, _≤_, _<_}
+use mathlib.Core.Logic.{inl, ⊎-elim}
+use mathlib.Core.Path.{_≡_, refl, sym, subst, _∙_}
+use mathlib.Core.List.{List, [], _∷_}
+use Prim.Native.Nat.{ℕ, _≤_, _<_}
 use native.Mathlib.Omega.{arith}
-use lib.Dec.{T, ltb, leb, leb→le}
+use lib.Dec.{T, leb, leb→le}
 use lib.ListN.{length, take, replicate, length-take}
-use lib.Seq.{take-all, length-take-le}
+use lib.Seq.{take-all}
 use borrow.Author.Tests.{lt-ltb, le-ltb}
 use Rattle.text.specs.Limits.{grammarBytes, grammarTable, fileBytes, programBytes, programTable}
 use Rattle.text.specs.Lists.{Text, all}
 use Rattle.text.proofs.Tests.{split, and-left, and-right, clash}
-use Rattle.answer.specs.Answer.{Line, Topmost, Job, Answer, Answers, Converts, grammarLines, recordLines, documentLines, tooLong, asXml}
-use Rattle.answer.specs.Compute.{Outcome, convertOf}
-use Rattle.answer.specs.Program.{File, unreadable, bytes, shows, programJob, Writes, no-grammar, no-record, long-record, job}
+use Rattle.answer.specs.Answer.{Line, Topmost, Job, Answer, Converts, grammarLines, recordLines, documentLines, tooLong, asXml}
+use Rattle.answer.specs.Compute.{convertOf}
+use Rattle.answer.specs.Program.{File, bytes, shows, programJob, Writes, no-grammar, no-record, long-record, job}
 use Rattle.answer.proofs.Settled.{convert-settled, convert-answers}
-use Rattle.desk.specs.Desk.{Seen, shut, begins, Written, noFile, longFile, askedBytes, jobOutcome, jobText, Shows, Holds, Replies}
+use Rattle.desk.specs.Desk.{shut, begins, Written, noFile, longFile, askedBytes, jobOutcome, jobText, Shows, Holds, Replies}
 
 -- no line's number is above m, so neither is the topmost that applies
 topmost-below : (m n : ℕ) (ls : List Line) → T (all (λ l. leb (l .number) m) ls) → Topmost ls n → n ≤ m

@@ -1,19 +1,18 @@
 -- Texts put one behind the other into a buffer.
-use mathlib.Core.Bool.{Bool, true, false}
+use mathlib.Core.Bool.{Bool}
 use mathlib.Core.Logic.{⊎-elim}
-use mathlib.Core.Path.{_≡_, refl, sym, ap, _∙_}
+use mathlib.Core.Path.{_≡_, sym, ap, _∙_}
 use mathlib.Core.List.{List, [], _∷_, _++_, append-assoc}
 use Prim.Native.Nat.{ℕ, _+_, _/_, _%_, _≤_, _<_, min}
 use native.Mathlib.Nat.{min-eq-left, min-eq-right}
 use native.Mathlib.Omega.{arith}
-use lib.Dec.{eqb, ltb}
 use lib.ListN.{length, take, length-append}
 use lib.Seq.{take-at, take-all, take-length, length-take-le}
-use borrow.Author.Tests.{eq-eqb, ne-eqb, lt-ltb, le-ltb}
+use borrow.Author.Tests.{ne-eqb, lt-ltb, le-ltb}
 use Rattle.text.proofs.Tests.{split}
 use Rattle.xml.specs.Bytes.{failDocument}
-use Rattle.answer.specs.Program.{decimal, shows}
-use Rattle.desk.specs.Desk.{Put, Holds, Shows, refusal, bodyOf, answerOf}
+use Rattle.answer.specs.Program.{decimal}
+use Rattle.desk.specs.Desk.{Put, refusal, bodyOf}
 
 -- a text that was copied behind the first `at` bytes
 pub put-holds : (text old mid rest tail : List ℕ) (at n : ℕ) → at ≤ length old → n ≡ length text → mid ≡ take (length text) text ++ tail → Put text at old (take at old ++ (mid ++ rest)) (at + n)

@@ -4,41 +4,28 @@ use Rattle.desk.proofs.Law.{unreadable-grammar, unreadable-record, record-too-l
 use borrow.Author.Needs.{needs}
 use Rattle.program.proofs.reply.Statement.{statement}
 use Rattle.program.proofs.reply.Tie as tie
-use Rattle.program.proofs.reply.Reads as reads
-use Rattle.program.proofs.reply.Lts as lts
-use Rattle.desk.proofs.show_long.Reads as show-long-reads
-use Rattle.desk.proofs.show_unreadable.Reads as show-unreadable-reads
-use Rattle.program.proofs.convert.Reads as convert-reads
 
--- src/main.rt:29:9
 show-unreadable-requires : tie.Need-show-unreadable-requires
 show-unreadable-requires c κs = search needs
 
--- src/main.rt:29:9
 returns : tie.Need-returns
 returns c = replies (closed (c .before .before .before .before .before .args .first) (c .before .before .if1 .taken)) refl (c .show-unreadable .ensures) (unreadable-grammar (c .before .before .before .before .before .args .grammar .now) (c .before .before .before .before .before .args .input .now) (c .before .before .before .before .before .args .second))
 
--- src/main.rt:32:9
 show-unreadable-requires-2 : tie.Need-show-unreadable-requires-2
 show-unreadable-requires-2 c κs = search needs
 
--- src/main.rt:32:9
 returns-2 : tie.Need-returns-2
 returns-2 c = replies (opened (c .before .before .before .before .before .before .args .first) (c .before .before .before .if1 .left)) (closed (c .before .before .before .before .before .before .args .second) (c .before .before .if2 .taken)) (c .show-unreadable2 .ensures) (unreadable-record (c .before .before .before .before .before .before .args .grammar .now) (c .before .before .before .before .before .before .args .input .now))
 
--- src/main.rt:35:9
 show-long-requires : tie.Need-show-long-requires
 show-long-requires c κs = search needs
 
--- src/main.rt:35:9
 returns-3 : tie.Need-returns-3
 returns-3 c = replies (opened (c .before .before .before .before .before .before .before .args .first) (c .before .before .before .before .if1 .left)) (opened (c .before .before .before .before .before .before .before .args .second) (c .before .before .before .if2 .left)) (c .show-long .ensures) (record-too-long (c .before .before .before .before .before .before .before .args .grammar .now) (c .before .before .before .before .before .before .before .args .input .now) (omega (arith, c .before .before .if3 .taken)))
 
--- src/main.rt:37:5
 convert-requires : tie.Need-convert-requires
 convert-requires c κs = search needs
 
--- src/main.rt:25:1
 returns-4 : tie.Need-returns-4
 returns-4 c = replies (opened (c .before .before .before .before .before .before .before .args .first) (c .before .before .before .before .if1 .left)) (opened (c .before .before .before .before .before .before .before .args .second) (c .before .before .before .if2 .left)) (c .convert .ensures) (computed-written (c .before .before .before .before .before .before .before .args .grammar .now) (c .before .before .before .before .before .before .before .args .input .now) (omega (arith, c .before .before .if3 .left)))
 

@@ -1,9 +1,8 @@
-use mathlib.Core.Path.{_≡_, refl, sym}
-use Prim.Native.Nat.{_≤_, _<_, _-_}
+use mathlib.Core.Path.{_≡_, refl}
+use Prim.Native.Nat.{_≤_, _-_}
 use native.Mathlib.Omega.{arith}
 use lib.ListN.{length}
 use borrow.Author.Needs.{needs}
-use Rattle.desk.specs.Desk.{Turned}
 use Rattle.io.proofs.Counting.{counts}
 use Rattle.desk.proofs.files.fill.Statement.{statement}
 use Rattle.desk.proofs.files.fill.Tie as tie

@@ -4,56 +4,40 @@ use borrow.Rule.Slice.PartMut.{take-put}
 use borrow.Author.Needs.{needs}
 use Rattle.desk.proofs.files.read_some.Statement.{statement}
 use Rattle.desk.proofs.files.read_some.Tie as tie
-use Rattle.desk.proofs.files.read_some.Reads as reads
-use Rattle.desk.proofs.files.read_some.Lts as lts
-use Rattle.io.proofs.count.Reads as count-reads
-use Rattle.libc.proofs.read.Reads as read-reads
 
--- src/files.rt:25:16
 sub-part : tie.Need-sub-part
 sub-part c = search needs
 
--- src/files.rt:25:16
 part-part-start : tie.Need-part-part-start
 part-part-start c = search needs
 
--- src/files.rt:25:16
 part-part-end : tie.Need-part-part-end
 part-part-end c = search needs
 
--- src/files.rt:26:9
 read-requires : tie.Need-read-requires
 read-requires c κs = search needs
 
--- src/files.rt:28:9
 same-length : tie.Need-same-length
 same-length c = search needs
 
--- src/files.rt:28:9
 returns : tie.Need-returns
 returns c = record { onwards = search needs; kept = take-put (c .before .before .before .before .before .before .before .before .before .args .at) (length (c .before .before .before .before .before .before .before .before .before .args .buf .now) - c .before .before .before .before .before .before .before .before .before .args .at) (c .before .before .before .before .before .before .before .before .before .args .buf .now) (c .before .before .before .before .before .read .last .1 .0) (c .before .before .before .before .before .before .before .before .before .pre) }
 
--- src/files.rt:30:9
 count-requires : tie.Need-count-requires
 count-requires c κs = search needs
 
--- src/files.rt:32:9
 same-length-2 : tie.Need-same-length-2
 same-length-2 c = search needs
 
--- src/files.rt:32:9
 returns-2 : tie.Need-returns-2
 returns-2 c = record { onwards = search needs; kept = take-put (c .before .before .before .before .before .before .before .before .before .before .before .before .args .at) (length (c .before .before .before .before .before .before .before .before .before .before .before .before .args .buf .now) - c .before .before .before .before .before .before .before .before .before .before .before .before .args .at) (c .before .before .before .before .before .before .before .before .before .before .before .before .args .buf .now) (c .before .before .before .before .before .before .before .before .read .last .1 .0) (c .before .before .before .before .before .before .before .before .before .before .before .before .pre) }
 
--- src/files.rt:34:16
 add-t8 : tie.Need-add-t8
 add-t8 c = search needs
 
--- src/files.rt:21:1
 same-length-3 : tie.Need-same-length-3
 same-length-3 c = search needs
 
--- src/files.rt:21:1
 returns-3 : tie.Need-returns-3
 returns-3 c = record { onwards = search needs; kept = take-put (c .before .before .before .before .before .before .before .before .before .before .before .before .args .at) (length (c .before .before .before .before .before .before .before .before .before .before .before .before .args .buf .now) - c .before .before .before .before .before .before .before .before .before .before .before .before .args .at) (c .before .before .before .before .before .before .before .before .before .before .before .before .args .buf .now) (c .before .before .before .before .before .before .before .before .read .last .1 .0) (c .before .before .before .before .before .before .before .before .before .before .before .before .pre) }
 

@@ -3,35 +3,25 @@ use Rattle.desk.proofs.Texts.{put-holds}
 use borrow.Author.Needs.{needs}
 use Rattle.desk.proofs.output.put.Statement.{statement}
 use Rattle.desk.proofs.output.put.Tie as tie
-use Rattle.desk.proofs.output.put.Reads as reads
-use Rattle.desk.proofs.output.put.Lts as lts
-use Rattle.bytes.proofs.copy.Reads as copy-reads
 
--- src/output.rt:15:28
 sub-copy : tie.Need-sub-copy
 sub-copy c = search needs
 
--- src/output.rt:15:28
 part-copy-start : tie.Need-part-copy-start
 part-copy-start c = search needs
 
--- src/output.rt:15:28
 part-copy-end : tie.Need-part-copy-end
 part-copy-end c = search needs
 
--- src/output.rt:15:10
 copy-requires : tie.Need-copy-requires
 copy-requires c κs = search needs
 
--- src/output.rt:15:5
 add-result : tie.Need-add-result
 add-result c = search needs
 
--- src/output.rt:11:1
 same-length : tie.Need-same-length
 same-length c = search needs
 
--- src/output.rt:11:1
 returns : tie.Need-returns
 returns c = put-holds (c .before .before .before .before .before .before .args .text .now) (c .before .before .before .before .before .before .args .out .now) (c .before .before .copy .last .1 .0) _ _ (c .before .before .before .before .before .before .args .at) _ (omega arith) (c .before .before .copy .ensures .0) (c .before .before .copy .ensures .1)
 

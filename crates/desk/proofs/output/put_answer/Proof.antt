@@ -7,56 +7,39 @@ use Rattle.desk.proofs.Texts.{body-0, body-16, body-other}
 use borrow.Author.Needs.{needs}
 use Rattle.desk.proofs.output.put_answer.Statement.{statement}
 use Rattle.desk.proofs.output.put_answer.Tie as tie
-use Rattle.desk.proofs.output.put_answer.Reads as reads
-use Rattle.desk.proofs.output.put_answer.Lts as lts
-use Rattle.desk.proofs.output.least.Reads as least-reads
-use Rattle.desk.proofs.output.put.Reads as put-reads
-use Rattle.desk.proofs.output.put_fail.Reads as put-fail-reads
-use Rattle.desk.proofs.output.put_refused.Reads as put-refused-reads
 
--- src/output.rt:79:13
 least-requires : tie.Need-least-requires
 least-requires c κs = search needs
 
--- src/output.rt:80:20
 slice-aggregate-put : tie.Need-slice-aggregate-put
 slice-aggregate-put c = sym (length-take-le _ _ (omega (arith, c .before .least .ensures, min-le-right (c .before .before .before .before .before .args .size) (length (c .before .before .before .before .before .args .xml .now)))))
 
--- src/output.rt:80:9
 put-requires : tie.Need-put-requires
 put-requires c κs = let k = length-take-le (c .before .before .least .result) (c .before .before .before .before .before .before .args .xml .now) (omega (arith, c .before .before .least .ensures, min-le-right (c .before .before .before .before .before .before .args .size) (length (c .before .before .before .before .before .before .args .xml .now)))) in omega (arith, c .before .before .least .ensures, min-le-right (c .before .before .before .before .before .before .args .size) (length (c .before .before .before .before .before .before .args .xml .now)), c .before .before .before .before .before .before .pre)
 
--- src/output.rt:80:9
 same-length : tie.Need-same-length
 same-length c = search needs
 
--- src/output.rt:80:9
 returns : tie.Need-returns
 returns c =
     let k = length-take-le (c .before .before .before .before .before .least .result) (c .before .before .before .before .before .before .before .before .before .args .xml .now) (omega (arith, c .before .before .before .before .before .least .ensures, min-le-right (c .before .before .before .before .before .before .before .before .before .args .size) (length (c .before .before .before .before .before .before .before .before .before .args .xml .now)))) in
     (omega (arith, c .before .before .put .ensures .ends, c .before .before .before .before .before .least .ensures, min-le-right (c .before .before .before .before .before .before .before .before .before .args .size) (length (c .before .before .before .before .before .before .before .before .before .args .xml .now)), c .before .before .before .before .before .before .before .before .before .pre), λ h. body-0 (c .before .before .before .before .before .before .before .before .before .args .number) (c .before .before .before .before .before .before .before .before .before .args .size) (c .before .before .before .before .before .before .before .before .before .args .version) (c .before .before .before .before .before .before .before .before .before .args .xml .now) (c .before .before .before .before .before .before .if1 .taken) (c .before .before .before .before .before .least .ensures) (c .before .before .put .ensures))
 
--- src/output.rt:83:9
 put-fail-requires : tie.Need-put-fail-requires
 put-fail-requires c κs = search needs
 
--- src/output.rt:83:9
 same-length-2 : tie.Need-same-length-2
 same-length-2 c = search needs
 
--- src/output.rt:83:9
 returns-2 : tie.Need-returns-2
 returns-2 c = (omega (arith, c .before .before .put-fail .ensures .0), λ h. body-16 (c .before .before .before .before .before .before .before .before .args .number) (c .before .before .before .before .before .before .before .before .args .size) (c .before .before .before .before .before .before .before .before .args .version) (c .before .before .before .before .before .before .before .before .args .xml .now) (c .before .before .before .before .if2 .taken) (c .before .before .put-fail .ensures .1))
 
--- src/output.rt:85:5
 put-refused-requires : tie.Need-put-refused-requires
 put-refused-requires c κs = search needs
 
--- src/output.rt:74:1
 same-length-3 : tie.Need-same-length-3
 same-length-3 c = search needs
 
--- src/output.rt:74:1
 returns-3 : tie.Need-returns-3
 returns-3 c = (omega (arith, c .before .before .put-refused .ensures .0), λ h. body-other (c .before .before .before .before .before .before .before .before .args .number) (c .before .before .before .before .before .before .before .before .args .size) (c .before .before .before .before .before .before .before .before .args .version) (c .before .before .before .before .before .before .before .before .args .xml .now) (c .before .before .before .before .before .if1 .left) (c .before .before .before .before .if2 .left) (c .before .before .put-refused .ensures .1 h))
 

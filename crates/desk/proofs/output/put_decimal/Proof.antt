@@ -3,52 +3,37 @@ use Rattle.desk.proofs.Texts.{one-digit, two-digits}
 use borrow.Author.Needs.{needs}
 use Rattle.desk.proofs.output.put_decimal.Statement.{statement}
 use Rattle.desk.proofs.output.put_decimal.Tie as tie
-use Rattle.desk.proofs.output.put_decimal.Reads as reads
-use Rattle.desk.proofs.output.put_decimal.Lts as lts
-use Rattle.desk.proofs.output.digit.Reads as digit-reads
-use Rattle.desk.proofs.output.put.Reads as put-reads
 
--- src/output.rt:59:22
 digit-requires : tie.Need-digit-requires
 digit-requires c κs = search needs
 
--- src/output.rt:59:20
 slice-aggregate-put : tie.Need-slice-aggregate-put
 slice-aggregate-put c = search needs
 
--- src/output.rt:59:9
 put-requires : tie.Need-put-requires
 put-requires c κs = search needs
 
--- src/output.rt:59:9
 same-length : tie.Need-same-length
 same-length c = search needs
 
--- src/output.rt:59:9
 returns : tie.Need-returns
 returns c = (omega (arith, c .before .before .put .ensures .ends), λ h. one-digit (c .before .before .before .before .before .before .if1 .taken) (c .before .before .before .before .before .digit .ensures) (c .before .before .put .ensures))
 
--- src/output.rt:61:11
 digit-requires-2 : tie.Need-digit-requires-2
 digit-requires-2 c κs = search needs
 
--- src/output.rt:61:26
 digit-requires-3 : tie.Need-digit-requires-3
 digit-requires-3 c κs = search needs
 
--- src/output.rt:61:9
 slice-aggregate-put-2 : tie.Need-slice-aggregate-put-2
 slice-aggregate-put-2 c = search needs
 
--- src/output.rt:61:5
 put-requires-2 : tie.Need-put-requires-2
 put-requires-2 c κs = search needs
 
--- src/output.rt:54:1
 same-length-2 : tie.Need-same-length-2
 same-length-2 c = search needs
 
--- src/output.rt:54:1
 returns-2 : tie.Need-returns-2
 returns-2 c = (omega (arith, c .before .before .put2 .ensures .ends), λ h. two-digits (omega arith) h (c .before .before .before .before .before .before .digit2 .ensures) (c .before .before .before .before .before .digit3 .ensures) (c .before .before .put2 .ensures))
 

@@ -3,40 +3,29 @@ use Rattle.xml.specs.Bytes.{failDocument}
 use borrow.Author.Needs.{needs}
 use Rattle.desk.proofs.output.put_fail.Statement.{statement}
 use Rattle.desk.proofs.output.put_fail.Tie as tie
-use Rattle.desk.proofs.output.put_fail.Reads as reads
-use Rattle.desk.proofs.output.put_fail.Lts as lts
-use Rattle.desk.proofs.output.put.Reads as put-reads
 
--- src/output.rt:31:13
 slice-aggregate-put : tie.Need-slice-aggregate-put
 slice-aggregate-put c = search needs
 
--- src/output.rt:30:9
 put-requires : tie.Need-put-requires
 put-requires c κs = search needs
 
--- src/output.rt:30:9
 same-length : tie.Need-same-length
 same-length c = search needs
 
--- src/output.rt:30:9
 returns : tie.Need-returns
 unfolding failDocument
 returns c = (omega (arith, c .before .before .put .ensures .ends), rw (c .before .before .before .before .before .if1 .taken) (c .before .before .put .ensures .holds))
 
--- src/output.rt:37:9
 slice-aggregate-put-2 : tie.Need-slice-aggregate-put-2
 slice-aggregate-put-2 c = search needs
 
--- src/output.rt:36:5
 put-requires-2 : tie.Need-put-requires-2
 put-requires-2 c κs = search needs
 
--- src/output.rt:25:1
 same-length-2 : tie.Need-same-length-2
 same-length-2 c = search needs
 
--- src/output.rt:25:1
 returns-2 : tie.Need-returns-2
 unfolding failDocument
 returns-2 c = (omega (arith, c .before .before .put2 .ensures .ends), rw (c .before .before .before .before .before .if1 .left) (c .before .before .put2 .ensures .holds))

@@ -6,28 +6,19 @@ use Rattle.answer.specs.Program.{decimal}
 use borrow.Author.Needs.{needs}
 use Rattle.desk.proofs.output.put_refused.Statement.{statement}
 use Rattle.desk.proofs.output.put_refused.Tie as tie
-use Rattle.desk.proofs.output.put_refused.Reads as reads
-use Rattle.desk.proofs.output.put_refused.Lts as lts
-use Rattle.desk.proofs.output.put.Reads as put-reads
-use Rattle.desk.proofs.output.put_decimal.Reads as put-decimal-reads
 
--- src/output.rt:69:18
 slice-aggregate-put : tie.Need-slice-aggregate-put
 slice-aggregate-put c = search needs
 
--- src/output.rt:69:9
 put-requires : tie.Need-put-requires
 put-requires c κs = search needs
 
--- src/output.rt:70:5
 put-decimal-requires : tie.Need-put-decimal-requires
 put-decimal-requires c κs = search needs
 
--- src/output.rt:65:1
 same-length : tie.Need-same-length
 same-length c = search needs
 
--- src/output.rt:65:1
 returns : tie.Need-returns
 returns c = (omega (arith, c .before .before .before .before .before .before .put .ensures .ends, c .before .before .put-decimal .ensures .0), λ h. c .before .before .put-decimal .ensures .1 h ∙ ap (λ (x : List ℕ). x ++ decimal (c .before .before .before .before .before .before .before .before .before .before .args .n)) (c .before .before .before .before .before .before .put .ensures .holds))
 
