@@ -168,3 +168,16 @@ fn by_a_link_and_with_odd_names() {
     let output = command.args(names).current_dir(&directory).output();
     assert_eq!(output.expect("the program runs").stdout, b"<a>x</a>\n");
 }
+
+/// Files that come in pieces, so that a read gives less than is asked for.
+#[test]
+#[cfg_attr(not(ixml_convert), ignore = "built without ixml_convert")]
+fn from_pipes() {
+    let pieces =
+        r#""$0" <(printf 'a: '; sleep 0.2; printf '"xy".') <(printf x; sleep 0.2; printf y)"#;
+    let output = Command::new("bash")
+        .args(["-c", pieces])
+        .arg(program())
+        .output();
+    assert_eq!(output.expect("bash runs").stdout, b"<a>xy</a>\n");
+}
