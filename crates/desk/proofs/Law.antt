@@ -16,7 +16,7 @@ use Rattle.answer.specs.Answer.{Line, Topmost, Job, Answer, Converts, grammarLi
 use Rattle.answer.specs.Compute.{convertOf}
 use Rattle.answer.specs.Program.{File, bytes, shows, programJob, Writes, no-grammar, no-record, long-record, job}
 use Rattle.answer.proofs.Settled.{convert-settled, convert-answers}
-use Rattle.desk.specs.Desk.{shut, begins, Written, noFile, longFile, askedBytes, jobOutcome, jobText, Shows, Holds, Replies}
+use Rattle.desk.specs.Desk.{Seen, shut, begins, Written, noFile, longFile, askedBytes, jobOutcome, jobText, Shows, Holds, Replies}
 
 -- no line's number is above m, so neither is the topmost that applies
 topmost-below : (m n : ℕ) (ls : List Line) → T (all (λ l. leb (l .number) m) ls) → Topmost ls n → n ≤ m
@@ -53,6 +53,10 @@ seen-long bs h = let e = length-take askedBytes bs in omega arith
 
 seen-all : (bs : List ℕ) → length (take askedBytes bs) ≤ fileBytes → take askedBytes bs ≡ bs
 seen-all bs h = take-all askedBytes bs (let e = length-take askedBytes bs in omega arith)
+
+-- any bytes that fit are seen of some file
+pub some-file : (xs : List ℕ) → length xs ≤ askedBytes → Seen (bytes xs) true xs
+some-file xs h = begins (sym (take-all askedBytes xs h))
 
 -- the four things that may be written
 pub unreadable-grammar : (g r : List ℕ) (q : Bool) → Written false g q r noFile

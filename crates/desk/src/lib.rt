@@ -4,7 +4,6 @@ mod files;
 mod output;
 
 pub use files::Loaded;
-pub use files::Turn;
 pub use files::load;
 pub use output::show;
 pub use output::show_long;

@@ -15,6 +15,7 @@ fn put(text: &[u8], out: &mut [u8], at: usize) -> usize
     at + bytes::copy(text, &mut out[at..])
 }
 
+// The smaller of two counts.
 fn least(a: usize, b: usize) -> usize
     ensures { λ r. ⌜ r ≡ min a b ⌝ }
 {
