@@ -12,9 +12,32 @@ pub struct Vector {
     pub output: String,
 }
 
+/// A line of `tests/vectors/program.tsv`.
+pub struct Run {
+    pub job: Job,
+    /// What the program must write.
+    pub output: Vec<u8>,
+}
+
+fn text(name: &str) -> String {
+    let path = format!("{}/../tests/vectors/{name}", env!("CARGO_MANIFEST_DIR"));
+    std::fs::read_to_string(&path).expect(&path)
+}
+
+/// The vectors of the program.
+pub fn runs() -> Vec<Run> {
+    let run = |line: &str| {
+        let fields: Vec<&str> = line.split('\t').collect();
+        assert_eq!(fields.len(), 3, "{line}");
+        Run {
+            job: Job::new(bytes(fields[0]), bytes(fields[1])),
+            output: bytes(fields[2]),
+        }
+    };
+    text("program.tsv").lines().map(run).collect()
+}
+
 fn all() -> Vec<Vector> {
-    let path = concat!(env!("CARGO_MANIFEST_DIR"), "/../tests/vectors/calls.tsv");
-    let text = std::fs::read_to_string(path).expect(path);
     let vector = |line: &str| {
         let fields: Vec<&str> = line.split('\t').collect();
         assert_eq!(fields.len(), 11, "{line}");
@@ -25,7 +48,7 @@ fn all() -> Vec<Vector> {
             output: fields[6..].join("\t"),
         }
     };
-    text.lines().map(vector).collect()
+    text("calls.tsv").lines().map(vector).collect()
 }
 
 /// The vectors of a call.

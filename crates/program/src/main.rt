@@ -1,0 +1,74 @@
+// ixml GRAMMAR RECORD: writes what the record file is by the grammar file. More pairs of files are
+// run one after the other, so that one run tests many.
+
+ghost use mathlib.Core.Path.{_≡_};
+ghost use Prim.Native.Nat.{_+_, _≤_, _<_};
+ghost use lib.ListN.{length};
+ghost use Rattle.desk.specs.Desk.{Holds, jobText, Replies};
+use libc::STDOUT_FILENO;
+use calls::ixml_convert;
+
+// What is written for a job, with the tables and the buffer that the program lends.
+fn convert(grammar: &[u8], input: &[u8], out: &mut [u8; 65537]) -> usize
+    ensures { λ n. ⌜ Holds (jobText (now (grammar .entry)) (now (input .entry))) (now (out .exit)) n ⌝ }
+{
+    let mut main_table = [0u32; 16384];
+    let grammar_table = [0u32; 16384];
+    let mut xml = [0u8; 65536];
+    let a = ixml_convert(grammar, input, &mut main_table, &grammar_table, &mut xml);
+    desk::show(a.number, a.length, a.version, &xml, out)
+}
+
+// What is written for two files, by what is seen of them: whether each can be read, and its first
+// 4,097 bytes.
+fn reply(first: bool, grammar: &[u8], second: bool, input: &[u8], out: &mut [u8; 65537]) -> usize
+    ensures { λ n. ⌜ Replies first (now (grammar .entry)) second (now (input .entry)) (now (out .exit)) n ⌝ }
+{
+    if !first {
+        return desk::show_unreadable(out);
+    }
+    if !second {
+        return desk::show_unreadable(out);
+    }
+    if 4096 < input.len() {
+        return desk::show_long(out);
+    }
+    convert(grammar, input, out)
+}
+
+// Runs the job of the files that argument `at` and the next one name.
+fn run(at: usize)
+    requires { ⌜ at + 1 < 18446744073709551616 ⌝ }
+{
+    let mut grammar = [0u8; 4097];
+    let mut input = [0u8; 4097];
+    let first = desk::load(at, &mut grammar);
+    let second = desk::load(at + 1, &mut input);
+    let g = first.count;
+    let r = second.count;
+    let mut out = [0u8; 65537];
+    let n = reply(
+        first.readable,
+        &grammar[..g],
+        second.readable,
+        &input[..r],
+        &mut out,
+    );
+    if !io::write_all(STDOUT_FILENO, &out[..n]) {
+        os::fail(b"ixml");
+    }
+}
+
+// The first two arguments, and each two that follow.
+fn main() {
+    let n = os::arg_count();
+    run(1);
+    let mut at = 3;
+    while at < n {
+        run(at);
+        if n - at <= 2 {
+            return;
+        }
+        at += 2;
+    }
+}

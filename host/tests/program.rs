@@ -1,0 +1,183 @@
+//! The program `./ixml`, run on files: all shared test vectors, and what else
+//! may be named as a file. `IXML_PROGRAM` may name another program to test.
+
+mod common;
+
+use std::ffi::OsString;
+use std::fs::{self, File};
+use std::os::unix::fs::symlink;
+use std::path::{Path, PathBuf};
+use std::process::{Command, Output};
+use std::sync::atomic::{AtomicUsize, Ordering};
+use std::sync::OnceLock;
+use std::thread;
+use std::time::{Duration, Instant};
+
+use common::vectors;
+use ixml_yardstick::program as yardstick;
+
+/// Enough that a start of the program is never too slow, and too little to
+/// read a gigabyte more than once.
+const SOON: Duration = Duration::from_secs(5);
+
+/// The program, built.
+fn program() -> &'static Path {
+    static BUILT: OnceLock<PathBuf> = OnceLock::new();
+    BUILT.get_or_init(|| {
+        let own = Path::new(env!("CARGO_MANIFEST_DIR")).join("../ixml");
+        let program = std::env::var_os("IXML_PROGRAM").map_or(own, PathBuf::from);
+        let program = program.canonicalize().expect("the program");
+        let files = ["/dev/null", "/dev/null"];
+        let output = Command::new(&program).args(files).output();
+        let output = output.expect("the program runs");
+        let complaints = String::from_utf8_lossy(&output.stderr);
+        assert!(output.status.success(), "{complaints}");
+        program
+    })
+}
+
+/// An empty directory for the files of a test.
+fn directory(name: &str) -> PathBuf {
+    let directory = Path::new(env!("CARGO_TARGET_TMPDIR")).join(name);
+    let _ = fs::remove_dir_all(&directory);
+    fs::create_dir_all(&directory).expect("a directory");
+    directory
+}
+
+fn run(directory: &Path, arguments: &[&str]) -> Output {
+    let mut command = Command::new(program());
+    command.args(arguments).current_dir(directory);
+    command.output().expect("the program runs")
+}
+
+/// Runs the program on two files; it may write nothing else.
+fn writes(directory: &Path, grammar: &str, record: &str) -> Vec<u8> {
+    let output = run(directory, &[grammar, record]);
+    let complaints = String::from_utf8_lossy(&output.stderr);
+    assert_eq!(complaints, "", "{grammar:?} {record:?}");
+    assert_eq!(output.status.code(), Some(0), "{grammar:?} {record:?}");
+    output.stdout
+}
+
+#[test]
+#[cfg_attr(not(ixml_convert), ignore = "built without ixml_convert")]
+fn all_vectors() {
+    let runs = vectors::runs();
+    assert!(runs.len() > 2000);
+    let next = AtomicUsize::new(0);
+    let work = |worker: usize| {
+        let directory = directory(&format!("vectors-{worker}"));
+        while let Some(run) = runs.get(next.fetch_add(1, Ordering::Relaxed)) {
+            fs::write(directory.join("grammar"), &run.job.grammar).expect("written");
+            fs::write(directory.join("record"), &run.job.record).expect("written");
+            let output = writes(&directory, "grammar", "record");
+            assert_eq!(
+                output.escape_ascii().to_string(),
+                run.output.escape_ascii().to_string(),
+                "{:?}",
+                run.job
+            );
+        }
+    };
+    let workers = thread::available_parallelism().map_or(1, usize::from);
+    thread::scope(|scope| {
+        for worker in 0..workers {
+            scope.spawn(move || work(worker));
+        }
+    });
+}
+
+/// Every pair of some files, of which some cannot be read.
+#[test]
+#[cfg_attr(not(ixml_convert), ignore = "built without ixml_convert")]
+fn all_pairs() {
+    let directory = directory("pairs");
+    let long = |length: usize| [b"a: \"x\".".to_vec(), vec![b' '; length - 7]].concat();
+    let files = [
+        ("grammar", Some(b"a: ~[]*.".to_vec())),
+        ("a record", Some(b"x<\n".to_vec())),
+        ("empty", Some(Vec::new())),
+        ("4096", Some(long(4096))),
+        ("4097", Some(long(4097))),
+        ("1000000", Some(long(1_000_000))),
+        ("folder", None),
+        ("missing", None),
+        ("folder/missing", None),
+        ("", None),
+    ];
+    fs::create_dir(directory.join("folder")).expect("a directory");
+    for (name, content) in &files {
+        if let Some(content) = content {
+            fs::write(directory.join(name), content).expect("written");
+        }
+    }
+    for (grammar, first) in &files {
+        for (record, second) in &files {
+            let expected = yardstick(first.as_deref(), second.as_deref());
+            let output = writes(&directory, grammar, record);
+            assert_eq!(output, expected, "{grammar:?} {record:?}");
+        }
+    }
+}
+
+#[test]
+#[cfg_attr(not(ixml_convert), ignore = "built without ixml_convert")]
+fn a_long_file_is_not_read_whole() {
+    let directory = directory("long");
+    fs::write(directory.join("grammar"), "a: \"x\".").expect("written");
+    let gigabyte = File::create(directory.join("gigabyte")).expect("a file");
+    gigabyte.set_len(1 << 30).expect("a hole");
+    program();
+    let started = Instant::now();
+    assert_eq!(writes(&directory, "gigabyte", "grammar"), b"refused 1\n");
+    assert_eq!(writes(&directory, "grammar", "gigabyte"), b"refused 14\n");
+    assert_eq!(writes(&directory, "gigabyte", "gigabyte"), b"refused 14\n");
+    // Files without an end.
+    assert_eq!(writes(&directory, "/dev/zero", "grammar"), b"refused 1\n");
+    assert_eq!(writes(&directory, "grammar", "/dev/zero"), b"refused 14\n");
+    assert!(started.elapsed() < SOON);
+}
+
+#[test]
+#[cfg_attr(not(ixml_convert), ignore = "built without ixml_convert")]
+fn arguments_that_are_missing_or_too_many() {
+    let directory = directory("arguments");
+    fs::write(directory.join("grammar"), "a: \"x\".").expect("written");
+    let wrong: [(&[&str], &str); 3] = [
+        (&[], "unreadable\n"),
+        (&["grammar"], "unreadable\n"),
+        (&["grammar", "grammar", "grammar"], ""),
+    ];
+    for (arguments, written) in wrong {
+        let output = run(&directory, arguments);
+        assert_eq!(output.status.code(), Some(2), "{arguments:?}");
+        assert_eq!(output.stdout, written.as_bytes(), "{arguments:?}");
+        assert_eq!(output.stderr, b"usage: ./ixml GRAMMAR RECORD\n");
+    }
+}
+
+#[test]
+#[cfg_attr(not(ixml_convert), ignore = "built without ixml_convert")]
+fn by_a_link_and_with_odd_names() {
+    let directory = directory("names");
+    fs::write(directory.join("-g *"), "a: \"x\".").expect("written");
+    fs::write(directory.join("r\n'$x"), "x").expect("written");
+    symlink(program(), directory.join("link")).expect("a link");
+    let names = [OsString::from("-g *"), OsString::from("r\n'$x")];
+    let mut command = Command::new(directory.join("link"));
+    let output = command.args(names).current_dir(&directory).output();
+    assert_eq!(output.expect("the program runs").stdout, b"<a>x</a>\n");
+}
+
+/// Files that come in pieces, so that a read gives less than is asked for.
+#[test]
+#[cfg_attr(not(ixml_convert), ignore = "built without ixml_convert")]
+fn from_pipes() {
+    let pieces =
+        r#""$0" <(printf 'a: '; sleep 0.2; printf '"xy".') <(printf x; sleep 0.2; printf y)"#;
+    let output = Command::new("bash")
+        .args(["-c", pieces])
+        .arg(program())
+        .output();
+    assert_eq!(output.expect("bash runs").stdout, b"<a>xy</a>\n");
+}
