@@ -2,3 +2,4 @@ pub mod Lines
 pub mod Agree
 pub mod Settled
 pub mod Stages
+pub mod Demands

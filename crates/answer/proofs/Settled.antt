@@ -28,7 +28,7 @@ use Rattle.answer.proofs.Lines.{one-topmost, Agree, first-topmost}
 use Rattle.answer.proofs.Agree.{Tests, grammar-agrees, record-agrees, document-agrees, tree-known, reading-known, same-test, less, tree-sound, tree-complete}
 
 -- two tests of one fact are one
-same-mark : (a b : Bool) (A : Type 0) → T a ↔ A → T b ↔ A → a ≡ b
+pub same-mark : (a b : Bool) (A : Type 0) → T a ↔ A → T b ↔ A → a ≡ b
 same-mark true b A p q = sym (T-true b (q .1 (p .0 tt)))
 same-mark false b A p q = sym (T-false b (λ t. p .1 (q .0 t)))
 

@@ -1,11 +1,11 @@
 -- From the start of a job to its reading.
 use mathlib.Core.Bool.{Bool, true, false, _||_}
 use mathlib.Core.Path.{_≡_, refl, sym, ap, _∙_, subst}
-use mathlib.Core.Logic.{_⊎_, inl, inr, ⊎-elim, _↔_}
+use mathlib.Core.Logic.{_⊎_, inl, inr, ⊎-elim}
 use mathlib.Core.List.{List, [], _∷_, _++_}
 use Prim.Native.Nat.{ℕ, _+_, _*_, _≤_, _<_}
 use native.Mathlib.Omega.{arith}
-use lib.Dec.{T, ltb}
+use lib.Dec.{ltb}
 use lib.ListN.{length, take, drop, length-take, take-append-drop}
 use lib.Seq.{take-take}
 use borrow.Author.Tests.{ltb-false}
@@ -37,6 +37,7 @@ use Rattle.load.proofs.Stages.{to-size}
 use Rattle.answer.specs.Answer.{Job, tableNeed}
 use Rattle.answer.specs.Compute.{Test, firstOf, recordTests}
 use Rattle.answer.proofs.Stages.{stage-16, stage-29, stage-read}
+use Rattle.answer.proofs.Settled.{same-mark}
 use Rattle.reading.specs.declared.Walked.{Walked}
 use Rattle.reading.specs.declared.Walked.the-variants.{Reading as A-reading, TooLong, NoReading}
 use Rattle.reading.proofs.Walked.{the-type}
@@ -66,12 +67,6 @@ lawful g e = go (undefined g) (duplicate g) (beyond g) (banned g) (backwards g) 
     go false false false false true h p q r s e = absurd (let z : _≡_ {A = ℕ} 9 0 = e in omega arith)
     go false false false false false true p q r s e = absurd (let z : _≡_ {A = ℕ} 10 0 = e in omega arith)
     go false false false false false false p q r s e = record { defined = p; simple = q; within = r; classed = s }
-
-both-true : (a b : Bool) → T a ↔ T b → a ≡ b
-both-true true true h = refl
-both-true true false h = absurd (h .0 tt)
-both-true false true h = absurd (h .1 tt)
-both-true false false h = refl
 
 or-false : (a b : Bool) → (a || b) ≡ false → a ≡ false
 or-false true b e = e
@@ -157,7 +152,7 @@ module _ (j : Job) (Tab new : List ℕ) (s : Start) (w : Started j Tab new s) wh
                 first = λ ts. w .grammar .first (recordTests j ts) ∙ stage-read j ts r (w .input .decoded) (w .input .within) (w .input .short) g (w .grammar .is) (w .enough) (a .tree) c (omega (arith, a .short));
                 row = a .tree;
                 choice = c;
-                mark = both-true mark (ambiguousOf g r (a .tree)) (λ t. amb .1 (a .ambiguous .0 t), λ t. a .ambiguous .1 (amb .0 t));
+                mark = same-mark mark (ambiguousOf g r (a .tree)) (Second g r (a .parse)) (a .ambiguous) amb;
                 count = n;
                 short = a .short;
                 list = a .list ∙ p;

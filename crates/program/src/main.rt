@@ -5,8 +5,8 @@ ghost use mathlib.Core.Path.{_≡_};
 ghost use Prim.Native.Nat.{_+_, _≤_, _<_};
 ghost use lib.ListN.{length};
 ghost use Rattle.desk.specs.Desk.{Holds, jobText, Replies};
-use libc::STDOUT_FILENO;
 use calls::ixml_convert;
+use libc::STDOUT_FILENO;
 
 // What is written for a job, with the tables and the buffer that the program lends.
 fn convert(grammar: &[u8], input: &[u8], out: &mut [u8; 65537]) -> usize
