@@ -87,6 +87,27 @@ fn all_vectors() {
     });
 }
 
+/// The grammars and records of demo/ give what the README shows.
+#[test]
+#[cfg_attr(not(ixml_convert), ignore = "built without ixml_convert")]
+fn demos() {
+    let demo = Path::new(env!("CARGO_MANIFEST_DIR")).join("../demo");
+    let shown = fs::read_to_string(demo.join("expected.txt")).expect("what the demos write");
+    let readme = fs::read_to_string(demo.join("../README.md")).expect("the README");
+    let mut lines = shown.lines();
+    let mut count = 0;
+    while let Some(title) = lines.next() {
+        let files = title.strip_prefix("== ").expect("a title");
+        let (grammar, record) = files.split_once(", ").expect("two files");
+        let expected = lines.next().expect("a line of XML");
+        let output = writes(&demo, grammar, record);
+        assert_eq!(String::from_utf8_lossy(&output), format!("{expected}\n"), "{title}");
+        assert!(readme.contains(expected), "the README shows {title}");
+        count += 1;
+    }
+    assert_eq!(count, 5);
+}
+
 /// Every pair of some files, of which some cannot be read.
 #[test]
 #[cfg_attr(not(ixml_convert), ignore = "built without ixml_convert")]
