@@ -101,7 +101,11 @@ fn demos() {
         let (grammar, record) = files.split_once(", ").expect("two files");
         let expected = lines.next().expect("a line of XML");
         let output = writes(&demo, grammar, record);
-        assert_eq!(String::from_utf8_lossy(&output), format!("{expected}\n"), "{title}");
+        assert_eq!(
+            String::from_utf8_lossy(&output),
+            format!("{expected}\n"),
+            "{title}"
+        );
         assert!(readme.contains(expected), "the README shows {title}");
         count += 1;
     }
