@@ -4,10 +4,8 @@
 //! Otherwise it is `target/staticlib/libcalls.a` of the repository, made by
 //! `rt staticlib calls` where it is missing or older than a file of `crates/`.
 //!
-//! Checking a grammar and the categories have been in the library from the
-//! start. For each other call that the archive has there is a `cfg`:
-//! `ixml_read`, `ixml_convert`. For the tests there is `xmllint` where that
-//! program is found.
+//! An archive that lacks one of the four calls is not linked. For the tests there
+//! is a `cfg` `xmllint` where that program is found.
 
 use std::path::{Path, PathBuf};
 use std::process::Command;
@@ -15,8 +13,7 @@ use std::time::SystemTime;
 use std::{env, fs, io};
 
 const ARCHIVE: &str = "libcalls.a";
-const ALWAYS: [&str; 2] = ["ixml_check", "ixml_category"];
-const LATER: [&str; 2] = ["ixml_read", "ixml_convert"];
+const CALLS: [&str; 4] = ["ixml_check", "ixml_category", "ixml_read", "ixml_convert"];
 
 fn main() {
     println!("cargo:rerun-if-env-changed=IXML_LIB_DIR");
@@ -31,11 +28,8 @@ fn main() {
     let symbols = symbols(&content)
         .unwrap_or_else(|| panic!("{} is no archive with an index", archive.display()));
     let has = |call: &str| symbols.contains(&call.as_bytes());
-    for call in ALWAYS {
+    for call in CALLS {
         assert!(has(call), "{} has no {call}", archive.display());
-    }
-    for call in LATER.into_iter().filter(|call| has(call)) {
-        println!("cargo:rustc-cfg={call}");
     }
     if has_xmllint() {
         println!("cargo:rustc-cfg=xmllint");

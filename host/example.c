@@ -41,7 +41,11 @@ static int convert(const char *grammar, const char *record)
             result, result_length);
         if (answer.number == IXML_ANSWERED) {
             fwrite(result, 1, answer.length, stdout);
-            puts(answer.ambiguous ? " (ambiguous)" : "");
+            putchar('\n');
+            if (answer.ambiguous)
+                fputs("ambiguous: there is another reading\n", stderr);
+            if (answer.version)
+                fputs("the grammar declares another version than 1.0\n", stderr);
             status = 0;
         } else if (answer.number == IXML_NO_READING) {
             puts("the grammar does not derive the record");

@@ -13,11 +13,11 @@ use ixml::limits::{GRAMMAR_TABLE, MAIN_TABLE, READING_NUMBERS};
 use ixml::Answer;
 use ixml_yardstick::gen;
 
-const TABLES: [(&str, bool, fn()); 4] = [
-    ("check", true, check_table),
-    ("read", ixml::HAS_READ, read_table),
-    ("convert", ixml::HAS_CONVERT, convert_table),
-    ("write", ixml::HAS_READ && ixml::HAS_CONVERT, write_table),
+const TABLES: [(&str, fn()); 4] = [
+    ("check", check_table),
+    ("read", read_table),
+    ("convert", convert_table),
+    ("write", write_table),
 ];
 
 fn main() {
@@ -26,17 +26,10 @@ fn main() {
         .skip(1)
         .filter(|a| a != "--bench")
         .collect();
-    for (name, present, table) in TABLES {
-        if !chosen.is_empty() && !chosen.iter().any(|choice| choice == name) {
-            continue;
-        }
-        if present {
+    for (name, table) in TABLES {
+        if chosen.is_empty() || chosen.iter().any(|choice| choice == name) {
             table();
             println!();
-        } else {
-            println!(
-                "The library was built without a call that table `{name}` is about: skipped.\n"
-            );
         }
     }
 }

@@ -2,12 +2,6 @@
 
 use crate::{ffi, Answer};
 
-/// Whether the library was built with [`read`].
-pub const HAS_READ: bool = cfg!(ixml_read);
-
-/// Whether the library was built with [`convert`].
-pub const HAS_CONVERT: bool = cfg!(ixml_convert);
-
 /// Checks a grammar: the numbers 0 to 11.
 ///
 /// ```
@@ -29,8 +23,8 @@ pub fn check(grammar: &[u8]) -> Answer {
 /// The tables are scratch: what they hold before a call sways nothing. The
 /// lengths that they need are [`main_table`](crate::limits::main_table) and
 /// [`GRAMMAR_TABLE`](crate::limits::GRAMMAR_TABLE).
-#[cfg_attr(ixml_read, doc = "\n```")]
-#[cfg_attr(not(ixml_read), doc = "\n```ignore")]
+///
+/// ```
 /// use ixml::limits::{main_table_for, GRAMMAR_TABLE, READING_NUMBERS};
 ///
 /// let record = b"xx";
@@ -47,10 +41,6 @@ pub fn check(grammar: &[u8]) -> Answer {
 /// assert_eq!(answer.number, 0);
 /// assert_eq!(result[..answer.length], [0, 0, 0, 1]);
 /// ```
-///
-/// # Panics
-///
-/// If the library was built without the call; see [`HAS_READ`].
 pub fn read(
     grammar: &[u8],
     record: &[u8],
@@ -83,8 +73,8 @@ pub fn read(
 /// refusal all of them, are as they were.
 ///
 /// The tables are scratch, as for [`read`].
-#[cfg_attr(ixml_convert, doc = "\n```")]
-#[cfg_attr(not(ixml_convert), doc = "\n```ignore")]
+///
+/// ```
 /// use ixml::limits::{main_table, GRAMMAR_TABLE};
 ///
 /// // The grammar is of size 2, the record has one character.
@@ -101,10 +91,6 @@ pub fn read(
 /// assert_eq!((answer.number, answer.length), (0, 8));
 /// assert_eq!(&result, b"<a>x</a>..");
 /// ```
-///
-/// # Panics
-///
-/// If the library was built without the call; see [`HAS_CONVERT`].
 pub fn convert(
     grammar: &[u8],
     record: &[u8],

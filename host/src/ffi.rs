@@ -5,30 +5,10 @@
 
 use crate::Answer;
 
-/// Declares a call. If the library was built without it, a function that only
-/// panics takes its place.
-macro_rules! call {
-    ($present:meta, fn $name:ident($($argument:ident: $type:ty),* $(,)?) -> $answer:ty) => {
-        #[cfg($present)]
-        extern "C" {
-            pub fn $name($($argument: $type),*) -> $answer;
-        }
-
-        #[cfg(not($present))]
-        pub unsafe fn $name($(_: $type),*) -> $answer {
-            panic!(concat!("the library was built without ", stringify!($name)))
-        }
-    };
-}
-
 extern "C" {
     pub fn ixml_check(grammar: *const u8, grammar_length: usize) -> Answer;
     pub fn ixml_category(code: u32) -> u32;
-}
-
-call!(
-    ixml_read,
-    fn ixml_read(
+    pub fn ixml_read(
         grammar: *const u8,
         grammar_length: usize,
         record: *const u8,
@@ -39,12 +19,8 @@ call!(
         grammar_table_length: usize,
         result: *mut u32,
         result_length: usize,
-    ) -> Answer
-);
-
-call!(
-    ixml_convert,
-    fn ixml_convert(
+    ) -> Answer;
+    pub fn ixml_convert(
         grammar: *const u8,
         grammar_length: usize,
         record: *const u8,
@@ -55,5 +31,5 @@ call!(
         grammar_table_length: usize,
         result: *mut u8,
         result_length: usize,
-    ) -> Answer
-);
+    ) -> Answer;
+}

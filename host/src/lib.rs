@@ -4,8 +4,7 @@
 //! input has an answer; nothing is required of a caller.
 //!
 //! [`Reader`] is the short way: it provides all the memory that a job needs.
-#![cfg_attr(ixml_convert, doc = "```")]
-#![cfg_attr(not(ixml_convert), doc = "```ignore")]
+//! ```
 //! let grammar = "p: @lat, -' ', @lon. lat: d+. lon: d+. -d: ['0'-'9'].";
 //! let converted = ixml::Reader::new().convert(grammar, "45 12")?;
 //! assert_eq!(converted.xml, "<p lat='45' lon='12'/>");
@@ -28,7 +27,7 @@ pub mod limits;
 mod reader;
 
 pub use answer::Answer;
-pub use calls::{check, convert, read, HAS_CONVERT, HAS_READ};
+pub use calls::{check, convert, read};
 pub use category::{category, Category};
 pub use error::Error;
 pub use reader::{Converted, Reader, Reading};

@@ -47,8 +47,8 @@ impl Reader {
     }
 
     /// Reads a record. The error is none of 15 and 17 to 23.
-    #[cfg_attr(ixml_read, doc = "\n```")]
-    #[cfg_attr(not(ixml_read), doc = "\n```ignore")]
+    ///
+    /// ```
     /// use ixml::{Error, Reader};
     ///
     /// let mut reader = Reader::new();
@@ -60,11 +60,6 @@ impl Reader {
     /// assert!(matches!(refusal, Error::NoReading { .. }));
     /// # Ok::<(), Error>(())
     /// ```
-    ///
-    /// # Panics
-    ///
-    /// If the library was built without the call; see
-    /// [`HAS_READ`](crate::HAS_READ).
     pub fn read(
         &mut self,
         grammar: impl AsRef<[u8]>,
@@ -89,8 +84,8 @@ impl Reader {
     }
 
     /// Converts a record to XML. The error is neither 15 nor 23.
-    #[cfg_attr(ixml_convert, doc = "\n```")]
-    #[cfg_attr(not(ixml_convert), doc = "\n```ignore")]
+    ///
+    /// ```
     /// use ixml::{Error, Reader};
     ///
     /// let mut reader = Reader::new();
@@ -101,11 +96,6 @@ impl Reader {
     /// assert_eq!(refusal, Error::AttributeRoot);
     /// # Ok::<(), Error>(())
     /// ```
-    ///
-    /// # Panics
-    ///
-    /// If the library was built without the call; see
-    /// [`HAS_CONVERT`](crate::HAS_CONVERT).
     pub fn convert(
         &mut self,
         grammar: impl AsRef<[u8]>,

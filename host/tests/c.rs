@@ -109,10 +109,6 @@ fn the_header_agrees_with_the_wrapper() {
 }
 
 #[test]
-#[cfg_attr(
-    not(ixml_convert),
-    ignore = "the library was built without ixml_convert"
-)]
 fn the_example_converts_records() {
     let compiled = temporary("example");
     let source = Path::new(HOST).join("example.c");
@@ -123,7 +119,7 @@ fn the_example_converts_records() {
         (&["a: 'x'*.", "xx"], "<a>xx</a>\n", 0),
         (
             &["a: 'x'; 'x'.", "x"],
-            "<a xmlns:ixml='http://invisiblexml.org/NS' ixml:state='ambiguous'>x</a> (ambiguous)\n",
+            "<a xmlns:ixml='http://invisiblexml.org/NS' ixml:state='ambiguous'>x</a>\n",
             0,
         ),
         (

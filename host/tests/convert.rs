@@ -8,9 +8,8 @@ use std::process::Command;
 use std::sync::OnceLock;
 
 use common::xml::{canonical, document, parse, Event};
-use common::{jobs, on_small_stack, vectors, Call, Converting, Job, Lender, Reading, Room, Tally};
+use common::{jobs, on_small_stack, vectors, Converting, Job, Lender, Reading, Room, Tally};
 use ixml::limits::{GRAMMAR_TABLE, READING_NUMBERS};
-use ixml::Answer;
 use ixml_yardstick::gen::Random;
 
 const JOBS: usize = 50_000;
@@ -18,29 +17,20 @@ const JOBS: usize = 50_000;
 /// Documents with what an XML parser must find in them.
 type Documents = BTreeMap<String, Vec<Event>>;
 
-/// The document that the job's reading must become: the library's own reading
-/// if it can read.
+/// The document that the library's own reading of the job must become.
 fn expected_document(job: &Job, lender: &mut Lender<Reading>) -> Vec<Event> {
     let room = Room {
         main_table: job.main_table().expect("an accepted job"),
         grammar_table: GRAMMAR_TABLE,
         result: READING_NUMBERS,
     };
-    let (answer, numbers): (Answer, Vec<u32>) = if ixml::HAS_READ {
-        let (answer, numbers) = lender.run(job, room, 5);
-        (answer, numbers.to_vec())
-    } else {
-        let mut numbers = vec![0; room.result];
-        let answer = Reading::yardstick(job, room, &mut numbers);
-        numbers.truncate(answer.length);
-        (answer, numbers)
-    };
+    let (answer, numbers) = lender.run(job, room, 5);
     assert_eq!(answer.number, 0, "{job:?}");
     let text = |bytes: &[u8]| String::from_utf8(bytes.to_vec()).expect("accepted as UTF-8");
     document(
         &text(&job.grammar),
         &text(&job.record),
-        &numbers,
+        numbers,
         answer.ambiguous,
         answer.version,
     )
@@ -75,10 +65,6 @@ fn run_made_up_jobs() -> (Tally, Documents) {
 }
 
 #[test]
-#[cfg_attr(
-    not(ixml_convert),
-    ignore = "the library was built without ixml_convert"
-)]
 fn made_up_jobs_agree_with_the_yardstick() {
     let (tally, documents) = made_up_jobs();
     tally.assert_each([0, 4, 5, 12, 13, 14, 16, 17, 18, 19, 20, 21, 22], 50);
@@ -113,10 +99,6 @@ fn escaping_jobs() -> Vec<Job> {
 }
 
 #[test]
-#[cfg_attr(
-    not(ixml_convert),
-    ignore = "the library was built without ixml_convert"
-)]
 fn escapes_are_read_back() {
     on_small_stack(|| {
         let mut lender: Lender<Converting> = Lender::new(1 << 17);
@@ -155,10 +137,6 @@ fn xmllint(arguments: &[&str], files: &[PathBuf]) -> Vec<u8> {
 
 /// xmllint accepts every document by itself, and finds in them what it must.
 #[test]
-#[cfg_attr(
-    not(ixml_convert),
-    ignore = "the library was built without ixml_convert"
-)]
 #[cfg_attr(
     not(xmllint),
     ignore = "xmllint (Debian's libxml2-utils) is not installed"

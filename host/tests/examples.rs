@@ -26,7 +26,6 @@ fn reading(grammar: &str, record: &str) -> String {
 }
 
 #[test]
-#[cfg_attr(not(ixml_convert), ignore = "built without ixml_convert")]
 fn readings() {
     let position = "lat: d+. lon: d+. -d: [\"0\"-\"9\"].";
     let clear = format!("p: @lat, -\" \", @lon. {position}");
@@ -46,7 +45,6 @@ fn readings() {
 }
 
 #[test]
-#[cfg_attr(not(ixml_convert), ignore = "built without ixml_convert")]
 fn documents() {
     let position = "lat: d+. lon: d+. -d: [\"0\"-\"9\"].";
     let two_ways = format!("p: (@lat, -\" \", @lon; @lon, -\" \", @lat). {position}");
@@ -114,7 +112,6 @@ fn url(changes: &[(&str, &str)]) -> String {
 }
 
 #[test]
-#[cfg_attr(not(ixml_convert), ignore = "built without ixml_convert")]
 fn specification() {
     let record = "http://www.w3.org/TR/1999/xhtml.html";
     let host = "<host><sub>www</sub>.<sub>w3</sub>.<sub>org</sub></host>";

@@ -34,31 +34,21 @@ fn run_timed<C: Call>(jobs: Vec<Job>) {
 }
 
 #[test]
-#[cfg_attr(not(ixml_read), ignore = "the library was built without ixml_read")]
 fn awkward_jobs_are_read() {
     run_all::<Reading>(jobs::awkward());
 }
 
 #[test]
-#[cfg_attr(
-    not(ixml_convert),
-    ignore = "the library was built without ixml_convert"
-)]
 fn awkward_jobs_are_converted() {
     run_all::<Converting>(jobs::awkward());
 }
 
 #[test]
-#[cfg_attr(not(ixml_read), ignore = "the library was built without ixml_read")]
 fn full_size_grammars_are_read() {
     run_timed::<Reading>(jobs::full_size());
 }
 
 #[test]
-#[cfg_attr(
-    not(ixml_convert),
-    ignore = "the library was built without ixml_convert"
-)]
 fn full_size_grammars_are_converted() {
     run_timed::<Converting>(jobs::full_size());
 }

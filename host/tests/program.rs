@@ -60,7 +60,6 @@ fn writes(directory: &Path, grammar: &str, record: &str) -> Vec<u8> {
 }
 
 #[test]
-#[cfg_attr(not(ixml_convert), ignore = "built without ixml_convert")]
 fn all_vectors() {
     let runs = vectors::runs();
     assert!(runs.len() > 2000);
@@ -89,7 +88,6 @@ fn all_vectors() {
 
 /// The grammars and records of demo/ give what the README shows.
 #[test]
-#[cfg_attr(not(ixml_convert), ignore = "built without ixml_convert")]
 fn demos() {
     let demo = Path::new(env!("CARGO_MANIFEST_DIR")).join("../demo");
     let shown = fs::read_to_string(demo.join("expected.txt")).expect("what the demos write");
@@ -114,7 +112,6 @@ fn demos() {
 
 /// Every pair of some files, of which some cannot be read.
 #[test]
-#[cfg_attr(not(ixml_convert), ignore = "built without ixml_convert")]
 fn all_pairs() {
     let directory = directory("pairs");
     let long = |length: usize| [b"a: \"x\".".to_vec(), vec![b' '; length - 7]].concat();
@@ -146,7 +143,6 @@ fn all_pairs() {
 }
 
 #[test]
-#[cfg_attr(not(ixml_convert), ignore = "built without ixml_convert")]
 fn a_long_file_is_not_read_whole() {
     let directory = directory("long");
     fs::write(directory.join("grammar"), "a: \"x\".").expect("written");
@@ -164,7 +160,6 @@ fn a_long_file_is_not_read_whole() {
 }
 
 #[test]
-#[cfg_attr(not(ixml_convert), ignore = "built without ixml_convert")]
 fn arguments_that_are_missing_or_too_many() {
     let directory = directory("arguments");
     fs::write(directory.join("grammar"), "a: \"x\".").expect("written");
@@ -182,7 +177,6 @@ fn arguments_that_are_missing_or_too_many() {
 }
 
 #[test]
-#[cfg_attr(not(ixml_convert), ignore = "built without ixml_convert")]
 fn by_a_link_and_with_odd_names() {
     let directory = directory("names");
     fs::write(directory.join("-g *"), "a: \"x\".").expect("written");
@@ -196,7 +190,6 @@ fn by_a_link_and_with_odd_names() {
 
 /// Files that come in pieces, so that a read gives less than is asked for.
 #[test]
-#[cfg_attr(not(ixml_convert), ignore = "built without ixml_convert")]
 fn from_pipes() {
     let pieces =
         r#""$0" <(printf 'a: '; sleep 0.2; printf '"xy".') <(printf x; sleep 0.2; printf y)"#;

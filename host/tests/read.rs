@@ -9,7 +9,6 @@ use ixml_yardstick::gen::Random;
 const JOBS: usize = 50_000;
 
 #[test]
-#[cfg_attr(not(ixml_read), ignore = "the library was built without ixml_read")]
 fn made_up_jobs_agree_with_the_yardstick() {
     on_small_stack(|| {
         let mut random = Random::new(4);

@@ -56,16 +56,11 @@ fn vectors_of_check() {
 }
 
 #[test]
-#[cfg_attr(not(ixml_read), ignore = "the library was built without ixml_read")]
 fn vectors_of_read() {
     run_vectors("read", 1200);
 }
 
 #[test]
-#[cfg_attr(
-    not(ixml_convert),
-    ignore = "the library was built without ixml_convert"
-)]
 fn vectors_of_convert() {
     run_vectors("convert", 1400);
 }
@@ -133,7 +128,6 @@ where
 }
 
 #[test]
-#[cfg_attr(not(ixml_read), ignore = "the library was built without ixml_read")]
 fn made_up_jobs_are_read_as_the_yardstick_does() {
     run_made_up_jobs::<Reading>("read", |numbers| {
         let numbers: Vec<String> = numbers.iter().map(u32::to_string).collect();
@@ -142,10 +136,6 @@ fn made_up_jobs_are_read_as_the_yardstick_does() {
 }
 
 #[test]
-#[cfg_attr(
-    not(ixml_convert),
-    ignore = "the library was built without ixml_convert"
-)]
 fn made_up_jobs_are_converted_as_the_yardstick_does() {
     run_made_up_jobs::<Converting>("convert", hex);
 }

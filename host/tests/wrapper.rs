@@ -61,7 +61,6 @@ fn checking_marks_another_version() {
 }
 
 #[test]
-#[cfg_attr(not(ixml_read), ignore = "the library was built without ixml_read")]
 fn a_reader_reads_jobs_of_all_lengths() {
     let mut reader = Reader::new();
     for record in ["xx", "", &"x".repeat(120), "x"] {
@@ -87,10 +86,6 @@ fn a_reader_reads_jobs_of_all_lengths() {
 }
 
 #[test]
-#[cfg_attr(
-    not(ixml_convert),
-    ignore = "the library was built without ixml_convert"
-)]
 fn a_reader_converts_jobs_of_all_lengths() {
     let mut reader = Reader::new();
     let converted = reader

@@ -15,8 +15,9 @@ use Rattle.load.specs.declared.Passed.{Passed}
 use Rattle.load.specs.declared.Judged.{Judged}
 use Rattle.load.specs.declared.Judged.the-variants.{Grammar as Accepted, Refused}
 use Rattle.load.specs.Loaded.{Turned, Kept, Loads}
+use Rattle.job.specs.Stages.{whyJudged}
 use Rattle.calls.specs.declared.Answer.{Answer}
-use Rattle.calls.specs.Calls.{shown, Checked, whyOf}
+use Rattle.calls.specs.Calls.{shown, Checked}
 
 answer : ℕ → Bool → defined.Answer
 answer n v = record { number = n; length = 0; ambiguous = false; version = v }
@@ -39,10 +40,10 @@ kept-is bs T p k = ap (λ (n : ℕ). outcome [] (mismatch bs) n (result [] false
 checked : (bs : List ℕ) (a : Answer) → shown a ≡ checkOf bs → Checked bs a
 checked bs a e = record { computed = e; defines = subst (Checks bs) (sym e) (check-answers bs) }
 
-pub refuses : (bs T : List ℕ) (j : Judged) (k n : ℕ) → j ≡ Refused k → n ≡ whyOf j → Loads bs T j → Checked bs (record { number = n; length = 0; ambiguous = false; version = false })
+pub refuses : (bs T : List ℕ) (j : Judged) (k n : ℕ) → j ≡ Refused k → n ≡ whyJudged j → Loads bs T j → Checked bs (record { number = n; length = 0; ambiguous = false; version = false })
 unfolding answer
 refuses bs T j k n q e l =
-    let w : n ≡ k = e ∙ ap whyOf q in
+    let w : n ≡ k = e ∙ ap whyJudged q in
     rw w (checked bs (record { number = k; length = 0; ambiguous = false; version = false }) (sym (refused-is bs k (subst (Loads bs T) q l))))
 
 pub accepts : (bs T : List ℕ) (j : Judged) (p : Passed) → j ≡ Accepted p → Loads bs T j → Checked bs (record { number = 0; length = 0; ambiguous = false; version = p .mismatch })

@@ -7,8 +7,6 @@ use lib.Dec.{eqb}
 use Rattle.answer.specs.Answer as defined
 use Rattle.answer.specs.Answer.{Job, Checks, Reads, Converts}
 use Rattle.answer.specs.Compute.{checkOf, readOf, convertOf}
-use Rattle.load.specs.declared.Judged.{Judged}
-use Rattle.load.specs.declared.Judged.the-variants.{Grammar as Accepted, Refused}
 use Rattle.job.specs.declared.Begun.{Begun}
 use Rattle.job.specs.declared.Begun.the-variants.{At, Refused as Ended}
 use Rattle.job.specs.declared.Read.{Read}
@@ -24,10 +22,6 @@ shown a = record { number = a .number; length = a .length; ambiguous = a .ambigu
 pub record Checked (bs : List ℕ) (a : Answer) : Type 0 where
   pub computed : shown a ≡ checkOf bs
   pub defines : Checks bs (shown a)
-
-abbrev pub whyOf : Judged → ℕ
-whyOf (Accepted p) = 0
-whyOf (Refused n) = n
 
 abbrev pub whyBegun : Begun → ℕ
 whyBegun (At s) = 0

@@ -7,7 +7,7 @@ ghost use lib.Dec.{eqb};
 ghost use lib.ListN.{length, take, drop};
 ghost use Rattle.category.specs.Category.{categoryNumber};
 ghost use Rattle.job.specs.Stages.{job};
-ghost use Rattle.calls.specs.Calls.{Checked, whyOf, whyBegun, whyRead, whyConverted, refusalOf, ReadAs, ConvertedAs};
+ghost use Rattle.calls.specs.Calls.{Checked, whyBegun, whyRead, whyConverted, refusalOf, ReadAs, ConvertedAs};
 use convert::Converted;
 use job::Begun;
 use job::Read;
@@ -22,16 +22,6 @@ pub struct Answer {
     pub version: bool,
 }
 
-// The number of a refusal.
-fn why(judged: Judged) -> u32
-    ensures { λ r. ⌜ r ≡ whyOf judged ⌝ }
-{
-    match judged {
-        Judged::Grammar(_) => 0,
-        Judged::Refused(number) => number,
-    }
-}
-
 // Checks a grammar.
 #[no_mangle]
 pub extern "C" fn ixml_check(grammar: &[u8]) -> Answer
@@ -41,7 +31,7 @@ pub extern "C" fn ixml_check(grammar: &[u8]) -> Answer
     let judged = load::load_grammar(grammar, &mut table);
     let Judged::Grammar(kept) = judged else {
         return Answer {
-            number: why(judged),
+            number: job::why_judged(judged),
             length: 0,
             ambiguous: false,
             version: false,

@@ -4,7 +4,7 @@ use Rattle.calls.proofs.ixml_check.Statement.{statement}
 use Rattle.calls.proofs.ixml_check.Tie as tie
 use Rattle.calls.proofs.ixml_check.Reads as reads
 use Rattle.calls.proofs.ixml_check.Lts as lts
-use Rattle.calls.proofs.why.Reads as why-reads
+use Rattle.job.proofs.why_judged.Reads as why-judged-reads
 use Rattle.load.proofs.load_grammar.Reads as load-grammar-reads
 
 -- src/lib.rt:32:46
@@ -24,12 +24,12 @@ enum-told : tie.Need-enum-told
 enum-told c = search needs
 
 -- src/lib.rt:35:21
-why-requires : tie.Need-why-requires
-why-requires c κs = search needs
+why-judged-requires : tie.Need-why-judged-requires
+why-judged-requires c κs = search needs
 
 -- src/lib.rt:34:9
 returns : tie.Need-returns
-returns c = refuses _ _ _ _ _ (c .before .enum-told .given .1) (c .why .ensures) (c .before .before .before .before .load-grammar .ensures)
+returns c = refuses _ _ _ _ _ (c .before .enum-told .given .1) (c .why-judged .ensures) (c .before .before .before .before .load-grammar .ensures)
 
 -- src/lib.rt:27:1
 returns-2 : tie.Need-returns-2
@@ -43,6 +43,6 @@ ixml-check-spec =
     load-grammar-requires
     enum-known-judged
     enum-told
-    why-requires
+    why-judged-requires
     returns
     returns-2)

@@ -3,8 +3,7 @@
 //! A line of standard input has the first six columns of
 //! `tests/vectors/calls.tsv`, and may have more; a line of standard output has
 //! the last five, and a sixth with the word `touched` if the call changed a
-//! cell that is not its result's. For a call that the library was built
-//! without the line is the word `skipped`.
+//! cell that is not its result's.
 
 mod lent;
 
@@ -41,21 +40,11 @@ fn main() -> ExitCode {
 
 fn run() -> Result<(), String> {
     let mut output = io::stdout().lock();
-    let mut skipped = 0;
     for (number, line) in (1..).zip(io::stdin().lock().lines()) {
         let at_line = |error: String| format!("line {number}: {error}");
         let line = line.map_err(|error| at_line(error.to_string()))?;
         let job = Job::parse(&line).map_err(at_line)?;
-        let outcome = if job.call.is_present() {
-            job.run()
-        } else {
-            skipped += 1;
-            "skipped".to_string()
-        };
-        writeln!(output, "{outcome}").map_err(|error| at_line(error.to_string()))?;
-    }
-    if skipped > 0 {
-        eprintln!("calls: skipped {skipped} lines whose call the library was built without");
+        writeln!(output, "{}", job.run()).map_err(|error| at_line(error.to_string()))?;
     }
     Ok(())
 }
@@ -65,16 +54,6 @@ enum Call {
     Check,
     Read,
     Convert,
-}
-
-impl Call {
-    fn is_present(self) -> bool {
-        match self {
-            Call::Check => true,
-            Call::Read => ixml::HAS_READ,
-            Call::Convert => ixml::HAS_CONVERT,
-        }
-    }
 }
 
 /// A line of input.
