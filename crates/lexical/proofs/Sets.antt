@@ -14,7 +14,7 @@ use Rattle.syntax.specs.Result.{Result, ok, fail, hd, tl, map, when, then, guar
 use Rattle.syntax.specs.Spacing.{skip, spaced}
 use Rattle.syntax.specs.Lexical.{read-chars, one-character, read-character, read-class, range-or, read-member}
 use Rattle.syntax.proofs.Classes.{capital-end, letter-end}
-use Rattle.lexical.specs.declared.CharPlace.{CharPlace}
+use Rattle.decode.specs.declared.CharPlace.{CharPlace}
 use Rattle.lexical.specs.declared.Cell.{Cell}
 use Rattle.lexical.specs.declared.Past.{Past}
 use Rattle.lexical.specs.declared.Past.the-variants.{At as Past-at, No as Past-no}

@@ -1,4 +1,5 @@
 // The words of a grammar text: spacing, strings, hex numbers, classes, sets, marks and names. What is read goes into a table.
+use decode::CharPlace;
 ghost use mathlib.Core.Path.{_≡_};
 ghost use mathlib.Core.Bool.{Bool, true, false, _&&_};
 ghost use Prim.Native.Nat.{ℕ, _+_, _*_, _-_, _<_, _≤_};
@@ -12,9 +13,7 @@ ghost use Rattle.syntax.specs.Result.{hd};
 ghost use Rattle.syntax.specs.Lexical.{read-string, read-hex, digits as Digits, run, quoted, read-name, read-use, ended as Ended};
 ghost use Rattle.lexical.specs.Answers.{After-comment, After-skip, Step-in, Spaced, Room, Space, After-token, After-copy, Copied, After-number, After-chars, Headable, headed, Tokenable, Chars-token, Range-end, Chars-in, Past-chars, After-name, After-chars-token, three, After-class, After-rest, After-filled, After-member, After-members, After-set, After-mark, Stops};
 
-// Places of the text and cells of the table have types of their own.
-pub struct CharPlace(pub usize);
-
+// A cell of the table. Places of the text are the decoder's: neither is taken for the other.
 pub struct Cell(pub usize);
 
 // Where something ends in the text.

@@ -1,6 +1,6 @@
 // The reader of a grammar text: its tree as tokens in a table, or that the text is none.
+use decode::CharPlace;
 use lexical::Cell;
-use lexical::CharPlace;
 use lexical::Marked;
 use lexical::Past;
 use lexical::Step;

@@ -1,12 +1,11 @@
--- Text: UTF-8, the byte order mark, the alphabet, and the two kinds of place.
+-- Text: UTF-8, the byte order mark, the alphabet.
 use mathlib.Core.Bool.{Bool}
 use mathlib.Core.Path.{_≡_}
 use mathlib.Core.Logic.{_⊎_}
 use mathlib.Core.List.{List, [], _∷_, _++_}
 use Prim.Native.Nat.{ℕ, _+_, _/_, _%_, _<_, _≤_}
 use lib.Dec.{ltb, leb, eqb}
-use lib.ListN.{length, take}
-use Rattle.text.specs.Lists.{Text, pick, all}
+use Rattle.text.specs.Lists.{Text, pick}
 
 -- a Unicode scalar value: a code point that is no surrogate
 pub record Scalar (c : ℕ) : Type 0 where
@@ -42,7 +41,3 @@ unmarked (c ∷ cs) = pick (eqb c 0xfeff) cs (c ∷ cs)
 -- "a character above U+00FF": the alphabet of grammars and records
 unfoldable pub known : ℕ → Bool
 known c = leb c 0xff
-
--- "A place counted in characters is never taken for a place counted in bytes": the byte place of the character place k
-unfoldable pub bytePlace : Text → ℕ → ℕ
-bytePlace cs k = length (utf8s (take k cs))
