@@ -1,8 +1,8 @@
 -- What the loops do to the table, one step after the other.
 use mathlib.Core.Path.{_≡_, refl, sym, subst, _∙_}
 use mathlib.Core.List.{List, []}
-use Prim.Native.Nat.{ℕ, _+_, _-_, _<_, _≤_, max}
-use native.Mathlib.Decide.{ℕ-discrete}
+use Prim.Native.Nat.{ℕ, _+_, _-_, _<_, _≤_, max, min}
+use native.Mathlib.Decide.{decLt, ℕ-discrete}
 use native.Mathlib.Omega.{arith}
 use lib.ListN.{length, getD, set}
 use lib.Seq.{getD-set-same, getD-set-other}
@@ -37,11 +37,28 @@ module _ (f : ℕ → ℕ) (lo : ℕ) where
     some = λ b. let s = a .some b in record { place = s .place; from = s .from; below = omega (arith, s .below); is = s .is };
   }
 
+  pub lowest-next : (m v w : ℕ) → lo ≤ m → Lowest f lo m v → w ≡ min v (f m) → Lowest f lo (m + 1) w
+  lowest-next m v w h a e = elim (decLt (f m) v) as (λ _. Lowest f lo (m + 1) w) [
+    | yes l ↦ lowest-lower m v w h a (omega arith) (omega arith)
+    | no l ↦ (let z : w ≡ v = omega arith in rw z (lowest-same m v (f m) a refl (omega arith)))
+  ]
+
   pub lowest-end : (m hi v : ℕ) → hi ≤ m → m ≤ max lo hi → Lowest f lo m v → Lowest f lo hi v
   lowest-end m hi v h l a = record {
     low = λ k hk lk. a .low k hk (omega arith);
     some = λ b. let s = a .some b in record { place = s .place; from = s .from; below = omega (arith, s .from, s .below); is = s .is };
   }
+
+-- the same of equal values
+pub lowest-of : (f g : ℕ → ℕ) (lo hi v : ℕ) → ((m : ℕ) → f m ≡ g m) → Lowest f lo hi v → Lowest g lo hi v
+lowest-of f g lo hi v e a = record {
+  low = λ m h l. omega (arith, e m, a .low m h l);
+  some = λ b. let s = a .some b in record { place = s .place; from = s .from; below = s .below; is = s .is ∙ e (s .place) };
+}
+
+-- nothing is inside an empty stretch
+pub lowest-empty : (f : ℕ → ℕ) (i j : ℕ) → j ≤ i → Lowest f (i + 1) j none
+lowest-empty f i j h = record { low = λ m k l. absurd (omega arith); some = λ b. absurd (omega arith) }
 
 -- no split inside a stretch before an end
 pub lowest-none : (c t : List ℕ) (n p i j : ℕ) → kindAt c (p + 1) ≡ 0 → Lowest (splitOf c t n p i j) (i + 1) j none

@@ -1,10 +1,10 @@
 // The engine: the main table filled with least heights, one stretch after the other, each until nothing changes.
 ghost use mathlib.Core.Path.{_≡_};
-ghost use Prim.Native.Nat.{_+_, _<_, _≤_};
+ghost use Prim.Native.Nat.{_+_, _<_, _≤_, max, min};
 ghost use lib.ListN.{length};
 ghost use Rattle.code.specs.Code.{kindAt};
 ghost use Rattle.code.specs.Heights.{cellAt};
-ghost use Rattle.engine.specs.Table.{valueOf, upOf, splitOf, Room, Shape, Safe, Place};
+ghost use Rattle.engine.specs.Table.{valueOf, upOf, splitOf, joinOf, Room, Shape, Safe, Place};
 ghost use Rattle.engine.specs.Sweep.{Lowered, Handed, Lowest, Shifted, Offer, Held, HeldFrom, InnerAt, InnerFrom, Split, Steps, Swept, Closed, Settled, Only, EndsAt, ColumnFrom, Clear, Filled};
 
 // No derivation.
@@ -69,6 +69,50 @@ fn split(
     a
 }
 
+fn larger(a: u32, b: u32) -> u32
+    ensures { λ r. ⌜ r ≡ max a b ⌝ }
+{
+    if a < b {
+        return b;
+    }
+    a
+}
+
+// The lower of v and a split whose symbol has the height a and whose rest has b.
+fn better(a: u32, b: u32, v: u32) -> u32
+    ensures { λ r. ⌜ r ≡ min v (max (upOf a) b) ⌝ }
+{
+    if v <= a {
+        return v;
+    }
+    if v <= b {
+        return v;
+    }
+    let w = larger(up(a), b);
+    if w < v {
+        return w;
+    }
+    v
+}
+
+// The best split inside the stretch into the rule e and the position q. The places of both cells run along, with no product.
+fn join(main: &[u32], size: usize, n: usize, e: usize, q: usize, i: usize, j: usize) -> u32
+    requires { ⌜ Room size n (length (now main)) × Place size n e i j × Place size n q i j × (i < j) ⌝ }
+    ensures { λ r. ⌜ Lowest (joinOf (now (main .entry)) n e q i j) (i + 1) j r ⌝ }
+{
+    let mut m = i + 1;
+    let mut x = cell(n, e, i, m);
+    let mut y = cell(n, q, m, j);
+    let mut v = NONE;
+    while m < j {
+        v = better(main[x], main[y], v);
+        m += 1;
+        y += 1;
+        x += m;
+    }
+    v
+}
+
 // The best split inside the stretch. Before an end there is none.
 fn best(code: &[u32], main: &[u32], size: usize, n: usize, p: usize, i: usize, j: usize) -> u32
     requires { ⌜ Shape (now code) size n (length (now main)) × Place size n p i j × (kindAt (now code) p ≡ 2) ⌝ }
@@ -77,16 +121,11 @@ fn best(code: &[u32], main: &[u32], size: usize, n: usize, p: usize, i: usize, j
     if code[4 * (p + 1)] == 0 {
         return NONE;
     }
-    let mut v = NONE;
-    let mut m = i + 1;
-    while m < j {
-        let w = split(code, main, size, n, p, i, j, m);
-        m += 1;
-        if w < v {
-            v = w;
-        }
+    if j <= i {
+        return NONE;
     }
-    v
+    let e = code[4 * p + 2] as usize;
+    join(main, size, n, e, p + 1, i, j)
 }
 
 // Lowers the cell of p to v, where v is lower; 1 where it is.
@@ -256,7 +295,6 @@ fn settle(code: &[u32], fits: &[u8], main: &mut [u32], size: usize, n: usize, i:
     ensures { λ r. ⌜ Settled (now (code .entry)) (now (fits .entry)) size n (Only i j) (λ t. Closed (now (code .entry)) (now (fits .entry)) size n t i j) (now (main .entry)) (now (main .exit)) ⌝ }
 {
     inner(code, main, size, n, i, j);
-    pass(code, fits, main, size, n, i, j);
     while pass(code, fits, main, size, n, i, j) != 0 {
         climb(code, fits, main, size, n, i, j);
     }
