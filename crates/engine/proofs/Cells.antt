@@ -54,6 +54,14 @@ right-step n p i m = omega (arith, before-tri m, before-tri-next m)
 pub left-step : (n p m j : ℕ) → cellAt n p m j + 1 ≡ cellAt n p (m + 1) j
 left-step n p m j = omega arith
 
+-- a part of a stretch
+module _ {size n p i j : ℕ} (h : Place size n p i j) (m : ℕ) (a : i ≤ m) (b : m ≤ j) where
+  pub to-place : Place size n p i m
+  to-place = record { inside = h .inside; order = a; stop = omega (arith, h .stop) }
+
+  pub from-place : Place size n p m j
+  from-place = record { inside = h .inside; order = b; stop = h .stop }
+
 -- what a position names, on a part of its stretch
 module _ {c : List ℕ} {size n len p i j : ℕ} (s : Shape c size n len) (h : Place size n p i j) where
   pub next-place : (m : ℕ) → (kindAt c p ≡ 0 → ⊥) → i ≤ m → m ≤ j → Place size n (p + 1) m j

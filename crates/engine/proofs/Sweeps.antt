@@ -1,17 +1,17 @@
 -- What the loops do to the table, one step after the other.
-use mathlib.Core.Path.{_≡_, refl, sym, subst, _∙_}
+use mathlib.Core.Path.{_≡_, refl, sym, ap, subst, _∙_}
 use mathlib.Core.List.{List, []}
 use Prim.Native.Nat.{ℕ, _+_, _-_, _<_, _≤_, max, min}
 use native.Mathlib.Decide.{decLt, ℕ-discrete}
 use native.Mathlib.Omega.{arith}
 use lib.ListN.{length, getD, set}
 use lib.Seq.{getD-set-same, getD-set-other}
-use Rattle.code.specs.Code.{kindAt, goesAt}
+use Rattle.code.specs.Code.{kindAt, ruleAt, goesAt}
 use Rattle.code.specs.Heights.{cellAt, none}
-use Rattle.engine.specs.Table.{valueOf, splitOf, Shape, Place}
+use Rattle.engine.specs.Table.{valueOf, upOf, splitOf, joinOf, Shape, Place}
 use Rattle.engine.specs.Sweep.{cellOf, Gives, by-terminal, by-split, by-owned, Steps, stay, step, Only, EndsAt, Any, Lowered, lowered, kept, Handed, free, handed, Lowest, Shifted, Under, Offer, OwnerUnder, CellUnder, Held, HeldFrom, InnerAt, InnerFrom, Split, Swept, Closed, Settled, ColumnFrom, Before, sumOf}
 use Rattle.engine.proofs.Cells.{owner-place}
-use Rattle.engine.proofs.Values.{value-gap}
+use Rattle.engine.proofs.Values.{value-gap, value-cell}
 use Rattle.engine.proofs.Lowering.{in-range, steps-join, steps-widen, steps-le, steps-sum, steps-same, value-same, split-same, sum-set}
 
 pub clear-next : (t : List ℕ) (x : ℕ) → x < length t → ((y : ℕ) → y < x → getD t y 0 ≡ none) → (y : ℕ) → y < x + 1 → getD (set t x none) y 0 ≡ none
@@ -55,6 +55,18 @@ lowest-of f g lo hi v e a = record {
   low = λ m h l. omega (arith, e m, a .low m h l);
   some = λ b. let s = a .some b in record { place = s .place; from = s .from; below = s .below; is = s .is ∙ e (s .place) };
 }
+
+-- one split more, by the places of its cells
+pub join-next : (t : List ℕ) (n e q i j m v w x y : ℕ) → i + 1 ≤ m → x ≡ cellAt n e i m → y ≡ cellAt n q m j → w ≡ min v (max (upOf (getD t x 0)) (getD t y 0))
+    → Lowest (joinOf t n e q i j) (i + 1) m v → Lowest (joinOf t n e q i j) (i + 1) (m + 1) w
+join-next t n e q i j m v w x y h ex ey ew a =
+    lowest-next (joinOf t n e q i j) (i + 1) m v w h a
+    (ew ∙ ap (λ (z : ℕ). min v (max (upOf (getD t z 0)) (getD t y 0))) ex ∙ ap (λ (z : ℕ). min v (max (upOf (getD t (cellAt n e i m) 0)) (getD t z 0))) ey)
+
+-- a rest with no end before it is what its cell has
+pub join-best : (c t : List ℕ) (n p i j v : ℕ) → (kindAt c (p + 1) ≡ 0 → ⊥) → Lowest (joinOf t n (ruleAt c p) (p + 1) i j) (i + 1) j v → Lowest (splitOf c t n p i j) (i + 1) j v
+join-best c t n p i j v k = lowest-of (joinOf t n (ruleAt c p) (p + 1) i j) (splitOf c t n p i j) (i + 1) j v
+    (λ m. ap (λ (z : ℕ). max (upOf (cellOf n t (ruleAt c p) i m)) z) (sym (value-cell c t n (p + 1) m j k)))
 
 -- nothing is inside an empty stretch
 pub lowest-empty : (f : ℕ → ℕ) (i j : ℕ) → j ≤ i → Lowest f (i + 1) j none
