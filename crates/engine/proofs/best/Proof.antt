@@ -6,72 +6,55 @@ use Rattle.engine.proofs.Sweeps.{lowest-none, lowest-empty, join-best}
 use borrow.Author.Needs.{needs}
 use Rattle.engine.proofs.best.Statement.{statement}
 use Rattle.engine.proofs.best.Tie as tie
-use Rattle.engine.proofs.best.Reads as reads
-use Rattle.engine.proofs.best.Lts as lts
-use Rattle.engine.proofs.join.Reads as join-reads
 
--- src/lib.rt:79:18
 add-if1 : tie.Need-add-if1
 add-if1 c = search needs
 
--- src/lib.rt:79:13
 mul-if1 : tie.Need-mul-if1
 mul-if1 c = search needs
 
--- src/lib.rt:79:8
 mul-if1-2 : tie.Need-mul-if1-2
 mul-if1-2 c = search needs
 
--- src/lib.rt:79:8
 shared-slice-read-if1 : tie.Need-shared-slice-read-if1
 shared-slice-read-if1 c =
     let s = c .before .before .before in
     omega (arith, s .pre .0 .nexts (s .args .p) (s .pre .1 .inside) (λ z. omega arith), s .pre .0 .coded)
 
--- src/lib.rt:80:9
 returns : tie.Need-returns
 returns c =
     let a = c .before .before .before .before .args in
     lowest-none (a .code .now) (a .main .now) (a .n) (a .p) (a .i) (a .j) (c .if1 .taken)
 
--- src/lib.rt:83:9
 returns-2 : tie.Need-returns-2
 returns-2 c =
     let a = c .before .before .before .before .before .args in
     lowest-empty (splitOf (a .code .now) (a .main .now) (a .n) (a .p) (a .i) (a .j)) (a .i) (a .j) (c .if2 .taken)
 
--- src/lib.rt:85:18
 mul-e : tie.Need-mul-e
 mul-e c = search needs
 
--- src/lib.rt:85:18
 add-e : tie.Need-add-e
 add-e c = search needs
 
--- src/lib.rt:85:13
 mul-e-2 : tie.Need-mul-e-2
 mul-e-2 c = search needs
 
--- src/lib.rt:85:13
 shared-slice-read-e : tie.Need-shared-slice-read-e
 shared-slice-read-e c = search needs
 
--- src/lib.rt:85:13
 cast-e : tie.Need-cast-e
 cast-e c = omega (arith, c .shared-slice-known4 .given (4 * c .before .before .before .before .before .before .args .p + 2))
 
--- src/lib.rt:86:28
 add-join : tie.Need-add-join
 add-join c = search needs
 
--- src/lib.rt:86:5
 join-requires : tie.Need-join-requires
 join-requires c κs =
     let s = c .before .before .before .before .before .before in
     let o = s .pre .1 .order in
     (s .pre .0 .cells, rule-place (s .pre .0) (s .pre .1) (s .args .j) (s .pre .2) o (omega arith), record { inside = s .pre .0 .nexts (s .args .p) (s .pre .1 .inside) (λ z. omega arith); order = o; stop = s .pre .1 .stop }, c .before .if2 .left)
 
--- src/lib.rt:75:1
 returns-3 : tie.Need-returns-3
 returns-3 c =
     let a = c .before .before .before .before .before .before .before .args in

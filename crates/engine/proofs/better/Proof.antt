@@ -3,32 +3,22 @@ use Rattle.engine.proofs.Values.{up-above}
 use borrow.Author.Needs.{needs}
 use Rattle.engine.proofs.better.Statement.{statement}
 use Rattle.engine.proofs.better.Tie as tie
-use Rattle.engine.proofs.better.Reads as reads
-use Rattle.engine.proofs.better.Lts as lts
-use Rattle.engine.proofs.larger.Reads as larger-reads
-use Rattle.engine.proofs.up.Reads as up-reads
 
--- src/lib.rt:44:9
 returns : tie.Need-returns
 returns c = omega (arith, up-above (c .before .args .a) (omega arith))
 
--- src/lib.rt:47:9
 returns-2 : tie.Need-returns-2
 returns-2 c = search needs
 
--- src/lib.rt:49:20
 up-requires : tie.Need-up-requires
 up-requires c κs = search needs
 
--- src/lib.rt:49:9
 larger-requires : tie.Need-larger-requires
 larger-requires c κs = search needs
 
--- src/lib.rt:51:9
 returns-3 : tie.Need-returns-3
 returns-3 c = search needs
 
--- src/lib.rt:40:1
 returns-4 : tie.Need-returns-4
 returns-4 c = search needs
 
