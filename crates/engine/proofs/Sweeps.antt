@@ -6,10 +6,11 @@ use native.Mathlib.Decide.{decLt, ℕ-discrete}
 use native.Mathlib.Omega.{arith}
 use lib.ListN.{length, getD, set}
 use lib.Seq.{getD-set-same, getD-set-other}
+use borrow.Author.Tests.{eq-eqb, ne-eqb}
 use Rattle.code.specs.Code.{kindAt, ruleAt, goesAt}
 use Rattle.code.specs.Heights.{cellAt, none}
 use Rattle.engine.specs.Table.{valueOf, upOf, splitOf, joinOf, Shape, Place}
-use Rattle.engine.specs.Sweep.{cellOf, Gives, by-terminal, by-split, by-owned, Steps, stay, step, Only, EndsAt, Any, Lowered, lowered, kept, Handed, free, handed, Lowest, Shifted, Under, Offer, OwnerUnder, CellUnder, Held, HeldFrom, InnerAt, InnerFrom, Split, Swept, Closed, Settled, ColumnFrom, Before, sumOf}
+use Rattle.engine.specs.Sweep.{cellOf, Gives, by-terminal, by-split, by-owned, Steps, stay, step, Only, EndsAt, Any, Lowered, lowered, kept, Handed, free, handed, Lowest, Shifted, Under, Offer, OwnerUnder, CellUnder, Held, HeldFrom, turnOf, HeldTo, InnerAt, InnerFrom, Split, Swept, Closed, Settled, ColumnFrom, Before, sumOf}
 use Rattle.engine.proofs.Cells.{owner-place}
 use Rattle.engine.proofs.Values.{value-gap, value-cell}
 use Rattle.engine.proofs.Lowering.{in-range, steps-join, steps-widen, steps-le, steps-sum, steps-same, value-same, split-same, sum-set}
@@ -19,6 +20,23 @@ clear-next t x h a y l = elim (ℕ-discrete y x) as (λ _. getD (set t x none) y
   | yes e ↦ rw e (getD-set-same t x none 0 h)
   | no e ↦ getD-set-other t x y none 0 e ∙ a y (omega arith)
 ]
+
+-- both orders of a sweep
+module _ (size down : ℕ) where
+  pub turn-first : (k : ℕ) → down ≡ 0 → turnOf size down k ≡ k
+  turn-first k e = simp (eq-eqb down 0 e)
+
+  pub turn-last : (k : ℕ) → (down ≡ 0 → ⊥) → turnOf size down k ≡ size - 1 - k
+  turn-last k e = simp (ne-eqb down 0 e)
+
+  pub turn-below : (k : ℕ) → k < size → turnOf size down k < size
+  turn-below k h = elim (ℕ-discrete down 0) as (λ _. turnOf size down k < size) [ yes e ↦ omega (arith, turn-first k e) | no e ↦ omega (arith, turn-last k e) ]
+
+  pub turn-twice : (k : ℕ) → k < size → turnOf size down (turnOf size down k) ≡ k
+  turn-twice k h = elim (ℕ-discrete down 0) as (λ _. turnOf size down (turnOf size down k) ≡ k) [
+    | yes e ↦ turn-first (turnOf size down k) e ∙ turn-first k e
+    | no e ↦ omega (arith, turn-last (turnOf size down k) e, turn-last k e)
+  ]
 
 -- the least of some values
 module _ (f : ℕ → ℕ) (lo : ℕ) where
@@ -161,21 +179,29 @@ module _ (c f : List ℕ) (size n : ℕ) where
 
   -- every position
   module _ (i j : ℕ) where
-    pub held-start : (t : List ℕ) → Swept c f size n (Only i j) (HeldFrom c f size n i j size) t t 0
-    held-start t = swept-none (HeldFrom c f size n i j size) t (λ q h l. absurd (omega arith))
+    pub held-start : (down : ℕ) (t : List ℕ) → Swept c f size n (Only i j) (HeldTo c f size n i j down 0) t t 0
+    held-start down t = swept-none (HeldTo c f size n i j down 0) t (λ q h l. absurd (omega arith))
 
-    held-next : (p : ℕ) (t : List ℕ) → HeldFrom c f size n i j p t → Held c f n (p - 1) i j t → HeldFrom c f size n i j (p - 1) t
-    held-next p t a h q hp hq = elim (ℕ-discrete (p - 1) q) as (λ _. Held c f n q i j t) [
-      | yes w ↦ subst (λ (z : ℕ). Held c f n z i j t) w h
-      | no w ↦ a q (omega arith) hq
+    held-next : (down k p : ℕ) (t : List ℕ) → p ≡ turnOf size down k → HeldTo c f size n i j down k t → Held c f n p i j t → HeldTo c f size n i j down (k + 1) t
+    held-next down k p t e a h q hq l = elim (ℕ-discrete (turnOf size down q) k) as (λ _. Held c f n q i j t) [
+      | yes w ↦ subst (λ (z : ℕ). Held c f n z i j t) (e ∙ sym (ap (turnOf size down) w) ∙ turn-twice size down q hq) h
+      | no w ↦ a q hq (omega arith)
     ]
 
-    module _ {p a b : ℕ} {t₀ t₁ t₂ : List ℕ} (x : Swept c f size n (Only i j) (HeldFrom c f size n i j p) t₀ t₁ a) (y : Swept c f size n (Only i j) (Held c f n (p - 1) i j) t₁ t₂ b) where
-      pub pass-changed : (b ≡ 0 → ⊥) → Swept c f size n (Only i j) (HeldFrom c f size n i j (p - 1)) t₀ t₂ 1
-      pass-changed q = swept-join x y (λ _ e. absurd (q e)) (λ e. absurd (omega arith)) (held-next p t₀)
+    module _ (down k : ℕ) {p a b : ℕ} {t₀ t₁ t₂ : List ℕ} (e : p ≡ turnOf size down k) (x : Swept c f size n (Only i j) (HeldTo c f size n i j down k) t₀ t₁ a) (y : Swept c f size n (Only i j) (Held c f n p i j) t₁ t₂ b) where
+      pub sweep-changed : (b ≡ 0 → ⊥) → Swept c f size n (Only i j) (HeldTo c f size n i j down (k + 1)) t₀ t₂ 1
+      sweep-changed q = swept-join x y (λ _ z. absurd (q z)) (λ z. absurd (omega arith)) (held-next down k p t₀ e)
 
-      pub pass-same : b ≡ 0 → Swept c f size n (Only i j) (HeldFrom c f size n i j (p - 1)) t₀ t₂ a
-      pass-same q = swept-join x y (λ e _. e) (λ e. (e, q)) (held-next p t₀)
+      pub sweep-same : b ≡ 0 → Swept c f size n (Only i j) (HeldTo c f size n i j down (k + 1)) t₀ t₂ a
+      sweep-same q = swept-join x y (λ z _. z) (λ z. (z, q)) (held-next down k p t₀ e)
+
+    pub sweep-all : (down k : ℕ) {a : ℕ} {t₀ t : List ℕ} → size ≤ k → Swept c f size n (Only i j) (HeldTo c f size n i j down k) t₀ t a → Swept c f size n (Only i j) (HeldFrom c f size n i j 0) t₀ t a
+    sweep-all down k h x = record {
+      steps = x .steps;
+      quiet = x .quiet;
+      done = λ z q _ hq. x .done z q hq (omega (arith, turn-below size down q hq));
+      falls = x .falls;
+    }
 
   -- splits inside a stretch
   inner-kept : {t₀ t : List ℕ} (q i j : ℕ) → j ≤ n → Steps c f size n (Only i j) t₀ t → InnerAt c n q i j t₀ → InnerAt c n q i j t

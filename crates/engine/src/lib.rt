@@ -5,7 +5,7 @@ ghost use lib.ListN.{length};
 ghost use Rattle.code.specs.Code.{kindAt};
 ghost use Rattle.code.specs.Heights.{cellAt};
 ghost use Rattle.engine.specs.Table.{valueOf, upOf, splitOf, joinOf, Room, Shape, Safe, Place};
-ghost use Rattle.engine.specs.Sweep.{Lowered, Handed, Lowest, Shifted, Offer, Held, HeldFrom, InnerAt, InnerFrom, Split, Steps, Swept, Closed, Settled, Only, EndsAt, ColumnFrom, Clear, Filled};
+ghost use Rattle.engine.specs.Sweep.{Lowered, Handed, Lowest, Shifted, Offer, Held, HeldFrom, turnOf, InnerAt, InnerFrom, Split, Swept, Closed, Settled, Only, EndsAt, ColumnFrom, Clear, Filled};
 
 // No derivation.
 const NONE: u32 = 4294967295;
@@ -253,8 +253,18 @@ fn relax(
     b
 }
 
-// Every position, the last first: a position bears on the one before it.
-fn pass(
+fn turn(size: usize, k: usize, down: u32) -> usize
+    requires { ⌜ k < size ⌝ }
+    ensures { λ r. ⌜ r ≡ turnOf size down k ⌝ }
+{
+    if down == 0 {
+        return k;
+    }
+    size - 1 - k
+}
+
+// Every position. Down, the last first: a position bears on the one before it. Up for rules that go by earlier ones.
+fn sweep(
     code: &[u32],
     fits: &[u8],
     main: &mut [u32],
@@ -262,14 +272,16 @@ fn pass(
     n: usize,
     i: usize,
     j: usize,
+    down: u32,
 ) -> u32
     requires { ⌜ Safe (now code) (now fits) size n (length (now main)) × (i ≤ j) × (j ≤ n) ⌝ }
     ensures { λ r. ⌜ Swept (now (code .entry)) (now (fits .entry)) size n (Only i j) (HeldFrom (now (code .entry)) (now (fits .entry)) size n i j 0) (now (main .entry)) (now (main .exit)) r ⌝ }
 {
     let mut changed: u32 = 0;
-    let mut p = size;
-    while 0 < p {
-        p -= 1;
+    let mut k = 0;
+    while k < size {
+        let p = turn(size, k, down);
+        k += 1;
         if relax(code, fits, main, size, n, p, i, j) != 0 {
             changed = 1;
         }
@@ -277,26 +289,15 @@ fn pass(
     changed
 }
 
-// Every position, the first first, for rules that go by earlier ones.
-fn climb(code: &[u32], fits: &[u8], main: &mut [u32], size: usize, n: usize, i: usize, j: usize)
-    requires { ⌜ Safe (now code) (now fits) size n (length (now main)) × (i ≤ j) × (j ≤ n) ⌝ }
-    ensures { λ r. ⌜ Steps (now (code .entry)) (now (fits .entry)) size n (Only i j) (now (main .entry)) (now (main .exit)) ⌝ }
-{
-    let mut p = 0;
-    while p < size {
-        relax(code, fits, main, size, n, p, i, j);
-        p += 1;
-    }
-}
-
-// The stretch from i to j, until a pass changes nothing.
+// The stretch from i to j, down and up by turns until a sweep changes nothing.
 fn settle(code: &[u32], fits: &[u8], main: &mut [u32], size: usize, n: usize, i: usize, j: usize)
     requires { ⌜ Safe (now code) (now fits) size n (length (now main)) × (i ≤ j) × (j ≤ n) ⌝ }
     ensures { λ r. ⌜ Settled (now (code .entry)) (now (fits .entry)) size n (Only i j) (λ t. Closed (now (code .entry)) (now (fits .entry)) size n t i j) (now (main .entry)) (now (main .exit)) ⌝ }
 {
     inner(code, main, size, n, i, j);
-    while pass(code, fits, main, size, n, i, j) != 0 {
-        climb(code, fits, main, size, n, i, j);
+    let mut down: u32 = 1;
+    while sweep(code, fits, main, size, n, i, j, down) != 0 {
+        down = 1 - down;
     }
 }
 

@@ -1,56 +1,47 @@
-use mathlib.Core.Path.{_≡_, refl, _∙_}
-use native.Mathlib.Omega.{arith}
-use lib.ListN.{length}
-use Rattle.engine.specs.Sweep.{Steps, stay, Only, sumOf}
-use Rattle.engine.proofs.Lowering.{steps-join, steps-sum}
-use Rattle.engine.proofs.Sweeps.{settled}
 use Rattle.engine.proofs.settle.Statement.{statement}
 use Rattle.engine.proofs.settle.Tie as tie
+use Rattle.engine.proofs.settle.Reads as reads
+use Rattle.engine.proofs.settle.Lts as lts
+use Rattle.engine.proofs.inner.Reads as inner-reads
+use Rattle.engine.proofs.sweep.Reads as sweep-reads
 
 abbrev Inv-loop : tie.InvT-loop
-Inv-loop code fits main₀ size n i j main = (length main ≡ length main₀) × Steps code fits size n (Only i j) main₀ main
+Inv-loop code fits main₀ size n i j down₀ main down = ?
 
 abbrev μ-loop : tie.MeasureT-loop
-μ-loop code fits main₀ size n i j main = sumOf main
+μ-loop code fits main₀ size n i j down₀ main down = ?
 
+-- src/lib.rt:297:5
 inner-requires : tie.Need-inner-requires Inv-loop μ-loop
-inner-requires c κs =
-    let s = c .before .before .before .before in
-    (s .pre .0 .shape, s .pre .1, s .pre .2)
+inner-requires c κs = ?
 
+-- src/lib.rt:299:5
 loop-holds : tie.Need-loop-holds Inv-loop μ-loop
-loop-holds c = (refl, stay)
+loop-holds c = ?
 
-pass-requires : tie.Need-pass-requires Inv-loop μ-loop
-pass-requires c κs =
-    let s = c .before .before .before .before .before .before .before .before .before in
-    let e : length (c .before .loop .main) ≡ length (s .args .main .now) = c .before .loop .inv .0 ∙ c .before .before .before .before .inner .kept .1 .0 in
-    (rw e (s .pre .0), s .pre .1, s .pre .2)
+-- src/lib.rt:299:11
+sweep-requires : tie.Need-sweep-requires Inv-loop μ-loop
+sweep-requires c κs = ?
 
-climb-requires : tie.Need-climb-requires Inv-loop μ-loop
-climb-requires c κs =
-    let s = c .before .before .before .before .before .before .before .before .before .before .before .before .before .before in
-    let e = c .before .before .before .before .pass .kept .1 .1 .0 ∙ c .before .before .before .before .before .before .loop .inv .0 ∙ c .before .before .before .before .before .before .before .before .before .inner .kept .1 .0 in
-    (rw e (s .pre .0), s .pre .1, s .pre .2)
+-- src/lib.rt:300:16
+sub-down : tie.Need-sub-down Inv-loop μ-loop
+sub-down c = ?
 
+-- src/lib.rt:299:5
 loop-less : tie.Need-loop-less Inv-loop μ-loop
-loop-less c =
-    let a = c .before .before .before .before .before .before .before .before .before .before .before .before .before .before .before .before .before .args in
-    omega (arith, c .before .before .before .before .before .before .before .pass .ensures .falls (c .before .before .before .before .if1 .taken), steps-sum (a .code .now) (a .fits .now) (a .size) (a .n) (c .before .before .climb .ensures))
+loop-less c = ?
 
+-- src/lib.rt:299:5
 loop-again : tie.Need-loop-again Inv-loop μ-loop
-loop-again c =
-    let a = c .before .before .before .before .before .before .before .before .before .before .before .before .before .before .before .before .before .args in
-    (c .before .before .climb .kept .1 .1 .0 ∙ c .before .before .before .before .before .before .before .pass .kept .1 .1 .0 ∙ c .before .before .before .before .before .before .before .before .before .loop .inv .0, steps-join (a .code .now) (a .fits .now) (a .size) (a .n) (c .before .before .before .before .before .before .before .before .before .loop .inv .1) (steps-join (a .code .now) (a .fits .now) (a .size) (a .n) (c .before .before .before .before .before .before .before .pass .ensures .steps) (c .before .before .climb .ensures)))
+loop-again c = ?
 
+-- src/lib.rt:293:1
 same-length : tie.Need-same-length Inv-loop μ-loop
-same-length c = c .before .before .before .pass .kept .1 .1 .0 ∙ c .before .before .before .before .before .loop .inv .0 ∙ c .before .before .before .before .before .before .before .before .inner .kept .1 .0
+same-length c = ?
 
+-- src/lib.rt:293:1
 returns : tie.Need-returns Inv-loop μ-loop
-returns c =
-    let s = c .before .before .before .before .before .before .before .before .before .before .before .before .before in
-    let a = s .args in
-    settled (a .code .now) (a .fits .now) (a .size) (a .n) (s .pre .2) (c .before .before .before .before .before .before .before .before .inner .ensures) (c .before .before .before .before .before .loop .inv .1) (c .before .before .before .pass .ensures) (c .if1 .left)
+returns c = ?
 
 pub settle-spec : {M : Type 1} → statement M
 settle-spec =
@@ -60,8 +51,8 @@ settle-spec =
     μ-loop
     inner-requires
     loop-holds
-    pass-requires
-    climb-requires
+    sweep-requires
+    sub-down
     loop-less
     loop-again
     same-length
