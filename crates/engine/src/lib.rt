@@ -69,6 +69,7 @@ fn split(
     a
 }
 
+// The larger of two heights.
 fn larger(a: u32, b: u32) -> u32
     ensures { λ r. ⌜ r ≡ max a b ⌝ }
 {
@@ -253,6 +254,7 @@ fn relax(
     b
 }
 
+// The position that comes k-th in a sweep.
 fn turn(size: usize, k: usize, down: u32) -> usize
     requires { ⌜ k < size ⌝ }
     ensures { λ r. ⌜ r ≡ turnOf size down k ⌝ }
