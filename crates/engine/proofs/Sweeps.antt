@@ -1,17 +1,18 @@
 -- What the loops do to the table, one step after the other.
-use mathlib.Core.Path.{_≡_, refl, sym, subst, _∙_}
+use mathlib.Core.Path.{_≡_, refl, sym, ap, subst, _∙_}
 use mathlib.Core.List.{List, []}
-use Prim.Native.Nat.{ℕ, _+_, _-_, _<_, _≤_, max}
-use native.Mathlib.Decide.{ℕ-discrete}
+use Prim.Native.Nat.{ℕ, _+_, _-_, _<_, _≤_, max, min}
+use native.Mathlib.Decide.{decLt, ℕ-discrete}
 use native.Mathlib.Omega.{arith}
 use lib.ListN.{length, getD, set}
 use lib.Seq.{getD-set-same, getD-set-other}
-use Rattle.code.specs.Code.{kindAt, goesAt}
+use borrow.Author.Tests.{eq-eqb, ne-eqb}
+use Rattle.code.specs.Code.{kindAt, ruleAt, goesAt}
 use Rattle.code.specs.Heights.{cellAt, none}
-use Rattle.engine.specs.Table.{valueOf, splitOf, Shape, Place}
-use Rattle.engine.specs.Sweep.{cellOf, Gives, by-terminal, by-split, by-owned, Steps, stay, step, Only, EndsAt, Any, Lowered, lowered, kept, Handed, free, handed, Lowest, Shifted, Under, Offer, OwnerUnder, CellUnder, Held, HeldFrom, InnerAt, InnerFrom, Split, Swept, Closed, Settled, ColumnFrom, Before, sumOf}
+use Rattle.engine.specs.Table.{valueOf, upOf, splitOf, joinOf, Shape, Place}
+use Rattle.engine.specs.Sweep.{cellOf, Gives, by-terminal, by-split, by-owned, Steps, stay, step, Only, EndsAt, Any, Lowered, lowered, kept, Handed, free, handed, Lowest, Shifted, Under, Offer, OwnerUnder, CellUnder, Held, HeldFrom, turnOf, HeldTo, InnerAt, InnerFrom, Split, Swept, Closed, Settled, ColumnFrom, Before, sumOf}
 use Rattle.engine.proofs.Cells.{owner-place}
-use Rattle.engine.proofs.Values.{value-gap}
+use Rattle.engine.proofs.Values.{value-gap, value-cell}
 use Rattle.engine.proofs.Lowering.{in-range, steps-join, steps-widen, steps-le, steps-sum, steps-same, value-same, split-same, sum-set}
 
 pub clear-next : (t : List ℕ) (x : ℕ) → x < length t → ((y : ℕ) → y < x → getD t y 0 ≡ none) → (y : ℕ) → y < x + 1 → getD (set t x none) y 0 ≡ none
@@ -19,6 +20,23 @@ clear-next t x h a y l = elim (ℕ-discrete y x) as (λ _. getD (set t x none) y
   | yes e ↦ rw e (getD-set-same t x none 0 h)
   | no e ↦ getD-set-other t x y none 0 e ∙ a y (omega arith)
 ]
+
+-- both orders of a sweep
+module _ (size down : ℕ) where
+  pub turn-first : (k : ℕ) → down ≡ 0 → turnOf size down k ≡ k
+  turn-first k e = simp (eq-eqb down 0 e)
+
+  pub turn-last : (k : ℕ) → (down ≡ 0 → ⊥) → turnOf size down k ≡ size - 1 - k
+  turn-last k e = simp (ne-eqb down 0 e)
+
+  pub turn-below : (k : ℕ) → k < size → turnOf size down k < size
+  turn-below k h = elim (ℕ-discrete down 0) as (λ _. turnOf size down k < size) [ yes e ↦ omega (arith, turn-first k e) | no e ↦ omega (arith, turn-last k e) ]
+
+  pub turn-twice : (k : ℕ) → k < size → turnOf size down (turnOf size down k) ≡ k
+  turn-twice k h = elim (ℕ-discrete down 0) as (λ _. turnOf size down (turnOf size down k) ≡ k) [
+    | yes e ↦ turn-first (turnOf size down k) e ∙ turn-first k e
+    | no e ↦ omega (arith, turn-last (turnOf size down k) e, turn-last k e)
+  ]
 
 -- the least of some values
 module _ (f : ℕ → ℕ) (lo : ℕ) where
@@ -37,11 +55,40 @@ module _ (f : ℕ → ℕ) (lo : ℕ) where
     some = λ b. let s = a .some b in record { place = s .place; from = s .from; below = omega (arith, s .below); is = s .is };
   }
 
+  pub lowest-next : (m v w : ℕ) → lo ≤ m → Lowest f lo m v → w ≡ min v (f m) → Lowest f lo (m + 1) w
+  lowest-next m v w h a e = elim (decLt (f m) v) as (λ _. Lowest f lo (m + 1) w) [
+    | yes l ↦ lowest-lower m v w h a (omega arith) (omega arith)
+    | no l ↦ (let z : w ≡ v = omega arith in rw z (lowest-same m v (f m) a refl (omega arith)))
+  ]
+
   pub lowest-end : (m hi v : ℕ) → hi ≤ m → m ≤ max lo hi → Lowest f lo m v → Lowest f lo hi v
   lowest-end m hi v h l a = record {
     low = λ k hk lk. a .low k hk (omega arith);
     some = λ b. let s = a .some b in record { place = s .place; from = s .from; below = omega (arith, s .from, s .below); is = s .is };
   }
+
+-- the same of equal values
+pub lowest-of : (f g : ℕ → ℕ) (lo hi v : ℕ) → ((m : ℕ) → f m ≡ g m) → Lowest f lo hi v → Lowest g lo hi v
+lowest-of f g lo hi v e a = record {
+  low = λ m h l. omega (arith, e m, a .low m h l);
+  some = λ b. let s = a .some b in record { place = s .place; from = s .from; below = s .below; is = s .is ∙ e (s .place) };
+}
+
+-- one split more, by the places of its cells
+pub join-next : (t : List ℕ) (n e q i j m v w x y : ℕ) → i + 1 ≤ m → x ≡ cellAt n e i m → y ≡ cellAt n q m j → w ≡ min v (max (upOf (getD t x 0)) (getD t y 0))
+    → Lowest (joinOf t n e q i j) (i + 1) m v → Lowest (joinOf t n e q i j) (i + 1) (m + 1) w
+join-next t n e q i j m v w x y h ex ey ew a =
+    lowest-next (joinOf t n e q i j) (i + 1) m v w h a
+    (ew ∙ ap (λ (z : ℕ). min v (max (upOf (getD t z 0)) (getD t y 0))) ex ∙ ap (λ (z : ℕ). min v (max (upOf (getD t (cellAt n e i m) 0)) (getD t z 0))) ey)
+
+-- a rest with no end before it is what its cell has
+pub join-best : (c t : List ℕ) (n p i j v : ℕ) → (kindAt c (p + 1) ≡ 0 → ⊥) → Lowest (joinOf t n (ruleAt c p) (p + 1) i j) (i + 1) j v → Lowest (splitOf c t n p i j) (i + 1) j v
+join-best c t n p i j v k = lowest-of (joinOf t n (ruleAt c p) (p + 1) i j) (splitOf c t n p i j) (i + 1) j v
+    (λ m. ap (λ (z : ℕ). max (upOf (cellOf n t (ruleAt c p) i m)) z) (sym (value-cell c t n (p + 1) m j k)))
+
+-- nothing is inside an empty stretch
+pub lowest-empty : (f : ℕ → ℕ) (i j : ℕ) → j ≤ i → Lowest f (i + 1) j none
+lowest-empty f i j h = record { low = λ m k l. absurd (omega arith); some = λ b. absurd (omega arith) }
 
 -- no split inside a stretch before an end
 pub lowest-none : (c t : List ℕ) (n p i j : ℕ) → kindAt c (p + 1) ≡ 0 → Lowest (splitOf c t n p i j) (i + 1) j none
@@ -132,21 +179,29 @@ module _ (c f : List ℕ) (size n : ℕ) where
 
   -- every position
   module _ (i j : ℕ) where
-    pub held-start : (t : List ℕ) → Swept c f size n (Only i j) (HeldFrom c f size n i j size) t t 0
-    held-start t = swept-none (HeldFrom c f size n i j size) t (λ q h l. absurd (omega arith))
+    pub held-start : (down : ℕ) (t : List ℕ) → Swept c f size n (Only i j) (HeldTo c f size n i j down 0) t t 0
+    held-start down t = swept-none (HeldTo c f size n i j down 0) t (λ q h l. absurd (omega arith))
 
-    held-next : (p : ℕ) (t : List ℕ) → HeldFrom c f size n i j p t → Held c f n (p - 1) i j t → HeldFrom c f size n i j (p - 1) t
-    held-next p t a h q hp hq = elim (ℕ-discrete (p - 1) q) as (λ _. Held c f n q i j t) [
-      | yes w ↦ subst (λ (z : ℕ). Held c f n z i j t) w h
-      | no w ↦ a q (omega arith) hq
+    held-next : (down k p : ℕ) (t : List ℕ) → p ≡ turnOf size down k → HeldTo c f size n i j down k t → Held c f n p i j t → HeldTo c f size n i j down (k + 1) t
+    held-next down k p t e a h q hq l = elim (ℕ-discrete (turnOf size down q) k) as (λ _. Held c f n q i j t) [
+      | yes w ↦ subst (λ (z : ℕ). Held c f n z i j t) (e ∙ sym (ap (turnOf size down) w) ∙ turn-twice size down q hq) h
+      | no w ↦ a q hq (omega arith)
     ]
 
-    module _ {p a b : ℕ} {t₀ t₁ t₂ : List ℕ} (x : Swept c f size n (Only i j) (HeldFrom c f size n i j p) t₀ t₁ a) (y : Swept c f size n (Only i j) (Held c f n (p - 1) i j) t₁ t₂ b) where
-      pub pass-changed : (b ≡ 0 → ⊥) → Swept c f size n (Only i j) (HeldFrom c f size n i j (p - 1)) t₀ t₂ 1
-      pass-changed q = swept-join x y (λ _ e. absurd (q e)) (λ e. absurd (omega arith)) (held-next p t₀)
+    module _ (down k : ℕ) {p a b : ℕ} {t₀ t₁ t₂ : List ℕ} (e : p ≡ turnOf size down k) (x : Swept c f size n (Only i j) (HeldTo c f size n i j down k) t₀ t₁ a) (y : Swept c f size n (Only i j) (Held c f n p i j) t₁ t₂ b) where
+      pub sweep-changed : (b ≡ 0 → ⊥) → Swept c f size n (Only i j) (HeldTo c f size n i j down (k + 1)) t₀ t₂ 1
+      sweep-changed q = swept-join x y (λ _ z. absurd (q z)) (λ z. absurd (omega arith)) (held-next down k p t₀ e)
 
-      pub pass-same : b ≡ 0 → Swept c f size n (Only i j) (HeldFrom c f size n i j (p - 1)) t₀ t₂ a
-      pass-same q = swept-join x y (λ e _. e) (λ e. (e, q)) (held-next p t₀)
+      pub sweep-same : b ≡ 0 → Swept c f size n (Only i j) (HeldTo c f size n i j down (k + 1)) t₀ t₂ a
+      sweep-same q = swept-join x y (λ z _. z) (λ z. (z, q)) (held-next down k p t₀ e)
+
+    pub sweep-all : (down k : ℕ) {a : ℕ} {t₀ t : List ℕ} → size ≤ k → Swept c f size n (Only i j) (HeldTo c f size n i j down k) t₀ t a → Swept c f size n (Only i j) (HeldFrom c f size n i j 0) t₀ t a
+    sweep-all down k h x = record {
+      steps = x .steps;
+      quiet = x .quiet;
+      done = λ z q _ hq. x .done z q hq (omega (arith, turn-below size down q hq));
+      falls = x .falls;
+    }
 
   -- splits inside a stretch
   inner-kept : {t₀ t : List ℕ} (q i j : ℕ) → j ≤ n → Steps c f size n (Only i j) t₀ t → InnerAt c n q i j t₀ → InnerAt c n q i j t

@@ -47,6 +47,9 @@ up-low h l = elim (decLt h none) as (λ _. h < none) [ yes k ↦ k | no k ↦ ab
 pub up-most : (h : ℕ) → upOf h ≤ none
 up-most h = elim (decLt h none) as (λ _. upOf h ≤ none) [ yes k ↦ omega (arith, up-is h k) | no k ↦ omega (arith, up-none h (omega arith)) ]
 
+pub up-above : (h : ℕ) → h ≤ none → h ≤ upOf h
+up-above h l = elim (decLt h none) as (λ _. h ≤ upOf h) [ yes k ↦ omega (arith, up-is h k) | no k ↦ omega (arith, up-none h (omega arith)) ]
+
 -- what `split` computes
 module _ (c t : List ℕ) (n p i j m b : ℕ) (eb : b ≡ valueOf c t n (p + 1) m j) where
   pub split-none : b ≡ none → none ≡ splitOf c t n p i j m

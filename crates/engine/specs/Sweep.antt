@@ -1,9 +1,10 @@
 -- What the engine does to the table: cells are lowered, each to what the table gives it then.
 use mathlib.Core.Path.{_≡_}
 use mathlib.Core.List.{List, [], _∷_}
-use Prim.Native.Nat.{ℕ, _+_, _<_, _≤_}
+use Prim.Native.Nat.{ℕ, _+_, _-_, _<_, _≤_}
 use lib.ListN.{length, getD, set}
-use Rattle.text.specs.Lists.{Text}
+use lib.Dec.{eqb}
+use Rattle.text.specs.Lists.{Text, pick}
 use Rattle.tree.specs.Tree.{Grammar}
 use Rattle.code.specs.Code.{kindAt, goesAt, ownerAt, fitsAt, Coded}
 use Rattle.code.specs.Heights.{cellAt, none, Heights}
@@ -92,6 +93,14 @@ pub record Held (c f : List ℕ) (n p i j : ℕ) (t : List ℕ) : Type 0 where
 -- the same for the positions from p on
 abbrev pub HeldFrom : List ℕ → List ℕ → ℕ → ℕ → ℕ → ℕ → ℕ → List ℕ → Type 0
 HeldFrom c f size n i j p t = (q : ℕ) → p ≤ q → q < size → Held c f n q i j t
+
+-- the k-th position of a sweep: the last comes first where down is not 0
+abbrev pub turnOf : ℕ → ℕ → ℕ → ℕ
+turnOf size down k = pick (eqb down 0) k (size - 1 - k)
+
+-- the same for the first k positions of a sweep
+abbrev pub HeldTo : List ℕ → List ℕ → ℕ → ℕ → ℕ → ℕ → ℕ → ℕ → List ℕ → Type 0
+HeldTo c f size n i j down k t = (q : ℕ) → q < size → turnOf size down q < k → Held c f n q i j t
 
 -- none can by a split inside the stretch
 abbrev pub InnerAt : List ℕ → ℕ → ℕ → ℕ → ℕ → List ℕ → Type 0

@@ -21,6 +21,10 @@ upOf h = pick (ltb h none) (h + 1) none
 abbrev pub splitOf : List ℕ → List ℕ → ℕ → ℕ → ℕ → ℕ → ℕ → ℕ
 splitOf c t n p i j m = max (upOf (getD t (cellAt n (ruleAt c p) i m) 0)) (valueOf c t n (p + 1) m j)
 
+-- the rule e from i to m, then the position q from m to j
+abbrev pub joinOf : List ℕ → ℕ → ℕ → ℕ → ℕ → ℕ → ℕ → ℕ
+joinOf t n e q i j m = max (upOf (getD t (cellAt n e i m) 0)) (getD t (cellAt n q m j) 0)
+
 -- the main table has a cell for each position on each stretch
 pub record Room (size n len : ℕ) : Type 0 where
   pub few : size ≤ mostSize

@@ -1,11 +1,11 @@
 // The engine: the main table filled with least heights, one stretch after the other, each until nothing changes.
 ghost use mathlib.Core.Path.{_≡_};
-ghost use Prim.Native.Nat.{_+_, _<_, _≤_};
+ghost use Prim.Native.Nat.{_+_, _<_, _≤_, max, min};
 ghost use lib.ListN.{length};
 ghost use Rattle.code.specs.Code.{kindAt};
 ghost use Rattle.code.specs.Heights.{cellAt};
-ghost use Rattle.engine.specs.Table.{valueOf, upOf, splitOf, Room, Shape, Safe, Place};
-ghost use Rattle.engine.specs.Sweep.{Lowered, Handed, Lowest, Shifted, Offer, Held, HeldFrom, InnerAt, InnerFrom, Split, Steps, Swept, Closed, Settled, Only, EndsAt, ColumnFrom, Clear, Filled};
+ghost use Rattle.engine.specs.Table.{valueOf, upOf, splitOf, joinOf, Room, Shape, Safe, Place};
+ghost use Rattle.engine.specs.Sweep.{Lowered, Handed, Lowest, Shifted, Offer, Held, HeldFrom, turnOf, InnerAt, InnerFrom, Split, Swept, Closed, Settled, Only, EndsAt, ColumnFrom, Clear, Filled};
 
 // No derivation.
 const NONE: u32 = 4294967295;
@@ -69,6 +69,51 @@ fn split(
     a
 }
 
+// The larger of two heights.
+fn larger(a: u32, b: u32) -> u32
+    ensures { λ r. ⌜ r ≡ max a b ⌝ }
+{
+    if a < b {
+        return b;
+    }
+    a
+}
+
+// The lower of v and a split whose symbol has the height a and whose rest has b.
+fn better(a: u32, b: u32, v: u32) -> u32
+    ensures { λ r. ⌜ r ≡ min v (max (upOf a) b) ⌝ }
+{
+    if v <= a {
+        return v;
+    }
+    if v <= b {
+        return v;
+    }
+    let w = larger(up(a), b);
+    if w < v {
+        return w;
+    }
+    v
+}
+
+// The best split inside the stretch into the rule e and the position q. The places of both cells run along, with no product.
+fn join(main: &[u32], size: usize, n: usize, e: usize, q: usize, i: usize, j: usize) -> u32
+    requires { ⌜ Room size n (length (now main)) × Place size n e i j × Place size n q i j × (i < j) ⌝ }
+    ensures { λ r. ⌜ Lowest (joinOf (now (main .entry)) n e q i j) (i + 1) j r ⌝ }
+{
+    let mut m = i + 1;
+    let mut x = cell(n, e, i, m);
+    let mut y = cell(n, q, m, j);
+    let mut v = NONE;
+    while m < j {
+        v = better(main[x], main[y], v);
+        m += 1;
+        y += 1;
+        x += m;
+    }
+    v
+}
+
 // The best split inside the stretch. Before an end there is none.
 fn best(code: &[u32], main: &[u32], size: usize, n: usize, p: usize, i: usize, j: usize) -> u32
     requires { ⌜ Shape (now code) size n (length (now main)) × Place size n p i j × (kindAt (now code) p ≡ 2) ⌝ }
@@ -77,16 +122,11 @@ fn best(code: &[u32], main: &[u32], size: usize, n: usize, p: usize, i: usize, j
     if code[4 * (p + 1)] == 0 {
         return NONE;
     }
-    let mut v = NONE;
-    let mut m = i + 1;
-    while m < j {
-        let w = split(code, main, size, n, p, i, j, m);
-        m += 1;
-        if w < v {
-            v = w;
-        }
+    if j <= i {
+        return NONE;
     }
-    v
+    let e = code[4 * p + 2] as usize;
+    join(main, size, n, e, p + 1, i, j)
 }
 
 // Lowers the cell of p to v, where v is lower; 1 where it is.
@@ -214,8 +254,19 @@ fn relax(
     b
 }
 
-// Every position, the last first: a position bears on the one before it.
-fn pass(
+// The position that comes k-th in a sweep.
+fn turn(size: usize, k: usize, down: u32) -> usize
+    requires { ⌜ k < size ⌝ }
+    ensures { λ r. ⌜ r ≡ turnOf size down k ⌝ }
+{
+    if down == 0 {
+        return k;
+    }
+    size - 1 - k
+}
+
+// Every position. Down, the last first: a position bears on the one before it. Up for rules that go by earlier ones.
+fn sweep(
     code: &[u32],
     fits: &[u8],
     main: &mut [u32],
@@ -223,14 +274,16 @@ fn pass(
     n: usize,
     i: usize,
     j: usize,
+    down: u32,
 ) -> u32
     requires { ⌜ Safe (now code) (now fits) size n (length (now main)) × (i ≤ j) × (j ≤ n) ⌝ }
     ensures { λ r. ⌜ Swept (now (code .entry)) (now (fits .entry)) size n (Only i j) (HeldFrom (now (code .entry)) (now (fits .entry)) size n i j 0) (now (main .entry)) (now (main .exit)) r ⌝ }
 {
     let mut changed: u32 = 0;
-    let mut p = size;
-    while 0 < p {
-        p -= 1;
+    let mut k = 0;
+    while k < size {
+        let p = turn(size, k, down);
+        k += 1;
         if relax(code, fits, main, size, n, p, i, j) != 0 {
             changed = 1;
         }
@@ -238,27 +291,15 @@ fn pass(
     changed
 }
 
-// Every position, the first first, for rules that go by earlier ones.
-fn climb(code: &[u32], fits: &[u8], main: &mut [u32], size: usize, n: usize, i: usize, j: usize)
-    requires { ⌜ Safe (now code) (now fits) size n (length (now main)) × (i ≤ j) × (j ≤ n) ⌝ }
-    ensures { λ r. ⌜ Steps (now (code .entry)) (now (fits .entry)) size n (Only i j) (now (main .entry)) (now (main .exit)) ⌝ }
-{
-    let mut p = 0;
-    while p < size {
-        relax(code, fits, main, size, n, p, i, j);
-        p += 1;
-    }
-}
-
-// The stretch from i to j, until a pass changes nothing.
+// The stretch from i to j, down and up by turns until a sweep changes nothing.
 fn settle(code: &[u32], fits: &[u8], main: &mut [u32], size: usize, n: usize, i: usize, j: usize)
     requires { ⌜ Safe (now code) (now fits) size n (length (now main)) × (i ≤ j) × (j ≤ n) ⌝ }
     ensures { λ r. ⌜ Settled (now (code .entry)) (now (fits .entry)) size n (Only i j) (λ t. Closed (now (code .entry)) (now (fits .entry)) size n t i j) (now (main .entry)) (now (main .exit)) ⌝ }
 {
     inner(code, main, size, n, i, j);
-    pass(code, fits, main, size, n, i, j);
-    while pass(code, fits, main, size, n, i, j) != 0 {
-        climb(code, fits, main, size, n, i, j);
+    let mut down: u32 = 1;
+    while sweep(code, fits, main, size, n, i, j, down) != 0 {
+        down = 1 - down;
     }
 }
 

@@ -1,93 +1,80 @@
-use Prim.Native.Nat.{_+_, _-_, _≤_, max}
+use Prim.Native.Nat.{_+_, _*_}
 use native.Mathlib.Omega.{arith}
 use Rattle.engine.specs.Table.{splitOf}
-use Rattle.engine.specs.Sweep.{Lowest}
-use Rattle.engine.proofs.Sweeps.{lowest-none, lowest-start, lowest-lower, lowest-same, lowest-end}
+use Rattle.engine.proofs.Cells.{rule-place}
+use Rattle.engine.proofs.Sweeps.{lowest-none, lowest-empty, join-best}
+use borrow.Author.Needs.{needs}
 use Rattle.engine.proofs.best.Statement.{statement}
 use Rattle.engine.proofs.best.Tie as tie
 
-abbrev Inv-loop : tie.InvT-loop
-Inv-loop code main size n p i j v₀ m₀ v m = (i + 1 ≤ m) × (m ≤ max (i + 1) j) × Lowest (splitOf code main n p i j) (i + 1) m v
+add-if1 : tie.Need-add-if1
+add-if1 c = search needs
 
-abbrev μ-loop : tie.MeasureT-loop
-μ-loop code main size n p i j v₀ m₀ v m = j - m
+mul-if1 : tie.Need-mul-if1
+mul-if1 c = search needs
 
-add-if1 : tie.Need-add-if1 Inv-loop μ-loop
-add-if1 c = omega (arith, c .before .before .pre .1 .inside, c .before .before .pre .0 .cells .few)
+mul-if1-2 : tie.Need-mul-if1-2
+mul-if1-2 c = search needs
 
-mul-if1 : tie.Need-mul-if1 Inv-loop μ-loop
-mul-if1 c = omega (arith, c .before .before .pre .1 .inside, c .before .before .pre .0 .cells .few)
-
-mul-if1-2 : tie.Need-mul-if1-2 Inv-loop μ-loop
-mul-if1-2 c = omega (arith, c .before .before .pre .1 .inside, c .before .before .pre .0 .cells .few)
-
-shared-slice-read-if1 : tie.Need-shared-slice-read-if1 Inv-loop μ-loop
+shared-slice-read-if1 : tie.Need-shared-slice-read-if1
 shared-slice-read-if1 c =
     let s = c .before .before .before in
     omega (arith, s .pre .0 .nexts (s .args .p) (s .pre .1 .inside) (λ z. omega arith), s .pre .0 .coded)
 
-returns : tie.Need-returns Inv-loop μ-loop
+returns : tie.Need-returns
 returns c =
     let a = c .before .before .before .before .args in
     lowest-none (a .code .now) (a .main .now) (a .n) (a .p) (a .i) (a .j) (c .if1 .taken)
 
-add-m : tie.Need-add-m Inv-loop μ-loop
-add-m c = omega (arith, c .before .before .before .before .pre .1 .order, c .before .before .before .before .pre .1 .stop, c .before .before .before .before .pre .0 .cells .short)
-
-loop-holds : tie.Need-loop-holds Inv-loop μ-loop
-loop-holds c =
-    let a = c .before .before .before .before .args in
-    (omega arith, omega arith, lowest-start (splitOf (a .code .now) (a .main .now) (a .n) (a .p) (a .i) (a .j)) (a .i + 1))
-
-split-requires : tie.Need-split-requires Inv-loop μ-loop
-split-requires c κs =
-    let s = c .before .before .before .before .before .before in
-    (s .pre .0, s .pre .1, omega (arith, c .before .loop .inv .0), omega (arith, c .loop-test .taken), s .pre .2)
-
-add-m-2 : tie.Need-add-m-2 Inv-loop μ-loop
-add-m-2 c = omega (arith, c .before .loop-test .taken, c .before .before .before .before .before .before .before .pre .1 .stop, c .before .before .before .before .before .before .before .pre .0 .cells .short)
-
-loop-less : tie.Need-loop-less Inv-loop μ-loop
-loop-less c = omega (arith, c .before .before .loop-test .taken)
-
-loop-again : tie.Need-loop-again Inv-loop μ-loop
-loop-again c =
-    let a = c .before .before .before .before .before .before .before .before .args in
-    let l = c .before .before .before .loop in
-    (omega (arith, l .inv .0), omega (arith, c .before .before .loop-test .taken), lowest-lower (splitOf (a .code .now) (a .main .now) (a .n) (a .p) (a .i) (a .j)) (a .i + 1) (l .m) (l .v) (c .before .split .result) (l .inv .0) (l .inv .2) (c .before .split .ensures) (c .if2 .taken))
-
-loop-less-2 : tie.Need-loop-less-2 Inv-loop μ-loop
-loop-less-2 c = omega (arith, c .before .before .loop-test .taken)
-
-loop-again-2 : tie.Need-loop-again-2 Inv-loop μ-loop
-loop-again-2 c =
-    let a = c .before .before .before .before .before .before .before .before .args in
-    let l = c .before .before .before .loop in
-    (omega (arith, l .inv .0), omega (arith, c .before .before .loop-test .taken), lowest-same (splitOf (a .code .now) (a .main .now) (a .n) (a .p) (a .i) (a .j)) (a .i + 1) (l .m) (l .v) (c .before .split .result) (l .inv .2) (c .before .split .ensures) (c .if2 .left))
-
-returns-2 : tie.Need-returns-2 Inv-loop μ-loop
+returns-2 : tie.Need-returns-2
 returns-2 c =
-    let a = c .before .before .before .before .before .before .args in
-    let l = c .before .loop in
-    lowest-end (splitOf (a .code .now) (a .main .now) (a .n) (a .p) (a .i) (a .j)) (a .i + 1) (l .m) (a .j) (l .v) (c .loop-test .left) (l .inv .1) (l .inv .2)
+    let a = c .before .before .before .before .before .args in
+    lowest-empty (splitOf (a .code .now) (a .main .now) (a .n) (a .p) (a .i) (a .j)) (a .i) (a .j) (c .if2 .taken)
+
+mul-e : tie.Need-mul-e
+mul-e c = search needs
+
+add-e : tie.Need-add-e
+add-e c = search needs
+
+mul-e-2 : tie.Need-mul-e-2
+mul-e-2 c = search needs
+
+shared-slice-read-e : tie.Need-shared-slice-read-e
+shared-slice-read-e c = search needs
+
+cast-e : tie.Need-cast-e
+cast-e c = omega (arith, c .shared-slice-known4 .given (4 * c .before .before .before .before .before .before .args .p + 2))
+
+add-join : tie.Need-add-join
+add-join c = search needs
+
+join-requires : tie.Need-join-requires
+join-requires c κs =
+    let s = c .before .before .before .before .before .before in
+    let o = s .pre .1 .order in
+    (s .pre .0 .cells, rule-place (s .pre .0) (s .pre .1) (s .args .j) (s .pre .2) o (omega arith), record { inside = s .pre .0 .nexts (s .args .p) (s .pre .1 .inside) (λ z. omega arith); order = o; stop = s .pre .1 .stop }, c .before .if2 .left)
+
+returns-3 : tie.Need-returns-3
+returns-3 c =
+    let a = c .before .before .before .before .before .before .before .args in
+    join-best (a .code .now) (a .main .now) (a .n) (a .p) (a .i) (a .j) (c .join .result) (c .before .before .before .if1 .left) (c .join .ensures)
 
 pub best-spec : {M : Type 1} → statement M
 best-spec =
     tie.close
     (tie.spec
-    Inv-loop
-    μ-loop
     add-if1
     mul-if1
     mul-if1-2
     shared-slice-read-if1
     returns
-    add-m
-    loop-holds
-    split-requires
-    add-m-2
-    loop-less
-    loop-again
-    loop-less-2
-    loop-again-2
-    returns-2)
+    returns-2
+    mul-e
+    add-e
+    mul-e-2
+    shared-slice-read-e
+    cast-e
+    add-join
+    join-requires
+    returns-3)
