@@ -22,11 +22,12 @@ on-some {n} z = rw (ne-eqb n 0 z)
 pub none-of : (v : Verdict) (n : ℕ) → v ≡ Allowed → v ≡ verdictOf n → n ≡ 0
 none-of v n e f = ⊎-elim (λ q. eqb-true n 0 q) (λ q. absurd (let s : Forbidden n ≡ Allowed = on-some (eqb-false n 0 q) ∙ sym f ∙ e in let z : _≡_ {A = ℕ} 0 1 = cc in omega arith)) (look (eqb n 0))
 
--- what is forbidden has its number, which is not 0
+-- a number that is not 0
 pub record Some (k n : ℕ) : Type 0 where
   pub same : k ≡ n
   pub some : n ≡ 0 → ⊥
 
+-- what is forbidden has its number
 pub some-of : (v : Verdict) (k n : ℕ) → v ≡ Forbidden k → v ≡ verdictOf n → Some k n
 some-of v k n e f = ⊎-elim
     (λ q. absurd (let s : Allowed ≡ Forbidden k = on-none (eqb-true n 0 q) ∙ sym f ∙ e in let z : _≡_ {A = ℕ} 0 1 = cc in omega arith))

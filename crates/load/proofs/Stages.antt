@@ -60,13 +60,14 @@ static-refuses g n e h =
           one-passes (undefined g) (duplicate g) (beyond g) (banned g) (backwards g) (unclassed g) (test 11 (λ _. ltb mostSize (size g)) ∷ ts) (λ z. h (e ∙ z)) ∙ sym e;
     }
 
+-- the same of a ruling
 pub broken : (g : Grammar) (v : Ruling) (k n : ℕ) → v ≡ Broken k → n ≡ whyBroken v → v ≡ rulingOf (staticOf g) → Refuses g n
 broken g v k n q f e =
     let s = some-of v k (staticOf g) q e in
     let w : n ≡ staticOf g = f ∙ ap whyBroken q ∙ s .same in
     static-refuses g n w (λ z. s .some (sym w ∙ z))
 
--- none does
+-- a ruling that no rule is broken
 pub kept : (g : Grammar) (v : Ruling) → v ≡ Kept → v ≡ rulingOf (staticOf g) → staticOf g ≡ 0
 kept g v q e = none-of v (staticOf g) q e
 

@@ -22,11 +22,12 @@ on-some {n} z = rw (ne-eqb n 0 z)
 pub none-of : (v : Ruling) (n : ℕ) → v ≡ Kept → v ≡ rulingOf n → n ≡ 0
 none-of v n e f = ⊎-elim (λ q. eqb-true n 0 q) (λ q. absurd (let s : Broken n ≡ Kept = on-some (eqb-false n 0 q) ∙ sym f ∙ e in let z : _≡_ {A = ℕ} 0 1 = cc in omega arith)) (look (eqb n 0))
 
--- a broken rule has its number, which is not 0
+-- a number that is not 0
 pub record Some (k n : ℕ) : Type 0 where
   pub same : k ≡ n
   pub some : n ≡ 0 → ⊥
 
+-- a broken rule has its number
 pub some-of : (v : Ruling) (k n : ℕ) → v ≡ Broken k → v ≡ rulingOf n → Some k n
 some-of v k n e f = ⊎-elim
     (λ q. absurd (let s : Kept ≡ Broken k = on-none (eqb-true n 0 q) ∙ sym f ∙ e in let z : _≡_ {A = ℕ} 0 1 = cc in omega arith))
