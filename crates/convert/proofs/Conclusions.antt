@@ -16,9 +16,12 @@ use Rattle.ends.specs.Noted.{Noted, Parsed, Room}
 use Rattle.writer.specs.declared.Written as writer
 use Rattle.writer.specs.declared.Written.the-variants as written
 use Rattle.writer.specs.Whole.{Job, Some, Writable, Answered}
+use Rattle.judge.specs.declared.Verdict.{Verdict}
+use Rattle.judge.specs.declared.Verdict.the-variants.{Allowed, Forbidden}
 use Rattle.judge.specs.Judgment.{topmost, judgmentOf, Judged}
+use Rattle.judge.proofs.Verdicts.{none-of, some-of}
 use Rattle.convert.specs.declared.Converted.the-variants.{Xml, Refused}
-use Rattle.convert.specs.Concluded.{Parsing, Ready, Written, NotWritten, Concludes}
+use Rattle.convert.specs.Concluded.{Parsing, Ready, Written, NotWritten, whyOf, Concludes}
 
 -- where no line applies, no test holds
 record Clear (t m u b : Bool) : Type 0 where
@@ -54,20 +57,23 @@ module _ {T : List ℕ} {root : ℕ} {P : List ℕ} {r : Text} where
     pub some-job : Ready T root P r → Some T root P r S
     some-job w = record { g = w .g; t = w .t; job = its-job (w .parsing) }
 
-    module _ {S′ : List ℕ} {k : ℕ} (j : Judged T root P r S S′ k) where
+    module _ {S′ : List ℕ} {v : Verdict} (j : Judged T root P r S S′ v) where
       later-job : {g : Grammar} {t : Row} → Parsing T root P r g t → Job T root P r S′ g t
       later-job {g} {t} p = subst (λ (x : List ℕ). Job T root P r x g t) (sym (j .kept)) (its-job p)
 
       pub some-later : Ready T root P r → Some T root P r S′
       some-later w = record { g = w .g; t = w .t; job = later-job (w .parsing) }
 
-      pub forbidden : (g : Grammar) (t : Row) (a m : Bool) (old : List ℕ) → Parsing T root P r g t → (k ≡ 0 → ⊥) → Concludes g r t a m old old (Refused k)
-      forbidden g t a m old p z = record { why = inl (j .is g t (its-job p), z); buffer = refl }
+      pub forbidden : (g : Grammar) (t : Row) (a m : Bool) (old : List ℕ) (k n : ℕ) → Parsing T root P r g t → v ≡ Forbidden k → n ≡ whyOf v → Concludes g r t a m old old (Refused n)
+      forbidden g t a m old k n p e f =
+          let s = some-of v k (judgmentOf g r t) e (j .is g t (its-job p)) in
+          let q : n ≡ judgmentOf g r t = f ∙ ap whyOf e ∙ s .same in
+          record { why = inl (q, λ z. s .some (sym q ∙ z)); buffer = refl }
 
-      module _ (g : Grammar) (t : Row) (a m : Bool) (old new : List ℕ) (x : writer.Written) (p : Parsing T root P r g t) (e : k ≡ 0)
+      module _ (g : Grammar) (t : Row) (a m : Bool) (old new : List ℕ) (x : writer.Written) (p : Parsing T root P r g t) (e : v ≡ Allowed)
           (w : Job T root P r S′ g t → Writable g r t → Answered (bytes a m (document g r t)) old new x) where
         allowed : judgmentOf g r t ≡ 0
-        allowed = sym (j .is g t (its-job p)) ∙ e
+        allowed = none-of v (judgmentOf g r t) e (j .is g t (its-job p))
 
         answered : Answered (bytes a m (document g r t)) old new x
         answered = w (later-job p) (writable g r t allowed)

@@ -14,6 +14,8 @@ use Rattle.items.specs.Items.{Reads}
 use Rattle.xml.specs.Document.{document}
 use Rattle.xml.specs.Bytes.{bytes}
 use Rattle.ends.specs.Noted.{Parsed}
+use Rattle.judge.specs.declared.Verdict.{Verdict}
+use Rattle.judge.specs.declared.Verdict.the-variants.{Allowed, Forbidden}
 use Rattle.judge.specs.Judgment.{judgmentOf}
 use Rattle.convert.specs.declared.Converted.{Converted}
 use Rattle.convert.specs.declared.Converted.the-variants.{Xml, Refused}
@@ -41,6 +43,11 @@ pub record Written (bs : List ℕ) (judgment : ℕ) (old new : List ℕ) (n : �
 pub record NotWritten (bs : List ℕ) (judgment : ℕ) (old new : List ℕ) (n : ℕ) : Type 0 where
   pub why : ((n ≡ judgment) × (n ≡ 0 → ⊥)) ⊎ ((judgment ≡ 0) × (n ≡ 23) × (length old < length bs))
   pub buffer : new ≡ old
+
+-- the number of a verdict
+abbrev pub whyOf : Verdict → ℕ
+whyOf Allowed = 0
+whyOf (Forbidden n) = n
 
 abbrev pub Concludes : Grammar → Text → Row → Bool → Bool → List ℕ → List ℕ → Converted → Type 0
 Concludes g r t ambiguous mismatch old new (Xml n) = Written (bytes ambiguous mismatch (document g r t)) (judgmentOf g r t) old new n

@@ -1,13 +1,25 @@
 // A left parse as XML: what forbids it, and then its bytes.
+ghost use mathlib.Core.Path.{_≡_};
 ghost use Rattle.tree.specs.Tree.{Grammar};
 ghost use Rattle.derive.specs.Derive.{Row};
-ghost use Rattle.convert.specs.Concluded.{Ready, Parsing, Concludes};
+ghost use Rattle.convert.specs.Concluded.{whyOf, Ready, Parsing, Concludes};
+use judge::Verdict;
 use writer::Written;
 
 // The count of the XML's bytes, or the refusal.
 pub enum Converted {
     Xml(usize),
     Refused(u32),
+}
+
+// The number of what forbids a document.
+fn why(judged: Verdict) -> u32
+    ensures { λ r. ⌜ r ≡ whyOf judged ⌝ }
+{
+    match judged {
+        Verdict::Allowed => 0,
+        Verdict::Forbidden(number) => number,
+    }
 }
 
 // 17 to 23. The numbers noted of the entries and the names seen are local: 49,152 bytes.
@@ -26,10 +38,10 @@ pub fn convert(
     let mut scratch = [0u32; 8192];
     let mut seen = [0u32; 4096];
     ends::note(table, root, parse, &mut scratch);
-    let number = judge::judge(table, root, parse, record, &mut scratch, &mut seen);
-    if number != 0 {
-        return Converted::Refused(number);
-    }
+    let judged = judge::judge(table, root, parse, record, &mut scratch, &mut seen);
+    let Verdict::Allowed = judged else {
+        return Converted::Refused(why(judged));
+    };
     let written = writer::write_xml(
         table,
         root,

@@ -1,2 +1,3 @@
 pub mod Hunts
 pub mod Roots
+pub mod Verdicts

@@ -29,7 +29,8 @@ use Rattle.clash.specs.Ahead.{Judges}
 use Rattle.clash.specs.Names.{repeated}
 use Rattle.fault.specs.declared.Faults.{Faults}
 use Rattle.fault.specs.Rows.{Told}
-use Rattle.judge.specs.Judgment.{topmost, judgment, judgmentOf, around, twiceIn, misnamedIn, notOneIn, RowJudged, Judged}
+use Rattle.judge.specs.declared.Verdict.{Verdict}
+use Rattle.judge.specs.Judgment.{topmost, judgment, judgmentOf, around, twiceIn, misnamedIn, notOneIn, verdictOf, RowJudged, Judged}
 
 -- each judgment of the document, from that of the row: 17
 module _ (n : Text) (x : Xml) where
@@ -137,9 +138,9 @@ found-first P e F = rw e at F
 pub root-standing : {T : List ℕ} {x : ℕ} {P : List ℕ} {r : Text} {S : List ℕ} {a item : ℕ} → Room T P S → Some T x P r S → a ≡ getD P 0 0 → Found T x a item → Standing T P r S (spot item 1 0 0)
 root-standing {P = P} {item = item} room J e F = rooted room (J .job) item (found-first P e F) .standing
 
--- the judgment of the root is that of the derivation
-pub root-judged : {T : List ℕ} {x : ℕ} {P : List ℕ} {r : Text} {S S′ : List ℕ} {head mark a item q : ℕ} → Room T P S → Headed T head → mark ≡ getD T head 0 → a ≡ getD P 0 0 → Found T x a item → RowJudged T P r S S′ head mark (spot item 1 0 0) q → Judged T x P r S S′ q
-root-judged {T} {x} {P} {r} {S} {S′} {head} {mark} {a} {item} {q} room H me ae F J = record { kept = J .kept; is = go }
+-- the verdict on the root is that on the derivation
+pub root-judged : {T : List ℕ} {x : ℕ} {P : List ℕ} {r : Text} {S S′ : List ℕ} {head mark a item q : ℕ} {v : Verdict} → Room T P S → Headed T head → mark ≡ getD T head 0 → a ≡ getD P 0 0 → Found T x a item → RowJudged T P r S S′ head mark (spot item 1 0 0) q → v ≡ verdictOf q → Judged T x P r S S′ v
+root-judged {T} {x} {P} {r} {S} {S′} {head} {mark} {a} {item} {q} {v} room H me ae F J f = record { kept = J .kept; is = λ g t job. f ∙ ap verdictOf (go g t job) }
   where
     go : (g : Grammar) (t : Row) → Job T x P r S g t → q ≡ judgmentOf g r t
     go g t job =

@@ -15,6 +15,8 @@ use Rattle.ends.specs.Walk.{Walk}
 use Rattle.ends.specs.Steps.{Named}
 use Rattle.writer.specs.Whole.{Job}
 use Rattle.clash.specs.Names.{repeated}
+use Rattle.judge.specs.declared.Verdict.{Verdict}
+use Rattle.judge.specs.declared.Verdict.the-variants.{Allowed, Forbidden}
 
 -- the number of the first test that holds
 abbrev pub topmost : Bool → Bool → Bool → Bool → Bool → Bool → ℕ
@@ -27,6 +29,10 @@ judgment a d = topmost (twice d) (misnamed d) (unwritable d) a (notOne d) (names
 -- of a derivation
 abbrev pub judgmentOf : Grammar → Text → Row → ℕ
 judgmentOf g r t = judgment (isAttribute (markOf g (root g))) (document g r t)
+
+-- the verdict that a number stands for: 0 forbids nothing
+abbrev pub verdictOf : ℕ → Verdict
+verdictOf n = pick (eqb n 0) Allowed (Forbidden n)
 
 -- the document of what stands in the root: just that, if the root is deleted; else an element
 abbrev pub around : Bool → Text → Xml → Xml
@@ -50,7 +56,7 @@ pub record RowJudged (T P : List ℕ) (r : Text) (S S' : List ℕ) (head mark : 
   pub is : (k : ℕ) (n : Text) → Named T head k n → (g : Grammar) (starts : Starts) (e₁ i₁ : ℕ) (row : Row) (ss : List Symbol) → Walk T P r S g starts e₁ i₁ h row ss []
       → q ≡ judgment (eqb mark 22) (around (eqb mark 23) n (nodes g r row ss (h .place)))
 
--- q is the judgment of the derivation that the list names, and nothing is noted otherwise than before
-pub record Judged (T : List ℕ) (root : ℕ) (P : List ℕ) (r : Text) (S S' : List ℕ) (q : ℕ) : Type 0 where
+-- v is the verdict on the derivation that the list names, and nothing is noted otherwise than before
+pub record Judged (T : List ℕ) (root : ℕ) (P : List ℕ) (r : Text) (S S' : List ℕ) (v : Verdict) : Type 0 where
   pub kept : S' ≡ S
-  pub is : (g : Grammar) (t : Row) → Job T root P r S g t → q ≡ judgmentOf g r t
+  pub is : (g : Grammar) (t : Row) → Job T root P r S g t → v ≡ verdictOf (judgmentOf g r t)

@@ -13,7 +13,7 @@ ghost use Rattle.writer.specs.Rows.{Standing};
 ghost use Rattle.writer.specs.Whole.{Some as SomeJob};
 ghost use Rattle.clash.specs.Ahead.{Judges};
 ghost use Rattle.judge.specs.Within.{SomeHunt, Hunted};
-ghost use Rattle.judge.specs.Judgment.{topmost, twiceIn, misnamedIn, notOneIn, RowJudged, Judged};
+ghost use Rattle.judge.specs.Judgment.{topmost, twiceIn, misnamedIn, notOneIn, verdictOf, RowJudged, Judged};
 use ends::Spot;
 
 // Whether one of two holds: a call, so that a caller has no branch.
@@ -211,7 +211,23 @@ fn judge_row(
     )
 }
 
-// The refusal 17 to 22 of a left parse, or 0. `scratch` has its notes, and keeps them; nothing is promised of `seen`.
+// What is said of a document: it may be written, or the number of what forbids it.
+pub enum Verdict {
+    Allowed,
+    Forbidden(u32),
+}
+
+// The verdict that a number stands for.
+fn verdict_of(number: u32) -> Verdict
+    ensures { λ v. ⌜ v ≡ verdictOf number ⌝ }
+{
+    if number == 0 {
+        return Verdict::Allowed;
+    }
+    Verdict::Forbidden(number)
+}
+
+// 17 to 22 of a left parse. `scratch` has its notes, and keeps them; nothing is promised of `seen`.
 pub fn judge(
     table: &[u32],
     root: usize,
@@ -219,10 +235,10 @@ pub fn judge(
     record: &[u32],
     scratch: &mut [u32],
     seen: &mut [u32],
-) -> u32
+) -> Verdict
     requires { ⌜ length (now parse) ≤ length (now seen) ⌝ }
     requires { ⌜ Room (now table) (now parse) (now scratch) × SomeJob (now table) root (now parse) (now «record») (now scratch) ⌝ }
-    ensures { λ q. ⌜ Judged (now (table .entry)) root (now (parse .entry)) (now («record» .entry)) (now (scratch .entry)) (now (scratch .exit)) q ⌝ }
+    ensures { λ v. ⌜ Judged (now (table .entry)) root (now (parse .entry)) (now («record» .entry)) (now (scratch .entry)) (now (scratch .exit)) v ⌝ }
 {
     let head = spell::head_at(table);
     let mark = ends::look(table, head);
@@ -234,5 +250,6 @@ pub fn judge(
         place: 0,
         inner: 0,
     };
-    judge_row(table, parse, record, scratch, seen, head, mark, first)
+    let number = judge_row(table, parse, record, scratch, seen, head, mark, first);
+    verdict_of(number)
 }

@@ -13,12 +13,15 @@ use Rattle.tree.specs.Tree.{Grammar}
 use Rattle.plain.specs.Static.{undefined, duplicate, beyond, banned, backwards, unclassed}
 use Rattle.plain.specs.Plain.{size}
 use Rattle.answer.specs.Compute.{Test, test, firstOf}
-use Rattle.statics.specs.Held.{staticOf}
+use Rattle.statics.specs.declared.Ruling.{Ruling}
+use Rattle.statics.specs.declared.Ruling.the-variants.{Kept, Broken}
+use Rattle.statics.specs.Held.{staticOf, rulingOf}
+use Rattle.statics.proofs.Rulings.{none-of, some-of}
 use Rattle.statics.specs.Held as static
 use Rattle.measure.specs.Walk as sizes
 use Rattle.answer.specs.Answer.{mismatched}
 use Rattle.load.specs.declared.Passed.{Passed}
-use Rattle.load.specs.Judged.{Stands, Standing, judgeTests, Refuses, Passes}
+use Rattle.load.specs.Judged.{Stands, Standing, judgeTests, Refuses, Passes, whyBroken}
 use Rattle.load.proofs.Proper.{grammar-proper}
 use Rattle.load.proofs.Written.{written-proper}
 
@@ -48,7 +51,7 @@ none-passes false false false false false true ts h = absurd (omega arith)
 none-passes false false false false false false ts h = refl
 
 -- a static rule refuses
-pub static-refuses : (g : Grammar) (n : ℕ) → n ≡ staticOf g → (n ≡ 0 → ⊥) → Refuses g n
+static-refuses : (g : Grammar) (n : ℕ) → n ≡ staticOf g → (n ≡ 0 → ⊥) → Refuses g n
 unfolding staticOf
 static-refuses g n e h =
     record {
@@ -56,6 +59,17 @@ static-refuses g n e h =
       first = λ ts.
           one-passes (undefined g) (duplicate g) (beyond g) (banned g) (backwards g) (unclassed g) (test 11 (λ _. ltb mostSize (size g)) ∷ ts) (λ z. h (e ∙ z)) ∙ sym e;
     }
+
+-- the same of a ruling
+pub broken : (g : Grammar) (v : Ruling) (k n : ℕ) → v ≡ Broken k → n ≡ whyBroken v → v ≡ rulingOf (staticOf g) → Refuses g n
+broken g v k n q f e =
+    let s = some-of v k (staticOf g) q e in
+    let w : n ≡ staticOf g = f ∙ ap whyBroken q ∙ s .same in
+    static-refuses g n w (λ z. s .some (sym w ∙ z))
+
+-- a ruling that no rule is broken
+pub kept : (g : Grammar) (v : Ruling) → v ≡ Kept → v ≡ rulingOf (staticOf g) → staticOf g ≡ 0
+kept g v q e = none-of v (staticOf g) q e
 
 passes-static : (g : Grammar) → staticOf g ≡ 0 → (ts : List Test) → firstOf (judgeTests g ts) ≡ firstOf (test 11 (λ _. ltb mostSize (size g)) ∷ ts)
 unfolding staticOf

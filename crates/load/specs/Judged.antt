@@ -14,6 +14,8 @@ use Rattle.plain.specs.Static.{undefined, duplicate, beyond, banned, backwards,
 use Rattle.plain.specs.Plain.{size}
 use Rattle.answer.specs.Answer.{mismatched}
 use Rattle.answer.specs.Compute.{Test, test, firstOf}
+use Rattle.statics.specs.declared.Ruling.{Ruling}
+use Rattle.statics.specs.declared.Ruling.the-variants.{Kept, Broken}
 use Rattle.statics.specs.Held.{staticOf}
 use Rattle.load.specs.declared.Passed.{Passed}
 use Rattle.load.specs.declared.Judged.{Judged}
@@ -54,6 +56,11 @@ pub record Passes (g : Grammar) (end : ℕ) (p : Passed) : Type 0 where
   pub static : staticOf g ≡ 0
   pub version : p .mismatch ≡ mismatched g
   pub first : (ts : List Test) → firstOf (judgeTests g ts) ≡ firstOf ts
+
+-- the number of a ruling
+abbrev pub whyBroken : Ruling → ℕ
+whyBroken Kept = 0
+whyBroken (Broken n) = n
 
 abbrev pub Judges : List ℕ → ℕ → Judged → Type 0
 Judges T end (Accepted p) = (g : Grammar) → Stands T end g → Passes g end p

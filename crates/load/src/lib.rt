@@ -1,9 +1,10 @@
 // A grammar's bytes to its tree in a table, judged by refusals 1 to 11.
 use decode::Decoding;
 use reader::Reading;
+use statics::Ruling;
 ghost use mathlib.Core.Path.{_≡_};
 ghost use lib.ListN.{length};
-ghost use Rattle.load.specs.Judged.{Standing, Judges};
+ghost use Rattle.load.specs.Judged.{whyBroken, Standing, Judges};
 ghost use Rattle.load.specs.Loaded.{Roomy, Reads, Loads, whyOf};
 ghost use Rattle.text.specs.Limits.{grammarTable};
 
@@ -19,15 +20,25 @@ pub enum Judged {
     Refused(u32),
 }
 
+// The number of the static rule that is broken.
+fn why_broken(ruling: Ruling) -> u32
+    ensures { λ r. ⌜ r ≡ whyBroken ruling ⌝ }
+{
+    match ruling {
+        Ruling::Kept => 0,
+        Ruling::Broken(number) => number,
+    }
+}
+
 // Judges the tree in the first numbers of the table by refusals 5 to 11.
 pub fn judge(table: &[u32], end: usize) -> Judged
     requires { ⌜ Standing (now table) end ⌝ }
     ensures { λ r. ⌜ Judges (now (table .entry)) end r ⌝ }
 {
-    let refusal = statics::static_refusal(table, end);
-    if refusal != 0 {
-        return Judged::Refused(refusal);
-    }
+    let ruling = statics::static_refusal(table, end);
+    let Ruling::Kept = ruling else {
+        return Judged::Refused(why_broken(ruling));
+    };
     let size = measure::grammar_size(table, end);
     if 512 < size {
         return Judged::Refused(11);

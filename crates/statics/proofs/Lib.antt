@@ -6,3 +6,4 @@ pub mod Scans
 pub mod Agree
 pub mod Trees
 pub mod Top
+pub mod Rulings

@@ -8,7 +8,8 @@ use lib.ListN.{length, getD, take}
 use Rattle.text.specs.Lists.{Text, same, concatMap, chars}
 use Rattle.tree.specs.Tree.{Mark, Prolog, no-prolog, version, Rule, Grammar, rules}
 use Rattle.tree.specs.Tokens.{Token, rule-head, version-is, markNumber, bodyTokens, rule-end, ruleTokens, prologTokens, grammarTokens}
-use Rattle.statics.specs.Held.{Holds, Held, staticOf, mismatched}
+use Rattle.statics.specs.declared.Ruling.{Ruling}
+use Rattle.statics.specs.Held.{Holds, Held, staticOf, rulingOf, mismatched}
 use Rattle.statics.specs.Parts.{sortOf, lateSort, sizeAt, nameAt}
 use Rattle.statics.specs.Scan.{Tokens, Some, Named, namesAt, Indexing, Indexed, Scanning, headsOf, refusalOf}
 use Rattle.statics.proofs.Leaf.{sized, size-text}
@@ -30,10 +31,10 @@ module _ (t : List ℕ) (end : ℕ) where
   some-tokens h = record { tokens = grammarTokens (h .grammar); held = tokens-of t end (h .grammar) (h .holds) }
 
   pub answer : (index : List ℕ) (n : ℕ) → Indexed t end n index → (r : ℕ) → ((ts : List Token) → Tokens t end 0 ts → r ≡ refusalOf (namesAt t (take n index)) ts)
-      → (g : Grammar) → Holds t end g → r ≡ staticOf g
-  answer index n i r e g h =
+      → (v : Ruling) → v ≡ rulingOf r → (g : Grammar) → Holds t end g → v ≡ rulingOf (staticOf g)
+  answer index n i r e v f g h =
       let k = tokens-of t end g h in
-      e (grammarTokens g) k ∙ ap (λ (hs : List Text). refusalOf hs (grammarTokens g)) (i .heads (grammarTokens g) k) ∙ rules-agree g (h .proper)
+      f ∙ ap rulingOf (e (grammarTokens g) k ∙ ap (λ (hs : List Text). refusalOf hs (grammarTokens g)) (i .heads (grammarTokens g) k) ∙ rules-agree g (h .proper))
 
   -- the first token
   head-token : Prolog → Rule → Token

@@ -13,6 +13,8 @@ use Rattle.tree.specs.Tree as tree
 use Rattle.tree.specs.Tokens.{encode, grammarTokens}
 use Rattle.plain.specs.Written.{membersIn, written}
 use Rattle.plain.specs.Static.{undefined, duplicate, beyond, banned, backwards, unclassed}
+use Rattle.statics.specs.declared.Ruling.{Ruling}
+use Rattle.statics.specs.declared.Ruling.the-variants.{Kept, Broken}
 
 -- What every tree of a text is like: an end of a range is one character or a hex number, a class has one letter or two,
 -- and `rest` is not written.
@@ -65,6 +67,10 @@ staticOf g =
     (pick (banned g) 8
     (pick (backwards g) 9
     (pick (unclassed g) 10 0)))))
+
+-- the ruling that a number stands for: 0 breaks nothing
+abbrev pub rulingOf : ℕ → Ruling
+rulingOf n = pick (eqb n 0) Kept (Broken n)
 
 -- "a prolog names a version other than `1.0`"
 unfoldable pub mismatched : Grammar → Bool

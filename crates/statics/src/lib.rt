@@ -10,7 +10,7 @@ ghost use Rattle.tree.specs.Tree.{Grammar};
 ghost use Rattle.tree.specs.Tokens.{Token};
 ghost use Rattle.statics.specs.Parts.{sortOf, lateSort, sizeAt, nameAt, partAt, lacking, badCode, endCodes, badCodes, backward, classless, failing};
 ghost use Rattle.statics.specs.Scan.{Tokens, Named, Names, Listing, Looking, Finding, Noting, Noted, Indexing, Indexed, Scanning, namesAt, fails, nameRefusal, codeRefusal, refusalOf};
-ghost use Rattle.statics.specs.Held.{Holds, Held, staticOf, mismatched};
+ghost use Rattle.statics.specs.Held.{Holds, Held, staticOf, rulingOf, mismatched};
 
 fn wide(x: u32) -> usize
     ensures { λ r. ⌜ r ≡ x ⌝ }
@@ -330,14 +330,31 @@ fn refusal(table: &[u32], end: usize, index: &[u32], n: usize) -> u32
     code_refusal(table, end, index, n)
 }
 
-// The first of 5 to 10 that applies to the syntax tree in the table, or 0.
-pub fn static_refusal(table: &[u32], end: usize) -> u32
+// What is said of a syntax tree: it keeps the static rules, or the number of the first that it breaks.
+pub enum Ruling {
+    Kept,
+    Broken(u32),
+}
+
+// The ruling that a number stands for.
+fn ruling_of(number: u32) -> Ruling
+    ensures { λ v. ⌜ v ≡ rulingOf number ⌝ }
+{
+    if number == 0 {
+        return Ruling::Kept;
+    }
+    Ruling::Broken(number)
+}
+
+// The first of 5 to 10 that applies to the syntax tree in the table.
+pub fn static_refusal(table: &[u32], end: usize) -> Ruling
     requires { ⌜ Held (now table) end ⌝ }
-    ensures { λ r. ⌜ ((g : Grammar) → Holds (now (table .entry)) end g → r ≡ staticOf g) ⌝ }
+    ensures { λ v. ⌜ ((g : Grammar) → Holds (now (table .entry)) end g → v ≡ rulingOf (staticOf g)) ⌝ }
 {
     let mut index = [0u32; 16384];
     let n = heads(table, end, &mut index);
-    refusal(table, end, &index, n)
+    let number = refusal(table, end, &index, n);
+    ruling_of(number)
 }
 
 // The name at the table's start is `1.0`.

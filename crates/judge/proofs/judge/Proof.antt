@@ -18,6 +18,9 @@ alternative-requires c κs = search needs
 judge-row-requires : tie.Need-judge-row-requires
 judge-row-requires c κs = ((c .before .before .before .before .before .before .before .before .before .before .before .pre .0, c .before .before .before .before .before .head-at .ensures .fits), root-standing (c .before .before .before .before .before .before .before .before .before .before .before .pre .1 .0) (c .before .before .before .before .before .before .before .before .before .before .before .pre .1 .1) (c .before .before .before .look2 .ensures .0) (c .before .before .alternative .ensures))
 
+verdict-of-requires : tie.Need-verdict-of-requires
+verdict-of-requires c κs = search needs
+
 same-length : tie.Need-same-length
 same-length c = search needs
 
@@ -25,7 +28,7 @@ same-length-2 : tie.Need-same-length-2
 same-length-2 c = search needs
 
 returns : tie.Need-returns
-returns c = root-judged (c .before .before .before .before .before .before .before .before .before .before .before .before .before .before .before .before .pre .1 .0) (c .before .before .before .before .before .before .before .before .before .before .head-at .ensures) (c .before .before .before .before .before .before .before .before .before .look .ensures .0) (c .before .before .before .before .before .before .before .before .look2 .ensures .0) (c .before .before .before .before .before .before .before .alternative .ensures) (c .before .before .before .before .judge-row .ensures)
+returns c = root-judged (c .before .before .before .before .before .before .before .before .before .before .before .before .before .before .before .before .before .pre .1 .0) (c .before .before .before .before .before .before .before .before .before .before .before .head-at .ensures) (c .before .before .before .before .before .before .before .before .before .before .look .ensures .0) (c .before .before .before .before .before .before .before .before .before .look2 .ensures .0) (c .before .before .before .before .before .before .before .before .alternative .ensures) (c .before .before .before .before .before .judge-row .ensures) (c .verdict-of .ensures)
 
 pub judge-spec : {M : Type 1} → statement M
 judge-spec =
@@ -36,6 +39,7 @@ judge-spec =
     look-requires-2
     alternative-requires
     judge-row-requires
+    verdict-of-requires
     same-length
     same-length-2
     returns)

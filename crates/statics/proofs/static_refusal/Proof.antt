@@ -16,8 +16,11 @@ slice-aggregate-refusal c = search needs
 refusal-requires : tie.Need-refusal-requires
 refusal-requires c κs = record { some = law.some-tokens (now (c .before .before .before .before .before .args .table)) (c .before .before .before .before .before .args .end) (c .before .before .before .before .before .pre); listing = c .before .before .heads .ensures .listing }
 
+ruling-of-requires : tie.Need-ruling-of-requires
+ruling-of-requires c κs = search needs
+
 returns : tie.Need-returns
-returns c = law.answer (now (c .before .before .before .before .before .before .args .table)) (c .before .before .before .before .before .before .args .end) _ (c .before .before .before .heads .result) (c .before .before .before .heads .ensures) (c .refusal .result) (c .refusal .ensures)
+returns c = law.answer (now (c .before .before .before .before .before .before .before .args .table)) (c .before .before .before .before .before .before .before .args .end) _ (c .before .before .before .before .heads .result) (c .before .before .before .before .heads .ensures) (c .before .refusal .result) (c .before .refusal .ensures) (c .ruling-of .result) (c .ruling-of .ensures)
 
 pub static-refusal-spec : {M : Type 1} → statement M
 static-refusal-spec =
@@ -27,4 +30,5 @@ static-refusal-spec =
     heads-requires
     slice-aggregate-refusal
     refusal-requires
+    ruling-of-requires
     returns)
