@@ -33,7 +33,7 @@ use Rattle.convert.specs.declared.Converted.the-variants.{Xml, Refused as Not-c
 use Rattle.convert.specs.Concluded.{Parsing, Ready, Written, NotWritten, Concludes}
 use Rattle.calls.specs.declared.Answer.{Answer}
 use Rattle.calls.specs.Calls.{shown, whyBegun, whyRead, whyConverted, refusalOf, ConvertedAs}
-use Rattle.calls.proofs.Outcomes.{refusing, answering, call-refused, call-answered, call-ended, call-not-read, read-is, result-is, too-long, fitting}
+use Rattle.calls.proofs.Outcomes.{refusing, call-refused, call-answered, call-ended, call-not-read, read-is, result-is, too-long, fitting, done-is}
 
 module _ (j : Job) (T new : List ℕ) (s : Start) (w : Started j T new s) (row : Row) (c : chosenOf (w .grammar .tree) (w .input .chars) ≡ found row) (ts : List Test) where
   abbrev g : Grammar
@@ -83,9 +83,6 @@ module _ (j : Job) (T new : List ℕ) (s : Start) (w : Started j T new s) (T′ 
 
   pub numbers-part : f .count ≡ length (take (f .count) P)
   numbers-part = y .count ∙ sym (ap length (y .list))
-
-done-is : (old new bs : List ℕ) (v amb mark : Bool) (count : ℕ) → new ≡ bs ++ drop (length bs) old → count ≡ length bs → mark ≡ amb → answering old v (record { cells = bs; ambiguous = amb }) ≡ record { answer = record { number = 0; length = count; ambiguous = mark; version = v }; buffer = new }
-done-is old new bs v amb mark count e f g = rw (e, f, g)
 
 module _ (j : Job) (old : List ℕ) where
   abbrev last : List Test

@@ -32,6 +32,10 @@ refusing old n m = record { answer = record { number = n; length = 0; ambiguous 
 abbrev pub answering : List ℕ → Bool → Result → Outcome
 answering old m x = record { answer = record { number = 0; length = length (x .cells); ambiguous = x .ambiguous; version = m }; buffer = x .cells ++ drop (length (x .cells)) old }
 
+-- the fields of an answer, as a call has them
+pub done-is : (old new bs : List ℕ) (v amb mark : Bool) (count : ℕ) → new ≡ bs ++ drop (length bs) old → count ≡ length bs → mark ≡ amb → answering old v (record { cells = bs; ambiguous = amb }) ≡ record { answer = record { number = 0; length = count; ambiguous = mark; version = v }; buffer = new }
+done-is old new bs v amb mark count e f g = rw (e, f, g)
+
 refused-outcome : (old : List ℕ) (m : Bool) (n : ℕ) (x : Result) → (n ≡ 0 → ⊥) → outcome old m n x ≡ refusing old n m
 refused-outcome old m n x z = rw (ne-eqb n 0 z, outcome)
 

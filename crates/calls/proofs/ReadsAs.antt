@@ -8,7 +8,7 @@ use lib.ListN.{length, drop, take}
 use Rattle.derive.specs.Derive.{leftParse}
 use Rattle.derive.specs.Another.{ambiguousOf}
 use Rattle.answer.specs.Answer.{Job, Reads, asNumbers}
-use Rattle.answer.specs.Compute.{Outcome, Test, result, longTest, readOf}
+use Rattle.answer.specs.Compute.{Outcome, Test, longTest, readOf}
 use Rattle.answer.proofs.Settled.{read-answers}
 use Rattle.job.specs.declared.Start.{Start}
 use Rattle.job.specs.declared.Found.{Found}
@@ -20,10 +20,7 @@ use Rattle.job.specs.Stages.{Started, Begins}
 use Rattle.job.specs.Found.{Ends}
 use Rattle.calls.specs.declared.Answer.{Answer}
 use Rattle.calls.specs.Calls.{shown, whyBegun, whyRead, refusalOf, ReadAs}
-use Rattle.calls.proofs.Outcomes.{refusing, answering, call-refused, call-answered, call-ended, call-not-read, read-is, result-is, too-long, fitting}
-
-done-is : (old new p : List ℕ) (v amb mark : Bool) (count : ℕ) → new ≡ p ++ drop count old → count ≡ length p → mark ≡ amb → answering old v (result p amb) ≡ record { answer = record { number = 0; length = count; ambiguous = mark; version = v }; buffer = new }
-done-is old new p v amb mark count e f g = rw (e, f, g)
+use Rattle.calls.proofs.Outcomes.{refusing, call-refused, call-answered, call-ended, call-not-read, read-is, result-is, too-long, fitting, done-is}
 
 module _ (j : Job) (old : List ℕ) where
   abbrev tests : List Test
@@ -60,5 +57,5 @@ module _ (j : Job) (old : List ℕ) where
       read-done new′ e l =
           let y = read-is j T new s w T′ P r f q x in
           let o = call-answered j old asNumbers tests (s .passed .mismatch) _ (y .first tests ∙ fitting j T new s w asNumbers (y .row) (y .choice) old (omega (arith, y .count))) (w .grammar .version) (result-is j T new s w asNumbers (y .row) (y .choice)) in
-          let b = done-is old new′ (leftParse (y .row)) (s .passed .mismatch) (ambiguousOf (w .grammar .tree) (w .input .chars) (y .row)) (f .ambiguous) (f .count) (e ∙ ap (λ (q : List ℕ). q ++ drop (f .count) old) (y .list)) (y .count) (y .mark) in
+          let b = done-is old new′ (leftParse (y .row)) (s .passed .mismatch) (ambiguousOf (w .grammar .tree) (w .input .chars) (y .row)) (f .ambiguous) (f .count) (e ∙ ap (λ (q : List ℕ). q ++ drop (f .count) old) (y .list) ∙ ap (λ (n : ℕ). leftParse (y .row) ++ drop n old) (y .count)) (y .count) (y .mark) in
           read-as (record { number = 0; length = f .count; ambiguous = f .ambiguous; version = s .passed .mismatch }) new′ (o ∙ b)
