@@ -61,6 +61,14 @@ module _ (c f : List ℕ) (g : Grammar) (r : Text) (size top first : ℕ) (k : C
   abbrev dots : List (List Symbol)
   dots = k .dots
 
+  -- the name of a rule is an end
+  rule-end : (p : ℕ) → p < size → kindAt c p ≡ 2 → kindAt c (ruleAt c p) ≡ 0
+  rule-end p h z = ends (k .chains p h z)
+    where
+      ends : {e q : ℕ} {ts : List (List Symbol)} → Chain c dots e q ts → kindAt c e ≡ 0
+      ends (ch-last {q} h o _ _) = k .owned q _ (omega (arith, k .count)) o .last
+      ends (ch-next {q} h o _ _) = k .owned q _ (omega (arith, k .count)) o .last
+
   pub shape : (len : ℕ) → size * stretches n ≤ len → Shape c size n len
   shape len room = record {
     cells = record { few = k .small; short = k .short; room = room };
@@ -68,6 +76,8 @@ module _ (c f : List ℕ) (g : Grammar) (r : Text) (size top first : ℕ) (k : C
     nexts = λ p h z. next p h z (k .stands p h);
     names = λ p h z. name p h z (k .stands p h);
     owners = λ p e h o. omega (arith, k .owned p e h o .inside, k .count);
+    rule-ends = rule-end;
+    owner-ends = λ p e h o. k .owned p e h o .last;
   }
     where
       next : (p : ℕ) → p < size → (kindAt c p ≡ 0 → ⊥) → Stands c f g r dots (k .heads) p → p + 1 < size
@@ -79,14 +89,6 @@ module _ (c f : List ℕ) (g : Grammar) (r : Text) (size top first : ℕ) (k : C
       name p h z (at-end q _) = absurd (omega arith)
       name p h z (at-terminal x q l _ _ _) = absurd (omega arith)
       name p h z (at-symbol s q _ _ _ l _) = omega (arith, l, k .count)
-
-  -- the name of a rule is an end
-  rule-end : (p : ℕ) → p < size → kindAt c p ≡ 2 → kindAt c (ruleAt c p) ≡ 0
-  rule-end p h z = ends (k .chains p h z)
-    where
-      ends : {e q : ℕ} {ts : List (List Symbol)} → Chain c dots e q ts → kindAt c e ≡ 0
-      ends (ch-last {q} h o _ _) = k .owned q _ (omega (arith, k .count)) o .last
-      ends (ch-next {q} h o _ _) = k .owned q _ (omega (arith, k .count)) o .last
 
   -- a height has a row
   record SoundAt (p i j v : ℕ) : Type 0 where
@@ -170,19 +172,7 @@ module _ (c f : List ℕ) (g : Grammar) (r : Text) (size top first : ℕ) (k : C
   -- no derivation is lower
   module _ (t : List ℕ) (closed : Before c f size n (n + 1) t) (small : (p i j : ℕ) → Place size n p i j → cellOf n t p i j < none → cellOf n t p i j ≤ size * stretches n) where
     closed-at : (i j : ℕ) → i ≤ j → j ≤ n → Closed c f size n t i j
-    closed-at i j h l = closed j (omega arith) i (omega arith) h
-
-    split-low : (p i j m : ℕ) → p < size → kindAt c p ≡ 2 → i ≤ m → m ≤ j → j ≤ n → cellOf n t p i j ≤ splitOf c t n p i j m
-    split-low p i j m h z hm lm hj =
-        let w = closed-at i j (omega arith) hj in
-        let u = w .held p (omega arith) h .under in
-        elim (ℕ-discrete m i) as (λ _. cellOf n t p i j ≤ splitOf c t n p i j m) [
-          | yes e ↦ rw e (u .left z)
-          | no e ↦ (elim (ℕ-discrete m j) as (λ _. cellOf n t p i j ≤ splitOf c t n p i j m) [
-            | yes d ↦ rw d (u .right z)
-            | no d ↦ w .inner p (omega arith) h z m (omega arith) (omega arith)
-          ])
-        ]
+    closed-at i j h l = closed i j h (omega arith)
 
     record Reached (p i j h : ℕ) : Type 0 where
       low : valueOf c t n p i j ≤ h
@@ -202,7 +192,7 @@ module _ (c f : List ℕ) (g : Grammar) (r : Text) (size top first : ℕ) (k : C
     low-rule e i m h ss hi hm w d =
         let l : w .place < size = omega (arith, w .inside, k .count) in
         let u = d (w .place) l (w .is) in
-        let o = closed-at i m hi hm .held (w .place) (omega arith) l .owner e (w .owned) in
+        let o = closed-at i m hi hm .owner (w .place) e l (w .owned) in
         (omega (arith, u .low), omega (arith, u .some))
 
     shifted : (p i j h : ℕ) (x : Terminal) (ss : List Symbol) → p < size → i + width x ≤ j → j ≤ n → T (fits x (drop i r)) → behind dots p ≡ terminal x ∷ ss
@@ -216,7 +206,7 @@ module _ (c f : List ℕ) (g : Grammar) (r : Text) (size top first : ℕ) (k : C
         let one : fitsAt f p i ≡ 1 = ff i (omega arith) ∙ ap (λ (o : Terminal). flag (fits o (drop i r))) e ∙ flag-true (fits x (drop i r)) fit in
         let v = valueOf c t n (p + 1) (i + width x) j in
         let ev : valueOf c t n (p + 1) (i + goesAt c p) j ≡ v = ap (λ (o : ℕ). valueOf c t n (p + 1) (i + o) j) eg in
-        let o = closed-at i j (omega arith) hj .held p (omega arith) hp .under .terminal z one (omega arith) in
+        let o = closed-at i j (omega arith) hj .terminal p hp z one (omega arith) (omega (arith, u .some)) in
         reach-cell p i j (record { inside = hp; order = omega arith; stop = hj }) v (λ q. omega arith) (omega arith) (u .some) h (u .low)
 
     noded : (p i m j a hc hd : ℕ) (s : Symbol) (ss : List Symbol) → p < size → i ≤ m → m ≤ j → j ≤ n → a < length (alts g s) → behind dots p ≡ s ∷ ss
@@ -237,7 +227,7 @@ module _ (c f : List ℕ) (g : Grammar) (r : Text) (size top first : ℕ) (k : C
         let x = cellOf n t (ruleAt c p) i m in
         let sm = small (ruleAt c p) i m (record { inside = omega (arith, k .count); order = hi; stop = omega arith }) (one .1) in
         let ux : upOf x ≡ x + 1 = up-is x (one .1) in
-        reach-cell p i j (record { inside = hp; order = omega arith; stop = hj }) (splitOf c t n p i j m) (λ q. omega arith) (split-low p i j m hp z hi hm hj)
+        reach-cell p i j (record { inside = hp; order = omega arith; stop = hj }) (splitOf c t n p i j m) (λ q. omega arith) (closed-at i j (omega arith) hj .split p m hp z hi hm (u .some))
         (omega (arith, one .0, sm, u .some, rows-small size n (k .small) (k .short))) (max (suc hc) hd) (omega (arith, one .0, u .low))
 
     complete : {d : Row} {ss : List Symbol} {i j : ℕ} → Derives g r d ss i j → (p : ℕ) → p < size → behind dots p ≡ ss → j ≤ n → Reached p i j (height d)

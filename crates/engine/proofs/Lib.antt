@@ -1,6 +1,9 @@
 pub mod Cells
 pub mod Lowering
-pub mod Sweeps
 pub mod Values
+pub mod Relaxing
+pub mod Spreading
+pub mod Users
+pub mod Columns
 pub mod Small
 pub mod Exact

@@ -1,12 +1,13 @@
 -- What the engine does to the table: cells are lowered, each to what the table gives it then.
 use mathlib.Core.Path.{_≡_}
 use mathlib.Core.List.{List, [], _∷_}
-use Prim.Native.Nat.{ℕ, _+_, _-_, _<_, _≤_}
+use Prim.Native.Nat.{ℕ, _+_, _*_, _-_, _<_, _≤_}
 use lib.ListN.{length, getD, set}
 use lib.Dec.{eqb}
+use Rattle.text.specs.Limits.{mostSize}
 use Rattle.text.specs.Lists.{Text, pick}
 use Rattle.tree.specs.Tree.{Grammar}
-use Rattle.code.specs.Code.{kindAt, goesAt, ownerAt, fitsAt, Coded}
+use Rattle.code.specs.Code.{kindAt, goesAt, ruleAt, ownerAt, fitsAt, Coded}
 use Rattle.code.specs.Heights.{cellAt, none, Heights}
 use Rattle.engine.specs.Table.{valueOf, splitOf}
 
@@ -30,9 +31,12 @@ pub data Steps (c f : List ℕ) (size n : ℕ) (A : ℕ → ℕ → Type 0) : Li
   step : {t₀ t : List ℕ} (p i j v : ℕ) → Steps c f size n A t₀ t → A i j → p < size → i ≤ j → j ≤ n → Gives c f size n t p i j v → v < cellOf n t p i j
       → Steps c f size n A t₀ (set t (cellAt n p i j) v)
 
--- one stretch; those that end at j; all
+-- one stretch; those that end at j and begin before m; those that end at j; all
 abbrev pub Only : ℕ → ℕ → ℕ → ℕ → Type 0
 Only i j k l = (k ≡ i) × (l ≡ j)
+
+abbrev pub Ahead : ℕ → ℕ → ℕ → ℕ → Type 0
+Ahead m j k l = (k < m) × (l ≡ j)
 
 abbrev pub EndsAt : ℕ → ℕ → ℕ → Type 0
 EndsAt j k l = l ≡ j
@@ -40,103 +44,150 @@ EndsAt j k l = l ≡ j
 abbrev pub Any : ℕ → ℕ → Type 0
 Any k l = Unit {0}
 
--- the cell x was lowered to v, or is not above it
-pub data Lowered (t : List ℕ) (x v : ℕ) : ℕ → List ℕ → Type 0 where
-  lowered : v < getD t x 0 → v < none → Lowered t x v 1 (set t x v)
-  kept : getD t x 0 ≤ v → Lowered t x v 0 t
-
--- the value of p was handed to the rule that owns it, if any
-pub data Handed (c : List ℕ) (n : ℕ) (t : List ℕ) (p i j : ℕ) : ℕ → List ℕ → Type 0 where
-  free : ownerAt c p ≡ 0 → Handed c n t p i j 0 t
-  handed : {r : ℕ} {u : List ℕ} (e : ℕ) → ownerAt c p ≡ e + 1 → Lowered t (cellAt n e i j) (valueOf c t n p i j) r u → Handed c n t p i j r u
-
--- v is a value of f from lo on and below hi
-pub record Some (f : ℕ → ℕ) (lo hi v : ℕ) : Type 0 where
-  pub place : ℕ
-  pub from : lo ≤ place
-  pub below : place < hi
-  pub is : v ≡ f place
-
--- it is the least; none where there is no lower one
-pub record Lowest (f : ℕ → ℕ) (lo hi v : ℕ) : Type 0 where
-  pub low : (m : ℕ) → lo ≤ m → m < hi → v ≤ f m
-  pub some : v < none → Some f lo hi v
-
--- what the terminal at p offers
-pub record Shifted (c f t : List ℕ) (n p i j v : ℕ) : Type 0 where
-  pub low : fitsAt f p i ≡ 1 → i + goesAt c p ≤ j → v ≤ valueOf c t n (p + 1) (i + goesAt c p) j
-  pub some : v < none → (fitsAt f p i ≡ 1) × (i + goesAt c p ≤ j) × (v ≡ valueOf c t n (p + 1) (i + goesAt c p) j)
-
--- v is not above what the terminal at p gives, nor what a symbol there gives that takes nothing or all
-pub record Under (c f : List ℕ) (n : ℕ) (t : List ℕ) (p i j v : ℕ) : Type 0 where
-  pub terminal : kindAt c p ≡ 1 → fitsAt f p i ≡ 1 → i + goesAt c p ≤ j → v ≤ valueOf c t n (p + 1) (i + goesAt c p) j
-  pub left : kindAt c p ≡ 2 → v ≤ splitOf c t n p i j i
-  pub right : kindAt c p ≡ 2 → v ≤ splitOf c t n p i j j
-
--- the least of them
-pub record Offer (c f : List ℕ) (size n : ℕ) (t : List ℕ) (p i j v : ℕ) : Type 0 where
-  pub under : Under c f n t p i j v
-  pub some : v < none → Gives c f size n t p i j v
-
--- the rule that owns p is not above it
-abbrev pub OwnerUnder : List ℕ → ℕ → ℕ → ℕ → ℕ → List ℕ → Type 0
-OwnerUnder c n p i j t = (e : ℕ) → ownerAt c p ≡ e + 1 → cellOf n t e i j ≤ valueOf c t n p i j
-
-abbrev pub CellUnder : List ℕ → List ℕ → ℕ → ℕ → ℕ → ℕ → List ℕ → Type 0
-CellUnder c f n p i j t = Under c f n t p i j (cellOf n t p i j)
-
--- no cell of the stretch can be lowered by what p is offered or hands on
-pub record Held (c f : List ℕ) (n p i j : ℕ) (t : List ℕ) : Type 0 where
-  pub under : CellUnder c f n p i j t
-  pub owner : OwnerUnder c n p i j t
-
--- the same for the positions from p on
-abbrev pub HeldFrom : List ℕ → List ℕ → ℕ → ℕ → ℕ → ℕ → ℕ → List ℕ → Type 0
-HeldFrom c f size n i j p t = (q : ℕ) → p ≤ q → q < size → Held c f n q i j t
-
--- the k-th position of a sweep: the last comes first where down is not 0
-abbrev pub turnOf : ℕ → ℕ → ℕ → ℕ
-turnOf size down k = pick (eqb down 0) k (size - 1 - k)
-
--- the same for the first k positions of a sweep
-abbrev pub HeldTo : List ℕ → List ℕ → ℕ → ℕ → ℕ → ℕ → ℕ → ℕ → List ℕ → Type 0
-HeldTo c f size n i j down k t = (q : ℕ) → q < size → turnOf size down q < k → Held c f n q i j t
-
--- none can by a split inside the stretch
-abbrev pub InnerAt : List ℕ → ℕ → ℕ → ℕ → ℕ → List ℕ → Type 0
-InnerAt c n p i j t = kindAt c p ≡ 2 → (m : ℕ) → i < m → m < j → cellOf n t p i j ≤ splitOf c t n p i j m
-
-abbrev pub InnerFrom : List ℕ → ℕ → ℕ → ℕ → ℕ → ℕ → List ℕ → Type 0
-InnerFrom c size n i j p t = (q : ℕ) → p ≤ q → q < size → InnerAt c n q i j t
-
--- steps, whatever fits, after which P holds
-pub record Split (c : List ℕ) (size n i j : ℕ) (P : List ℕ → Type 0) (t₀ t : List ℕ) : Type 0 where
-  pub steps : (f : List ℕ) → Steps c f size n (Only i j) t₀ t
-  pub inner : P t
-
--- steps; if nothing changed, P holds
-pub record Swept (c f : List ℕ) (size n : ℕ) (A : ℕ → ℕ → Type 0) (P : List ℕ → Type 0) (t₀ t : List ℕ) (changed : ℕ) : Type 0 where
-  pub steps : Steps c f size n A t₀ t
-  pub quiet : changed ≡ 0 → t ≡ t₀
-  pub done : changed ≡ 0 → P t₀
-  pub falls : (changed ≡ 0 → ⊥) → sumOf t < sumOf t₀
-
--- nothing lowers a cell of the stretch any more
-pub record Closed (c f : List ℕ) (size n : ℕ) (t : List ℕ) (i j : ℕ) : Type 0 where
-  pub held : HeldFrom c f size n i j 0 t
-  pub inner : InnerFrom c size n i j 0 t
-
 -- steps on the stretches of A, after which P holds
 pub record Settled (c f : List ℕ) (size n : ℕ) (A : ℕ → ℕ → Type 0) (P : List ℕ → Type 0) (t₀ t : List ℕ) : Type 0 where
   pub steps : Steps c f size n A t₀ t
   pub closed : P t
 
--- the stretches from i on that end at j are done; all that end before j
-abbrev pub ColumnFrom : List ℕ → List ℕ → ℕ → ℕ → ℕ → ℕ → List ℕ → Type 0
-ColumnFrom c f size n j i t = (k : ℕ) → i ≤ k → k ≤ j → Closed c f size n t k j
+-- the cell x was lowered to v, or is not above it
+pub data Lowered (t : List ℕ) (x v : ℕ) : ℕ → List ℕ → Type 0 where
+  lowered : v < getD t x 0 → v < none → Lowered t x v 1 (set t x v)
+  kept : getD t x 0 ≤ v → Lowered t x v 0 t
 
+-- nothing lowers a cell of the stretch any more
+pub record Closed (c f : List ℕ) (size n : ℕ) (t : List ℕ) (i j : ℕ) : Type 0 where
+  pub terminal : (p : ℕ) → p < size → kindAt c p ≡ 1 → fitsAt f p i ≡ 1 → i + goesAt c p ≤ j → valueOf c t n (p + 1) (i + goesAt c p) j < none → cellOf n t p i j ≤ valueOf c t n (p + 1) (i + goesAt c p) j
+  pub split : (p m : ℕ) → p < size → kindAt c p ≡ 2 → i ≤ m → m ≤ j → valueOf c t n (p + 1) m j < none → cellOf n t p i j ≤ splitOf c t n p i j m
+  pub owner : (p e : ℕ) → p < size → ownerAt c p ≡ e + 1 → cellOf n t e i j ≤ valueOf c t n p i j
+
+-- What one stretch hands on to longer ones: what stands behind p is derived from m to j, so the cells of p before m are not above it.
+pub record HandedOn (c f : List ℕ) (n m j : ℕ) (t : List ℕ) (p : ℕ) : Type 0 where
+  pub terminal : (i : ℕ) → kindAt c p ≡ 1 → fitsAt f p i ≡ 1 → i < m → i + goesAt c p ≡ m → valueOf c t n (p + 1) m j < none → cellOf n t p i j ≤ valueOf c t n (p + 1) m j
+  pub split : (i : ℕ) → kindAt c p ≡ 2 → i < m → m < j → valueOf c t n (p + 1) m j < none → cellOf n t p i j ≤ splitOf c t n p i j m
+
+abbrev pub Spread : List ℕ → List ℕ → ℕ → ℕ → ℕ → ℕ → List ℕ → Type 0
+Spread c f size n m j t = (p : ℕ) → p < size → HandedOn c f n m j t p
+
+-- the same for the positions before p
+abbrev pub SpreadTo : List ℕ → List ℕ → ℕ → ℕ → ℕ → ℕ → List ℕ → Type 0
+SpreadTo c f n m j p t = (q : ℕ) → q < p → HandedOn c f n m j t q
+
+-- the stretch has been handed all that shorter ones have for it
+abbrev pub Given : List ℕ → List ℕ → ℕ → ℕ → ℕ → ℕ → List ℕ → Type 0
+Given c f size n i j t = (m : ℕ) → i < m → m ≤ j → Spread c f size n m j t
+
+-- nothing stands behind q from m to j that could be handed on
+pub data Idle (c t : List ℕ) (n m j q : ℕ) : Type 0 where
+  idle-end : kindAt c q ≡ 0 → Idle c t n m j q
+  idle-none : valueOf c t n (q + 1) m j ≡ none → Idle c t n m j q
+
+-- r is the first position from p on that is not idle, or size
+pub record NextRest (c t : List ℕ) (size n p m j r : ℕ) : Type 0 where
+  pub from : p ≤ r
+  pub below : r ≤ size
+  pub idle : (q : ℕ) → p ≤ q → q < r → Idle c t n m j q
+  pub busy : r < size → (kindAt c r ≡ 0 → ⊥)
+
+-- no position has a value on the stretch, which is not empty
+pub record Bare (size n i j : ℕ) (t : List ℕ) : Type 0 where
+  pub wide : i < j
+  pub bare : (p : ℕ) → p < size → cellOf n t p i j ≡ none
+
+-- what the terminal at p offers, if it takes no character
+pub record Shifted (c f t : List ℕ) (n p i j v : ℕ) : Type 0 where
+  pub low : goesAt c p ≡ 0 → fitsAt f p i ≡ 1 → v ≤ valueOf c t n (p + 1) i j
+  pub some : v < none → (goesAt c p ≡ 0) × (fitsAt f p i ≡ 1) × (v ≡ valueOf c t n (p + 1) i j)
+
+-- v is the least of what p is offered on its own stretch
+pub record Offer (c f : List ℕ) (size n : ℕ) (t : List ℕ) (p i j v : ℕ) : Type 0 where
+  pub terminal : kindAt c p ≡ 1 → goesAt c p ≡ 0 → fitsAt f p i ≡ 1 → v ≤ valueOf c t n (p + 1) i j
+  pub left : kindAt c p ≡ 2 → v ≤ splitOf c t n p i j i
+  pub right : kindAt c p ≡ 2 → v ≤ splitOf c t n p i j j
+  pub dot : v < none → kindAt c p ≡ 0 → ⊥
+  pub some : v < none → Gives c f size n t p i j v
+
+-- S has for each rule how many of the last of 512 positions have not seen it since it was lowered
+abbrev pub Seen : List ℕ → List ℕ → ℕ → Type 0
+Seen c S p = p + getD S (ruleAt c p) 0 < mostSize
+
+-- no cell of the stretch can be lowered by what p is offered, as far as it has been seen, or hands on
+pub record Held (c f : List ℕ) (n i j : ℕ) (t S : List ℕ) (p : ℕ) : Type 0 where
+  pub terminal : kindAt c p ≡ 1 → goesAt c p ≡ 0 → fitsAt f p i ≡ 1 → cellOf n t p i j ≤ valueOf c t n (p + 1) i j
+  pub left : kindAt c p ≡ 2 → i < j → cellOf n t p i j ≤ splitOf c t n p i j i
+  pub right : kindAt c p ≡ 2 → Seen c S p → cellOf n t p i j ≤ splitOf c t n p i j j
+  pub owner : (e : ℕ) → ownerAt c p ≡ e + 1 → cellOf n t e i j ≤ valueOf c t n p i j
+
+abbrev pub AllHeld : List ℕ → List ℕ → ℕ → ℕ → ℕ → ℕ → List ℕ → List ℕ → Type 0
+AllHeld c f size n i j t S = (q : ℕ) → q < size → Held c f n i j t S q
+
+-- the value of p was handed to the rule that owns it, if any; where that lowered the rule, d positions have not seen it
+pub data Handed (c : List ℕ) (n : ℕ) (t S : List ℕ) (p i j d : ℕ) : List ℕ → List ℕ → Type 0 where
+  free : ownerAt c p ≡ 0 → Handed c n t S p i j d t S
+  above : (e : ℕ) → ownerAt c p ≡ e + 1 → cellOf n t e i j ≤ valueOf c t n p i j → Handed c n t S p i j d t S
+  handed : (e : ℕ) → ownerAt c p ≡ e + 1 → valueOf c t n p i j < cellOf n t e i j → valueOf c t n p i j < none
+      → Handed c n t S p i j d (set t (cellAt n e i j) (valueOf c t n p i j)) (set S e d)
+
+-- what falls with every rule that is lowered and every rule that is seen
+abbrev pub weight : List ℕ → List ℕ → ℕ
+weight t S = (mostSize + 1) * sumOf t + sumOf S
+
+-- p was relaxed; a is 1 where its own cell was lowered
+pub record Relaxed (c f : List ℕ) (size n p i j d : ℕ) (t S : List ℕ) (a : ℕ) (t' S' : List ℕ) : Type 0 where
+  pub steps : Steps c f size n (Only i j) t t'
+  pub held : mostSize ≤ p + d → Held c f n i j t' S' p
+  pub kept : (q : ℕ) → q < size → (q ≡ p → ⊥) → (q + 1 ≡ p → a ≡ 0) → mostSize ≤ q + d → Held c f n i j t S q → Held c f n i j t' S' q
+  pub falls : d ≤ mostSize → weight t' S' ≤ weight t S
+
+-- how many of the last positions do not see what is lowered at p
+abbrev pub unseenBy : ℕ → ℕ → ℕ
+unseenBy all p = pick (eqb all 0) mostSize (mostSize - p)
+
+-- The positions below from, from the last on: all of them, or until one is not lowered.
+pub record Descended (c f : List ℕ) (size n from i j all : ℕ) (t S t' S' : List ℕ) : Type 0 where
+  pub steps : Steps c f size n (Only i j) t t'
+  pub every : (all ≡ 0 → ⊥) → (q : ℕ) → q < from → Held c f n i j t' S' q
+  pub top : all ≡ 0 → (u : ℕ) → u + 1 ≡ from → Held c f n i j t' S' u
+  pub kept : all ≡ 0 → (q : ℕ) → q < size → (q + 1 ≡ from → ⊥) → Held c f n i j t S q → Held c f n i j t' S' q
+  pub falls : weight t' S' ≤ weight t S
+
+-- x is the last use of the rule e before b and 1, or 0
+pub record LastUse (c : List ℕ) (e b x : ℕ) : Type 0 where
+  pub below : x ≤ b
+  pub last : (q : ℕ) → x ≤ q → q < b → kindAt c q ≡ 2 → ruleAt c q ≡ e → ⊥
+  pub is : (u : ℕ) → x ≡ u + 1 → (kindAt c u ≡ 2) × (ruleAt c u ≡ e)
+
+-- U has for each rule its last use below p, and for each use the one before it
+pub record Uses (c : List ℕ) (size p : ℕ) (U : List ℕ) : Type 0 where
+  pub last : (e : ℕ) → e < size → LastUse c e p (getD U (2 * e) 0)
+  pub next : (u : ℕ) → u < p → kindAt c u ≡ 2 → LastUse c (ruleAt c u) u (getD U (2 * u + 1) 0)
+
+-- what held holds
+abbrev pub AllKept : List ℕ → List ℕ → ℕ → ℕ → ℕ → ℕ → List ℕ → List ℕ → List ℕ → List ℕ → Type 0
+AllKept c f size n i j t S t' S' = (q : ℕ) → q < size → Held c f n i j t S q → Held c f n i j t' S' q
+
+-- the uses of e among the last d positions have seen it
+pub record Revisited (c f : List ℕ) (size n e d i j : ℕ) (t S t' S' : List ℕ) : Type 0 where
+  pub steps : Steps c f size n (Only i j) t t'
+  pub made : (q : ℕ) → q < size → kindAt c q ≡ 2 → ruleAt c q ≡ e → mostSize ≤ q + d → Held c f n i j t' S' q
+  pub kept : AllKept c f size n i j t S t' S'
+  pub falls : weight t' S' ≤ weight t S
+
+-- every rule was seen once by what had not seen it; r is 0 where there was none
+pub record Rounded (c f : List ℕ) (size n i j : ℕ) (t S : List ℕ) (r : ℕ) (t' S' : List ℕ) : Type 0 where
+  pub steps : Steps c f size n (Only i j) t t'
+  pub kept : AllHeld c f size n i j t S → AllHeld c f size n i j t' S'
+  pub clean : r ≡ 0 → (e : ℕ) → e < size → getD S' e 0 ≡ 0
+  pub falls : weight t' S' ≤ weight t S
+  pub less : (r ≡ 0 → ⊥) → weight t' S' < weight t S
+
+-- the stretches that end at j, from i on, are closed and handed on
+pub record ColumnFrom (c f : List ℕ) (size n j i : ℕ) (t : List ℕ) : Type 0 where
+  pub closed : (k : ℕ) → i ≤ k → k ≤ j → Closed c f size n t k j
+  pub spread : (m : ℕ) → i ≤ m → m ≤ j → Spread c f size n m j t
+
+-- all that end before j are closed
 abbrev pub Before : List ℕ → List ℕ → ℕ → ℕ → ℕ → List ℕ → Type 0
-Before c f size n j t = (l : ℕ) → l < j → ColumnFrom c f size n l 0 t
+Before c f size n j t = (k l : ℕ) → k ≤ l → l < j → Closed c f size n t k l
 
 -- the first k cells are none
 pub record Clear (k : ℕ) (t₀ t : List ℕ) : Type 0 where

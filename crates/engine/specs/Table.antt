@@ -21,10 +21,6 @@ upOf h = pick (ltb h none) (h + 1) none
 abbrev pub splitOf : List ℕ → List ℕ → ℕ → ℕ → ℕ → ℕ → ℕ → ℕ
 splitOf c t n p i j m = max (upOf (getD t (cellAt n (ruleAt c p) i m) 0)) (valueOf c t n (p + 1) m j)
 
--- the rule e from i to m, then the position q from m to j
-abbrev pub joinOf : List ℕ → ℕ → ℕ → ℕ → ℕ → ℕ → ℕ → ℕ
-joinOf t n e q i j m = max (upOf (getD t (cellAt n e i m) 0)) (getD t (cellAt n q m j) 0)
-
 -- the main table has a cell for each position on each stretch
 pub record Room (size n len : ℕ) : Type 0 where
   pub few : size ≤ mostSize
@@ -38,6 +34,9 @@ pub record Shape (c : List ℕ) (size n len : ℕ) : Type 0 where
   pub nexts : (p : ℕ) → p < size → (kindAt c p ≡ 0 → ⊥) → p + 1 < size
   pub names : (p : ℕ) → p < size → kindAt c p ≡ 2 → ruleAt c p < size
   pub owners : (p e : ℕ) → p < size → ownerAt c p ≡ e + 1 → e < size
+  -- a rule is named by an end
+  pub rule-ends : (p : ℕ) → p < size → kindAt c p ≡ 2 → kindAt c (ruleAt c p) ≡ 0
+  pub owner-ends : (p e : ℕ) → p < size → ownerAt c p ≡ e + 1 → kindAt c e ≡ 0
 
 pub record Safe (c f : List ℕ) (size n len : ℕ) : Type 0 where
   pub shape : Shape c size n len

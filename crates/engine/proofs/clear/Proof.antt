@@ -3,7 +3,7 @@ use Prim.Native.Nat.{ℕ, _-_, _<_, _≤_}
 use native.Mathlib.Omega.{arith}
 use lib.ListN.{length, getD, length-set}
 use Rattle.code.specs.Heights.{none}
-use Rattle.engine.proofs.Sweeps.{clear-next}
+use Rattle.engine.proofs.Columns.{clear-next}
 use Rattle.engine.proofs.clear.Statement.{statement}
 use Rattle.engine.proofs.clear.Tie as tie
 

@@ -2,70 +2,87 @@ use mathlib.Core.Path.{_≡_, refl, _∙_}
 use Prim.Native.Nat.{_+_, _-_, _≤_}
 use native.Mathlib.Omega.{arith}
 use lib.ListN.{length}
+use borrow.Author.Needs.{needs}
 use Rattle.engine.specs.Sweep.{Settled, Any, Before}
 use Rattle.engine.proofs.Cells.{square-fits, rows-fit}
-use Rattle.engine.proofs.Sweeps.{all-start, all-next}
+use Rattle.engine.proofs.Columns.{all-start, all-next}
+use Rattle.engine.proofs.Users.{all-zero}
 use Rattle.engine.proofs.Exact.{filled}
 use Rattle.engine.proofs.fill.Statement.{statement}
 use Rattle.engine.proofs.fill.Tie as tie
 
 abbrev Inv-loop : tie.InvT-loop
-Inv-loop code fits size n main₀ j₀ main j = (j ≤ n + 1) × (length main ≡ length main₀) × Settled code fits size n Any (Before code fits size n j) main₀ main
+Inv-loop code fits size n main₀ uses stale₀ j₀ main stale j = (j ≤ n + 1) × (length main ≡ length main₀) × (length stale ≡ length stale₀) × Settled code fits size n Any (Before code fits size n j) main₀ main
 
 abbrev μ-loop : tie.MeasureT-loop
-μ-loop code fits size n main₀ j₀ main j = (n + 1) - j
+μ-loop code fits size n main₀ uses stale₀ j₀ main stale j = (n + 1) - j
+
+slice-aggregate-list-uses : tie.Need-slice-aggregate-list-uses Inv-loop μ-loop
+slice-aggregate-list-uses c = search needs
+
+list-uses-requires : tie.Need-list-uses-requires Inv-loop μ-loop
+list-uses-requires c κs =
+    let s = c .before .before .before .before .pre .shape in
+    (s .cells .few, s .coded, omega (arith, s .cells .few), s .names, all-zero 1024)
 
 add-clear : tie.Need-add-clear Inv-loop μ-loop
-add-clear c = omega (arith, c .before .before .before .before .pre .shape .cells .short)
+add-clear c = omega (arith, c .before .before .before .before .before .before .before .pre .shape .cells .short)
 
 add-clear-2 : tie.Need-add-clear-2 Inv-loop μ-loop
-add-clear-2 c = omega (arith, c .before .before .before .before .pre .shape .cells .short)
+add-clear-2 c = omega (arith, c .before .before .before .before .before .before .before .pre .shape .cells .short)
 
 mul-clear : tie.Need-mul-clear Inv-loop μ-loop
 mul-clear c =
-    let n = c .before .before .before .before .args .n in
-    let l = c .before .before .before .before .pre .shape .cells .short in
+    let n = c .before .before .before .before .before .before .before .args .n in
+    let l = c .before .before .before .before .before .before .before .pre .shape .cells .short in
     square-fits (n + 1) (n + 2) (omega arith) (omega arith)
 
 mul-clear-2 : tie.Need-mul-clear-2 Inv-loop μ-loop
-mul-clear-2 c = rows-fit (c .before .before .before .before .args .size) (c .before .before .before .before .args .n) (c .before .before .before .before .pre .shape .cells .few) (c .before .before .before .before .pre .shape .cells .short)
+mul-clear-2 c = rows-fit (c .before .before .before .before .before .before .before .args .size) (c .before .before .before .before .before .before .before .args .n) (c .before .before .before .before .before .before .before .pre .shape .cells .few) (c .before .before .before .before .before .before .before .pre .shape .cells .short)
 
 clear-requires : tie.Need-clear-requires Inv-loop μ-loop
-clear-requires c κs = c .before .before .before .before .pre .shape .cells .room
+clear-requires c κs = c .before .before .before .before .before .before .before .pre .shape .cells .room
 
 loop-holds : tie.Need-loop-holds Inv-loop μ-loop
 loop-holds c =
-    let a = c .before .before .before .before .before .before .before .args in
-    (omega arith, refl, all-start (a .code .now) (a .fits .now) (a .size) (a .n) (c .before .before .clear .last .0))
+    let a = c .before .before .before .before .before .before .before .before .before .before .args in
+    (omega arith, refl, refl, all-start (a .code .now) (a .fits .now) (a .size) (a .n) (c .before .before .clear .last .0))
+
+slice-aggregate-column : tie.Need-slice-aggregate-column Inv-loop μ-loop
+slice-aggregate-column c = search needs
+
+slice-aggregate-column-2 : tie.Need-slice-aggregate-column-2 Inv-loop μ-loop
+slice-aggregate-column-2 c = search needs
 
 column-requires : tie.Need-column-requires Inv-loop μ-loop
 column-requires c κs =
-    let s = c .before .before .before .before .before .before .before .before .before .before in
-    let e : length (c .before .before .loop .main) ≡ length (s .args .main .now) = c .before .before .loop .inv .1 ∙ c .before .before .before .before .before .clear .kept .0 in
-    (rw e (s .pre), c .before .loop-test .taken)
+    let s = c .before .before .before .before .before .before .before .before .before .before .before .before .before .before .before in
+    let e : length (c .before .before .before .before .loop .main) ≡ length (s .args .main .now) = c .before .before .before .before .loop .inv .1 ∙ c .before .before .before .before .before .before .before .clear .kept .0 in
+    let few = s .pre .shape .cells .few in
+    (rw e (s .pre), c .before .before .before .before .before .before .before .before .before .before .list-uses .ensures, omega (arith, c .before .before .before .before .before .before .before .before .before .before .list-uses .kept .1 .0), omega (arith, c .before .before .before .before .loop .inv .2), c .before .before .before .loop-test .taken)
 
 add-j : tie.Need-add-j Inv-loop μ-loop
-add-j c = omega (arith, c .before .before .before .before .loop-test .taken, c .before .before .before .before .before .before .before .before .before .before .before .before .before .pre .shape .cells .short)
+add-j c = omega (arith, c .before .before .before .before .before .before .before .loop-test .taken, c .before .before .before .before .before .before .before .before .before .before .before .before .before .before .before .before .before .before .before .pre .shape .cells .short)
 
 loop-less : tie.Need-loop-less Inv-loop μ-loop
-loop-less c = omega (arith, c .before .before .before .before .loop-test .taken)
+loop-less c = omega (arith, c .before .before .before .before .before .before .before .loop-test .taken)
 
 loop-again : tie.Need-loop-again Inv-loop μ-loop
 loop-again c =
-    let a = c .before .before .before .before .before .before .before .before .before .before .before .before .before .args in
-    (omega (arith, c .before .before .before .before .loop-test .taken), c .before .before .column .kept .1 .1 .0 ∙ c .before .before .before .before .before .loop .inv .1, all-next (a .code .now) (a .fits .now) (a .size) (a .n) (c .before .before .before .before .before .loop .j) (c .before .before .before .before .loop-test .taken) (c .before .before .before .before .before .loop .inv .2) (c .before .before .column .ensures))
+    let a = c .before .before .before .before .before .before .before .before .before .before .before .before .before .before .before .before .before .before .before .args in
+    (omega (arith, c .before .before .before .before .before .before .before .loop-test .taken), c .before .before .before .column .kept .1 .1 .1 .0 ∙ c .before .before .before .before .before .before .before .before .loop .inv .1, c .before .before .before .column .kept .1 .1 .1 .1 .0 ∙ c .before .before .before .before .before .before .before .before .loop .inv .2, all-next (a .code .now) (a .fits .now) (a .size) (a .n) (c .before .before .before .before .before .before .before .before .loop .j) (c .before .before .before .before .before .before .before .loop-test .taken) (c .before .before .before .before .before .before .before .before .loop .inv .3) (c .before .before .before .column .ensures))
 
 same-length : tie.Need-same-length Inv-loop μ-loop
 same-length c = c .before .loop .inv .1 ∙ c .before .before .before .before .clear .kept .0
 
 returns : tie.Need-returns Inv-loop μ-loop
 returns c =
-    let s = c .before .before .before .before .before .before .before .before .before in
+    let s = c .before .before .before .before .before .before .before .before .before .before .before .before in
     let a = s .args in
     let e : c .before .loop .j ≡ a .n + 1 = omega (arith, c .before .loop .inv .0, c .loop-test .left) in
     record {
       same = c .before .loop .inv .1 ∙ c .before .before .before .before .clear .kept .0;
-      heights = filled (a .code .now) (a .fits .now) (a .size) (a .n) (c .before .before .before .before .clear .last .0) (c .before .loop .main) (c .before .before .before .before .clear .ensures .empty) (rw e at (c .before .loop .inv .2)) (rw (c .before .before .before .before .clear .kept .0) (s .pre .shape .cells .room));
+      heights = filled (a .code .now) (a .fits .now) (a .size) (a .n) (c .before .before .before .before .clear .last .0) (c .before .loop .main) (c .before .before .before .before .clear .ensures .empty) (rw e at (c .before .loop .inv .3)) (rw (c .before .before .before .before .clear .kept .0) (s .pre .shape .cells .room));
     }
 
 pub fill-spec : {M : Type 1} → statement M
@@ -74,12 +91,16 @@ fill-spec =
     (tie.spec
     Inv-loop
     μ-loop
+    slice-aggregate-list-uses
+    list-uses-requires
     add-clear
     add-clear-2
     mul-clear
     mul-clear-2
     clear-requires
     loop-holds
+    slice-aggregate-column
+    slice-aggregate-column-2
     column-requires
     add-j
     loop-less

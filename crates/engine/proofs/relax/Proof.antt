@@ -1,45 +1,42 @@
 use mathlib.Core.Path.{subst, sym}
 use Rattle.engine.specs.Table.{Shape}
-use Rattle.engine.proofs.Sweeps.{relaxed, relaxed-by}
+use Rattle.engine.proofs.Relaxing.{relaxed}
 use borrow.Author.Needs.{needs}
 use Rattle.engine.proofs.relax.Statement.{statement}
 use Rattle.engine.proofs.relax.Tie as tie
+use Rattle.engine.proofs.relax.Reads as reads
+use Rattle.engine.proofs.relax.Lts as lts
+use Rattle.engine.proofs.hand.Reads as hand-reads
+use Rattle.engine.proofs.lower.Reads as lower-reads
+use Rattle.engine.proofs.offer.Reads as offer-reads
 
+-- src/lib.rt:180:9
 offer-requires : tie.Need-offer-requires
 offer-requires c κs = search needs
 
+-- src/lib.rt:181:9
 lower-requires : tie.Need-lower-requires
 lower-requires c κs = search needs
 
+-- src/lib.rt:182:5
 hand-requires : tie.Need-hand-requires
-hand-requires c κs =
-    let s = c .before .before .before .before .before .before .before .before .before .before in
-    (subst (Shape (s .args .code .now) (s .args .size) (s .args .n)) (sym (c .before .before .before .lower .kept .0)) (s .pre .0 .shape), s .pre .1)
+hand-requires c κs = (subst (Shape (c .before .before .before .before .before .before .before .before .before .before .before .before .args .code .now) (c .before .before .before .before .before .before .before .before .before .before .before .before .args .size) (c .before .before .before .before .before .before .before .before .before .before .before .before .args .n)) (sym (c .before .before .before .before .lower .kept .0)) (c .before .before .before .before .before .before .before .before .before .before .before .before .pre .0 .shape), c .before .before .before .before .before .before .before .before .before .before .before .before .pre .1, c .before .before .before .before .before .before .before .before .before .before .before .before .pre .2)
 
+-- src/lib.rt:165:1
 same-length : tie.Need-same-length
 same-length c = search needs
 
-returns : tie.Need-returns
-returns c =
-    let s = c .before .before .before .before .before .before .before .before .before .before .before .before .before .before in
-    relaxed (s .args .code .now) (s .args .fits .now) (s .args .size) (s .args .n) (s .pre .0 .shape) (s .pre .1) (c .before .before .before .before .before .before .before .before .before .offer .ensures) (c .before .before .before .before .before .before .before .lower .ensures) (c .before .before .before .hand .ensures) (c .if1 .taken)
-
+-- src/lib.rt:165:1
 same-length-2 : tie.Need-same-length-2
 same-length-2 c = search needs
 
-returns-2 : tie.Need-returns-2
-returns-2 c =
-    let s = c .before .before .before .before .before .before .before .before .before .before .before .before .before .before in
-    relaxed-by (s .args .code .now) (s .args .fits .now) (s .args .size) (s .args .n) (s .pre .0 .shape) (s .pre .1) (c .before .before .before .before .before .before .before .before .before .offer .ensures) (c .before .before .before .before .before .before .before .lower .ensures) (c .before .before .before .hand .ensures) (c .if1 .left)
+-- src/lib.rt:165:1
+returns : tie.Need-returns
+returns c =
+    let a = c .before .before .before .before .before .before .before .before .before .before .before .before .before .before .before .before .before .args in
+    relaxed (a .code .now) (a .fits .now) (a .size) (a .n) (a .i) (a .j) (c .before .before .before .before .before .before .before .before .before .before .before .before .before .before .before .before .before .pre .1 .order) (c .before .before .before .before .before .before .before .before .before .before .before .before .before .before .before .before .before .pre .1 .stop) (c .before .before .before .before .before .before .before .before .before .before .before .before .before .before .before .before .before .pre .0 .shape) (a .p) (c .before .before .before .before .before .before .before .before .before .before .before .before .before .before .before .before .before .pre .1 .inside) (c .before .before .before .before .before .before .before .before .before .before .before .before .before .before .before .before .before .pre .2) (c .before .before .before .before .before .before .before .before .before .before .before .offer .ensures) (c .before .before .before .before .before .before .before .before .before .lower .ensures) (c .before .before .before .before .hand .ensures)
 
 pub relax-spec : {M : Type 1} → statement M
 relax-spec =
     tie.close
-    (tie.spec
-    offer-requires
-    lower-requires
-    hand-requires
-    same-length
-    returns
-    same-length-2
-    returns-2)
+    (tie.spec offer-requires lower-requires hand-requires same-length same-length-2 returns)
