@@ -81,11 +81,14 @@ fn larger(a: u32, b: u32) -> u32
     a
 }
 
-// Lowers the cell of p to v, where v is lower; 1 where it is.
+// Lowers the cell of p to v, where v is lower; 1 where it is. Most often v is no height, and the cell need not be looked at.
 fn lower(main: &mut [u32], size: usize, n: usize, p: usize, i: usize, j: usize, v: u32) -> u32
     requires { ⌜ Room size n (length (now main)) × Place size n p i j ⌝ }
     ensures { λ r. ⌜ Lowered (now (main .entry)) (cellAt n p i j) v r (now (main .exit)) ⌝ }
 {
+    if v == NONE {
+        return 0;
+    }
     let x = cell(n, p, i, j);
     if v < main[x] {
         main[x] = v;
