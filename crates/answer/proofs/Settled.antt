@@ -22,7 +22,8 @@ use Rattle.derive.specs.Pick.{Choice, found, no-choice, chosenOf}
 use Rattle.derive.specs.Another.{ambiguousOf}
 use Rattle.derive.proofs.Choose.{found-chosen, chosen-found}
 use Rattle.derive.proofs.Ambiguous.{ambiguous-second}
-use Rattle.answer.specs.Answer.{Line, line, Topmost, ofTree, grammarLines, recordLines, documentLines, Job, mismatched, GrammarTree, ofReading, Shown, asNumbers, asXml, ResultOf, tooLong, Answer, Answers, Checks, Reads, Converts}
+use Rattle.plain.specs.Static.{mismatched}
+use Rattle.answer.specs.Answer.{Line, line, Topmost, ofTree, grammarLines, recordLines, documentLines, Job, GrammarTree, ofReading, Shown, asNumbers, asXml, ResultOf, tooLong, Answer, Answers, Checks, Reads, Converts}
 use Rattle.answer.specs.Compute.{Test, test, firstOf, onReading, grammarTests, recordTests, documentTests, isText, isTree, isFound, onText, onJob, treeOf, afterMark, Result, result, resultOf, resultBy, Outcome, outcome, mismatch, checkOf, longTest, callOf, readOf, convertOf}
 use Rattle.answer.proofs.Lines.{one-topmost, Agree, first-topmost}
 use Rattle.answer.proofs.Agree.{Tests, grammar-agrees, record-agrees, document-agrees, tree-known, reading-known, same-test, less, tree-sound, tree-complete}

@@ -14,11 +14,11 @@ use Rattle.text.proofs.Tests.{and-left, and-right}
 use Rattle.text.specs.Decode.{Decoded, text, not-utf8, decode}
 use Rattle.tree.specs.Tree.{Grammar}
 use Rattle.syntax.specs.Parser.{Parsed, parsed, no-parse, parse}
-use Rattle.plain.specs.Static.{undefined, duplicate, beyond, banned, backwards, unclassed}
+use Rattle.plain.specs.Static.{undefined, duplicate, beyond, banned, backwards, unclassed, mismatched}
 use Rattle.plain.specs.Plain.{size}
 use Rattle.derive.specs.Derive.{Row, leftParse}
 use Rattle.derive.specs.Pick.{Choice, found, no-choice, chosenOf}
-use Rattle.answer.specs.Answer.{Job, tableNeed, mismatched}
+use Rattle.answer.specs.Answer.{Job, tableNeed}
 use Rattle.answer.specs.Compute.{Test, test, firstOf, onText, onTree, treeOf, grammarTests, recordTests, mismatch}
 
 -- no test's number is above m, so neither is the first that passes

@@ -7,12 +7,12 @@ use Prim.Native.Nat.{ℕ, _+_, _*_, _/_, _<_}
 use lib.Dec.{T}
 use lib.ListN.{length, drop}
 use Rattle.text.specs.Limits.{grammarBytes, mostSize, recordChars, grammarTable, readingNumbers}
-use Rattle.text.specs.Lists.{Text, chars, all, same}
+use Rattle.text.specs.Lists.{Text, all}
 use Rattle.text.specs.Utf8.{Utf8, unmarked, known}
 use Rattle.category.specs.Category.{categoryNumber}
-use Rattle.tree.specs.Tree.{Prolog, no-prolog, version, Grammar}
+use Rattle.tree.specs.Tree.{Grammar}
 use Rattle.syntax.specs.Syntax.{Ixml}
-use Rattle.plain.specs.Static.{undefined, duplicate, beyond, banned, backwards, unclassed}
+use Rattle.plain.specs.Static.{undefined, duplicate, beyond, banned, backwards, unclassed, mismatched}
 use Rattle.plain.specs.Plain.{size}
 use Rattle.derive.specs.Derive.{Row, Derivation, root}
 use Rattle.derive.specs.Chosen.{Reading, Second}
@@ -99,10 +99,6 @@ documentLines j ls =
     ∷ line 21 (ofReading j (λ g r t p. T (notOne (document g r t))))
     ∷ line 22 (ofReading j (λ g r t p. T (namespaced (document g r t))))
     ∷ ls
-
--- "a prolog names a version other than `1.0`"
-unfoldable pub mismatched : Grammar → Bool
-mismatched g = elim (g .prolog) [ no-prolog ↦ false | version k ↦ not (same k (chars "1.0")) ]
 
 -- the result of reading, "the reading as numbers", and of converting, "the XML", with the ambiguous mark m
 abbrev pub Shown : Type 0

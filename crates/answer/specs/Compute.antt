@@ -10,13 +10,13 @@ use Rattle.text.specs.Utf8.{unmarked, known}
 use Rattle.text.specs.Decode.{Decoded, text, not-utf8, decode}
 use Rattle.tree.specs.Tree.{Grammar}
 use Rattle.syntax.specs.Parser.{Parsed, parsed, no-parse, parse}
-use Rattle.plain.specs.Static.{undefined, duplicate, beyond, banned, backwards, unclassed}
+use Rattle.plain.specs.Static.{undefined, duplicate, beyond, banned, backwards, unclassed, mismatched}
 use Rattle.plain.specs.Plain.{size}
 use Rattle.derive.specs.Derive.{Row, root, leftParse}
 use Rattle.derive.specs.Pick.{Choice, found, no-choice, chosenOf}
 use Rattle.derive.specs.Another.{ambiguousOf}
 use Rattle.xml.specs.Document.{document, markOf, twice, misnamed, unwritable, isAttribute, notOne, namespaced}
-use Rattle.answer.specs.Answer.{Job, tableNeed, mismatched, Shown, asNumbers, asXml, Answer}
+use Rattle.answer.specs.Answer.{Job, tableNeed, Shown, asNumbers, asXml, Answer}
 
 -- a line's number, and a test that waits until it is asked
 pub record Test : Type 0 where

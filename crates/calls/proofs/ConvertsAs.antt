@@ -16,7 +16,8 @@ use Rattle.derive.proofs.Chosen.{chosen-derives}
 use Rattle.derive.proofs.Choose.{found-chosen}
 use Rattle.xml.specs.Document.{document, markOf, twice, misnamed, unwritable, isAttribute, notOne, namespaced}
 use Rattle.xml.specs.Bytes.{bytes}
-use Rattle.answer.specs.Answer.{Job, Converts, asXml, mismatched}
+use Rattle.plain.specs.Static.{mismatched}
+use Rattle.answer.specs.Answer.{Job, Converts, asXml}
 use Rattle.answer.specs.Compute.{Outcome, Test, firstOf, documentTests, mismatch, resultBy, longTest, convertOf}
 use Rattle.answer.proofs.Settled.{convert-answers}
 use Rattle.job.specs.declared.Start.{Start}

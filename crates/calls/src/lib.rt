@@ -5,7 +5,7 @@ ghost use mathlib.Core.List.{_++_};
 ghost use Prim.Native.Nat.{_≤_};
 ghost use lib.Dec.{eqb};
 ghost use lib.ListN.{length, take, drop};
-ghost use Rattle.category.specs.Category.{categoryNumber};
+ghost use Rattle.answer.specs.Answer.{Categorizes};
 ghost use Rattle.job.specs.Stages.{job};
 ghost use Rattle.calls.specs.Calls.{Checked, whyBegun, whyRead, whyConverted, refusalOf, ReadAs, ConvertedAs};
 use convert::Converted;
@@ -54,7 +54,7 @@ fn wide(number: u8) -> u32
 // The category of a code point, by its place in the list of thirty; 30 for one that is not known here.
 #[no_mangle]
 pub extern "C" fn ixml_category(code: u32) -> u32
-    ensures { λ r. ⌜ r ≡ categoryNumber code ⌝ }
+    ensures { λ r. ⌜ Categorizes code r ⌝ }
 {
     wide(category::category_of(code))
 }

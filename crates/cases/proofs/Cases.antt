@@ -19,7 +19,6 @@ use Rattle.plain.specs.Plain as plain
 use Rattle.xml.specs.Names as names
 use Rattle.xml.specs.Document as document
 use Rattle.xml.specs.Bytes as bytes
-use Rattle.answer.specs.Answer as calls
 use Rattle.answer.specs.Compute as compute
 use Rattle.answer.proofs.Settled.{check-answers, read-answers, convert-answers}
 use Rattle.cases.specs.Table.{Case, answered, refused, checked, table, buffer, job, answer, filled, Holds, Every, every-none, every-more}
@@ -94,5 +93,5 @@ unfolding table buffer job answer filled passes leaves same-answer same-bool com
     utf8.utf8 utf8.utf8s utf8.unmarked utf8.known decoding.secondLow decoding.secondHigh decoding.restOf decoding.charOf decoding.decodeIn decoding.decode category.categories category.classes category.isClass
     static.undefined static.duplicate static.beyond static.unassignable static.banned static.codeOf static.runsBack static.backwards static.noClass static.unclassed plain.size
     names.xmlChar names.nameStart names.nameChar names.xmlName document.twice document.misnamed document.unwritable document.isAttribute document.notOne document.namespaced bytes.escape bytes.bytes
-    calls.mismatched compute.treeOf checkOf readOf convertOf
+    static.mismatched compute.treeOf checkOf readOf convertOf
 cases-hold = every table tt

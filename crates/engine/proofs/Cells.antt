@@ -24,9 +24,6 @@ tri-twice (suc j) = omega (arith, tri-twice j, mul-suc (suc j) (suc j), suc-mul 
 before-tri : (j : ℕ) → before j ≡ triOf j
 before-tri j = div-eq-of-eq-mul-left (omega arith) (rw add-one (sym (tri-twice j)))
 
-before-tri-next : (j : ℕ) → before (j + 1) ≡ triOf j + (j + 1)
-before-tri-next j = rw add-one (before-tri (suc j))
-
 stretches-tri : (n : ℕ) → stretches n ≡ triOf (suc n)
 stretches-tri n = div-eq-of-eq-mul-left (omega arith) (let e : n + 1 ≡ suc n = omega arith in let k : n + 2 ≡ suc (suc n) = omega arith in rw (e, k) (sym (tri-twice (suc n))))
 
@@ -46,21 +43,6 @@ in-room {size} {n} {len} {p} {i} {j} r h =
 
 pub at-room : {size n len p i j x : ℕ} → Room size n len → Place size n p i j → x ≡ cellAt n p i j → x < len
 at-room r h e = omega (arith, in-room r h)
-
--- the next cell to the right, and the next in a stretch's column
-pub right-step : (n p i m : ℕ) → cellAt n p i m + (m + 1) ≡ cellAt n p i (m + 1)
-right-step n p i m = omega (arith, before-tri m, before-tri-next m)
-
-pub left-step : (n p m j : ℕ) → cellAt n p m j + 1 ≡ cellAt n p (m + 1) j
-left-step n p m j = omega arith
-
--- a part of a stretch
-module _ {size n p i j : ℕ} (h : Place size n p i j) (m : ℕ) (a : i ≤ m) (b : m ≤ j) where
-  pub to-place : Place size n p i m
-  to-place = record { inside = h .inside; order = a; stop = omega (arith, h .stop) }
-
-  pub from-place : Place size n p m j
-  from-place = record { inside = h .inside; order = b; stop = h .stop }
 
 -- what a position names, on a part of its stretch
 module _ {c : List ℕ} {size n len p i j : ℕ} (s : Shape c size n len) (h : Place size n p i j) where

@@ -10,7 +10,7 @@ use borrow.Author.Tests.{lt-ltb, le-ltb}
 use Rattle.text.specs.Limits.{mostSize}
 use Rattle.text.specs.Lists.{pick}
 use Rattle.tree.specs.Tree.{Grammar}
-use Rattle.plain.specs.Static.{undefined, duplicate, beyond, banned, backwards, unclassed}
+use Rattle.plain.specs.Static.{undefined, duplicate, beyond, banned, backwards, unclassed, mismatched}
 use Rattle.plain.specs.Plain.{size}
 use Rattle.answer.specs.Compute.{Test, test, firstOf}
 use Rattle.statics.specs.declared.Ruling.{Ruling}
@@ -19,7 +19,6 @@ use Rattle.statics.specs.Held.{staticOf, rulingOf}
 use Rattle.statics.proofs.Rulings.{none-of, some-of}
 use Rattle.statics.specs.Held as static
 use Rattle.measure.specs.Walk as sizes
-use Rattle.answer.specs.Answer.{mismatched}
 use Rattle.load.specs.declared.Passed.{Passed}
 use Rattle.load.specs.Judged.{Stands, Standing, judgeTests, Refuses, Passes, whyBroken}
 use Rattle.load.proofs.Proper.{grammar-proper}
@@ -101,7 +100,3 @@ static-asks T end s = let w = s .within in let h = s .short in record { grammar 
 
 pub size-asks : (T : List ℕ) (end : ℕ) → Standing T end → sizes.Tree T end
 size-asks T end s = let w = s .within in let h = s .short in record { tree = s .grammar; holds = to-size T end (s .grammar) (s .stands); inside = w; small = omega arith }
-
-pub same-mismatch : (g : Grammar) → static.mismatched g ≡ mismatched g
-unfolding static.mismatched mismatched
-same-mismatch g = refl

@@ -10,9 +10,8 @@ use Rattle.text.specs.Lists.{Text}
 use Rattle.tree.specs.Tree.{Grammar}
 use Rattle.tree.specs.Tokens.{encode, grammarTokens}
 use Rattle.syntax.specs.Syntax.{Ixml}
-use Rattle.plain.specs.Static.{undefined, duplicate, beyond, banned, backwards, unclassed}
+use Rattle.plain.specs.Static.{undefined, duplicate, beyond, banned, backwards, unclassed, mismatched}
 use Rattle.plain.specs.Plain.{size}
-use Rattle.answer.specs.Answer.{mismatched}
 use Rattle.answer.specs.Compute.{Test, test, firstOf}
 use Rattle.statics.specs.declared.Ruling.{Ruling}
 use Rattle.statics.specs.declared.Ruling.the-variants.{Kept, Broken}

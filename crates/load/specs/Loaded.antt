@@ -9,7 +9,7 @@ use Rattle.text.specs.Lists.{Text}
 use Rattle.tree.specs.Tree.{Grammar}
 use Rattle.syntax.specs.Parser.{Parsed, parsed, no-parse, parse}
 use Rattle.plain.specs.Plain.{size}
-use Rattle.answer.specs.Answer.{mismatched}
+use Rattle.plain.specs.Static.{mismatched}
 use Rattle.answer.specs.Compute.{Test, firstOf, treeOf, grammarTests, mismatch}
 use Rattle.statics.specs.Held.{staticOf}
 use Rattle.decode.specs.declared.Decoding.{Decoding}

@@ -5,8 +5,9 @@ use Prim.Native.Nat.{ℕ, _%_}
 use lib.Dec.{ltb, leb}
 use lib.ListN.{getD}
 use Rattle.text.specs.Lists.{Text, any, same, repeats, span, inside}
+use Rattle.text.specs.Lists as words
 use Rattle.category.specs.Category.{isClass}
-use Rattle.tree.specs.Tree.{Chars, Member, chars, range, class, Grammar, codes}
+use Rattle.tree.specs.Tree.{Chars, Member, chars, range, class, no-prolog, version, Grammar, codes}
 use Rattle.plain.specs.Written.{names, members, hexes, heads}
 
 -- 5: a name used has no rule
@@ -45,3 +46,7 @@ noClass m = elim m [ chars k ↦ false | range a b ↦ false | class k ↦ not (
 
 unfoldable pub unclassed : Grammar → Bool
 unclassed g = any noClass (members g)
+
+-- what sets the version mark: "a prolog names a version other than `1.0`"
+unfoldable pub mismatched : Grammar → Bool
+mismatched g = elim (g .prolog) [ no-prolog ↦ false | version k ↦ not (same k (words.chars "1.0")) ]

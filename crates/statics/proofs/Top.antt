@@ -9,7 +9,8 @@ use Rattle.text.specs.Lists.{Text, same, concatMap, chars}
 use Rattle.tree.specs.Tree.{Mark, Prolog, no-prolog, version, Rule, Grammar, rules}
 use Rattle.tree.specs.Tokens.{Token, rule-head, version-is, markNumber, bodyTokens, rule-end, ruleTokens, prologTokens, grammarTokens}
 use Rattle.statics.specs.declared.Ruling.{Ruling}
-use Rattle.statics.specs.Held.{Holds, Held, staticOf, rulingOf, mismatched}
+use Rattle.plain.specs.Static.{mismatched}
+use Rattle.statics.specs.Held.{Holds, Held, staticOf, rulingOf}
 use Rattle.statics.specs.Parts.{sortOf, lateSort, sizeAt, nameAt}
 use Rattle.statics.specs.Scan.{Tokens, Some, Named, namesAt, Indexing, Indexed, Scanning, headsOf, refusalOf}
 use Rattle.statics.proofs.Leaf.{sized, size-text}

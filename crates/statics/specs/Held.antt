@@ -6,9 +6,8 @@ use Prim.Native.Nat.{ℕ, _≤_}
 use lib.Dec.{T, eqb}
 use lib.ListN.{length, take}
 use Rattle.text.specs.Limits.{grammarTable}
-use Rattle.text.specs.Lists.{Text, pick, all, same}
-use Rattle.text.specs.Lists as words
-use Rattle.tree.specs.Tree.{Chars, string, hex, Member, Prolog, no-prolog, version, Symbol, terminal, nonterminal, group, option, repeat0, repeat1, repeat0sep, repeat1sep, rest, Grammar}
+use Rattle.text.specs.Lists.{Text, pick, all}
+use Rattle.tree.specs.Tree.{Chars, string, hex, Member, Symbol, terminal, nonterminal, group, option, repeat0, repeat1, repeat0sep, repeat1sep, rest, Grammar}
 use Rattle.tree.specs.Tree as tree
 use Rattle.tree.specs.Tokens.{encode, grammarTokens}
 use Rattle.plain.specs.Written.{membersIn, written}
@@ -71,7 +70,3 @@ staticOf g =
 -- the ruling that a number stands for: 0 breaks nothing
 abbrev pub rulingOf : ℕ → Ruling
 rulingOf n = pick (eqb n 0) Kept (Broken n)
-
--- "a prolog names a version other than `1.0`"
-unfoldable pub mismatched : Grammar → Bool
-mismatched g = elim (g .prolog) [ no-prolog ↦ false | version k ↦ not (same k (words.chars "1.0")) ]

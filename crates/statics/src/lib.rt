@@ -10,7 +10,8 @@ ghost use Rattle.tree.specs.Tree.{Grammar};
 ghost use Rattle.tree.specs.Tokens.{Token};
 ghost use Rattle.statics.specs.Parts.{sortOf, lateSort, sizeAt, nameAt, partAt, lacking, badCode, endCodes, badCodes, backward, classless, failing};
 ghost use Rattle.statics.specs.Scan.{Tokens, Named, Names, Listing, Looking, Finding, Noting, Noted, Indexing, Indexed, Scanning, namesAt, fails, nameRefusal, codeRefusal, refusalOf};
-ghost use Rattle.statics.specs.Held.{Holds, Held, staticOf, rulingOf, mismatched};
+ghost use Rattle.statics.specs.Held.{Holds, Held, staticOf, rulingOf};
+ghost use Rattle.plain.specs.Static.{mismatched};
 
 fn wide(x: u32) -> usize
     ensures { λ r. ⌜ r ≡ x ⌝ }

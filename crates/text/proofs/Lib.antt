@@ -1,4 +1,5 @@
 pub mod Tests
+pub mod Numbered
 pub mod Table
 pub mod Step
 pub mod Decode

@@ -1,5 +1,5 @@
 use mathlib.Core.Path.{_∙_}
-use Rattle.load.proofs.Stages.{same-mismatch, broken, kept, size-refuses, passes, to-static, to-size, static-asks, size-asks}
+use Rattle.load.proofs.Stages.{broken, kept, size-refuses, passes, to-static, to-size, static-asks, size-asks}
 use borrow.Author.Needs.{needs}
 use Rattle.load.proofs.judge.Statement.{statement}
 use Rattle.load.proofs.judge.Tie as tie
@@ -29,7 +29,7 @@ version-mismatch-requires : tie.Need-version-mismatch-requires
 version-mismatch-requires c κs = static-asks (c .before .before .before .before .before .before .args .table .now) (c .before .before .before .before .before .before .args .end) (c .before .before .before .before .before .before .pre)
 
 returns-3 : tie.Need-returns-3
-returns-3 c = λ g h. passes g (c .before .before .before .before .before .before .before .args .end) (c .before .before .grammar-size .result) (c .version-mismatch .result) (kept g (c .before .before .before .before .before .static-refusal .result) (c .before .before .before .enum-told .given .1) (c .before .before .before .before .before .static-refusal .ensures g (to-static (c .before .before .before .before .before .before .before .args .table .now) (c .before .before .before .before .before .before .before .args .end) g (c .before .before .before .before .before .before .before .pre .within) h))) (c .before .before .grammar-size .ensures g (to-size (c .before .before .before .before .before .before .before .args .table .now) (c .before .before .before .before .before .before .before .args .end) g h)) (search needs) (c .version-mismatch .ensures g (to-static (c .before .before .before .before .before .before .before .args .table .now) (c .before .before .before .before .before .before .before .args .end) g (c .before .before .before .before .before .before .before .pre .within) h) ∙ same-mismatch g)
+returns-3 c = λ g h. passes g (c .before .before .before .before .before .before .before .args .end) (c .before .before .grammar-size .result) (c .version-mismatch .result) (kept g (c .before .before .before .before .before .static-refusal .result) (c .before .before .before .enum-told .given .1) (c .before .before .before .before .before .static-refusal .ensures g (to-static (c .before .before .before .before .before .before .before .args .table .now) (c .before .before .before .before .before .before .before .args .end) g (c .before .before .before .before .before .before .before .pre .within) h))) (c .before .before .grammar-size .ensures g (to-size (c .before .before .before .before .before .before .before .args .table .now) (c .before .before .before .before .before .before .before .args .end) g h)) (search needs) (c .version-mismatch .ensures g (to-static (c .before .before .before .before .before .before .before .args .table .now) (c .before .before .before .before .before .before .before .args .end) g (c .before .before .before .before .before .before .before .pre .within) h))
 
 pub judge-spec : {M : Type 1} → statement M
 judge-spec =
