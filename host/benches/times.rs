@@ -215,7 +215,7 @@ type Family = (
     [usize; 3],
 );
 
-const FAMILIES: [Family; 5] = [
+const FAMILIES: [Family; 6] = [
     (
         "fields, plain",
         gen::fields,
@@ -231,6 +231,7 @@ const FAMILIES: [Family; 5] = [
     ),
     ("stars, ambiguous", gen::stars, gen::letters, [30, 192, 512]),
     ("runs, ambiguous", gen::runs, gen::letters, [30, 192, 512]),
+    ("chains, plain", gen::chains, gen::letters, [30, 192, 512]),
 ];
 
 fn families_table<C: Call>(title: &str, mut memory: Memory<C>)

@@ -440,6 +440,18 @@ pub fn runs(size: usize) -> String {
     })
 }
 
+/// A family of grammars with a chain of rules, each of which is the next alone,
+/// written down in no order. At least of size 9.
+pub fn chains(size: usize) -> String {
+    of_size(size, |count| {
+        let mut order: Vec<usize> = (1..=count).collect();
+        order.sort_by_key(|number| number * 40_503 % 65_536);
+        let rule = |number: usize| format!("r{number}: r{}. ", number - 1);
+        let rules: String = order.into_iter().map(rule).collect();
+        format!("a: r{count}. {rules}r0: ['xy'], r0; .\n")
+    })
+}
+
 /// A record of `x` and `y`.
 pub fn letters(length: usize) -> String {
     "xyx".chars().cycle().take(length).collect()

@@ -300,6 +300,7 @@ fn b34_refuses_names_like_xmlns() {
         ("a: xmlns. xmlns: \"x\".", "x", "<a><xmlns>x</xmlns></a>"),
         ("xmlns: \"x\".", "x", "<xmlns>x</xmlns>"),
         ("a: @xmlns. xmlns: \"x\".", "x", "refused 22"),
+        ("-a: b. b: @xmlns. xmlns: \"x\".", "x", "refused 22"),
     ]);
 }
 

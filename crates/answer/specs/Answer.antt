@@ -69,6 +69,9 @@ pub record Job : Type 0 where
   pub mainTable : ℕ
   pub secondTable : ℕ
 
+abbrev pub job : List ℕ → List ℕ → ℕ → ℕ → Job
+job gs rs main second = record { grammar = gs; input = rs; mainTable = main; secondTable = second }
+
 -- of the job's grammar and record; of these, the chosen derivation and its numbers
 abbrev pub ofJob : Job → (Grammar → Text → Type 0) → Type 0
 ofJob j P = (g : Grammar) × (r : Text) × (GrammarTree (j .grammar) g × Utf8 (j .input) r) × P g r

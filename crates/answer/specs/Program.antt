@@ -9,6 +9,7 @@ use Rattle.text.specs.Limits.{grammarTable, programTable, programBytes, fileByt
 use Rattle.text.specs.Lists.{Text, chars, pick}
 use Rattle.xml.specs.Bytes.{failDocument}
 use Rattle.answer.specs.Answer.{Job, Answer, Converts}
+use Rattle.answer.specs.Answer as calls
 
 pub data File : Type 0 where
   unreadable : File
@@ -26,7 +27,7 @@ shows a new =
 
 -- "It lends a main table of 16,384 numbers and 65,536 bytes for the result"
 abbrev pub programJob : List ℕ → List ℕ → Job
-programJob g r = record { grammar = g; input = r; mainTable = programTable; secondTable = grammarTable }
+programJob g r = calls.job g r programTable grammarTable
 
 -- "A file it can't read it answers `unreadable`; else a record file over 4,096 bytes `refused 14`, unread and whatever the grammar."
 pub data Writes : File → File → Text → Type 0 where

@@ -5,9 +5,9 @@ use mathlib.Core.List.{List, [], _∷_, _++_}
 use Prim.Native.Nat.{ℕ}
 use Prim.Native.String.{String}
 use lib.ListN.{length, drop, replicate}
-use Rattle.text.specs.Limits.{programTable, grammarTable}
 use Rattle.text.specs.Lists.{chars}
 use Rattle.answer.specs.Answer.{Job, Answer, Checks, Reads, Converts}
+use Rattle.answer.specs.Program.{programJob}
 
 -- a grammar and a record that are answered: the reading, whether it is ambiguous, and the XML; or refused by reading and
 -- converting; or a grammar's number from checking
@@ -42,7 +42,7 @@ unfoldable pub buffer : List ℕ
 buffer = replicate 100 7
 
 unfoldable pub job : String → String → Job
-job g r = record { grammar = chars g; input = chars r; mainTable = programTable; secondTable = grammarTable }
+job g r = programJob (chars g) (chars r)
 
 unfoldable pub answer : ℕ → ℕ → Bool → Answer
 answer n k m = record { number = n; length = k; ambiguous = m; version = false }

@@ -7,7 +7,7 @@ ghost use Rattle.reading.specs.Answer.{Answers};
 ghost use Rattle.choose.specs.Choose.{Choosable};
 use reading::Walked;
 
-// The left parse goes to `parse`. The tables of each stage but the main one are local: 119,296 bytes.
+// The left parse goes to `parse`. What one stage leaves for the next, but for the main table, is local: 119,296 bytes.
 pub fn choose(
     table: &[u32],
     size: usize,

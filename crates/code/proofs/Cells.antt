@@ -1,8 +1,10 @@
 -- Places of cells.
 use mathlib.Core.Path.{_≡_}
-use Prim.Native.Nat.{ℕ, _+_, _*_, _<_, _≤_}
+use Prim.Native.Nat.{ℕ, _+_, _*_, _/_, _<_, _≤_}
 use native.Mathlib.Nat.{mul-le-mul, add-mul, mul-add}
 use native.Mathlib.Omega.{arith}
+use mir.Syntax.{w64}
+use mir.Val.{Fits}
 use Rattle.code.specs.Heights.{before, stretches, cellAt}
 
 -- (j + 1) (j + 2) is j (j + 1) and twice j + 1
@@ -19,5 +21,25 @@ before-next j i n h l =
 pub cell-lt : (n p i j len : ℕ) → i ≤ j → j ≤ n → (p + 1) * stretches n ≤ len → cellAt n p i j < len
 cell-lt n p i j len h l room = omega (arith, before-next j i n h l, add-mul p 1 (stretches n))
 
-pub product-le : (a b c d : ℕ) → a ≤ c → b ≤ d → a * b ≤ c * d
-product-le a b c d h l = mul-le-mul {n₁ = a} {m₁ = b} {n₂ = c} {m₂ = d} h l
+-- what `cell` computes fits
+pub square-fits : (a b : ℕ) → a ≤ 121 → b ≤ 122 → Fits w64 (a * b)
+square-fits a b ha hb =
+    let k : a * b ≤ 121 * 122 = mul-le-mul {n₁ = a} {m₁ = b} {n₂ = 121} {m₂ = 122} ha hb in
+    record { fits = omega arith }
+
+small : (a b : ℕ) → a ≤ 121 → b ≤ 122 → a * b / 2 ≤ 7381
+small a b ha hb =
+    let k : a * b ≤ 121 * 122 = mul-le-mul {n₁ = a} {m₁ = b} {n₂ = 121} {m₂ = 122} ha hb in
+    omega arith
+
+pub stretches-small : (n : ℕ) → n ≤ 120 → stretches n ≤ 7381
+stretches-small n h = small (n + 1) (n + 2) (omega arith) (omega arith)
+
+pub rows-small : (p n : ℕ) → p ≤ 512 → n ≤ 120 → p * stretches n ≤ 3779072
+rows-small p n hp hn = mul-le-mul {n₁ = p} {m₁ = stretches n} {n₂ = 512} {m₂ = 7381} hp (stretches-small n hn)
+
+pub rows-fit : (p n : ℕ) → p ≤ 512 → n ≤ 120 → Fits w64 (p * stretches n)
+rows-fit p n hp hn = record { fits = omega (arith, rows-small p n hp hn) }
+
+pub before-small : (j : ℕ) → j ≤ 120 → before j ≤ 7381
+before-small j h = small j (j + 1) (omega arith) (omega arith)

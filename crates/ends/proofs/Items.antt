@@ -12,9 +12,9 @@ use Rattle.text.proofs.Tests.{split}
 use Rattle.tree.specs.Tree.{Mark, unmarked, included, attribute, deleted, Terminal, literal, inclusion, exclusion, insertion, string, hex, Symbol, terminal, nonterminal, Grammar, rules}
 use Rattle.tree.specs.Tokens.{terminalTokens, encode, markNumber, counted, capped}
 use Rattle.plain.specs.Written.{made}
-use Rattle.plain.specs.Plain.{alts, fits, width}
+use Rattle.plain.specs.Plain.{alts, fits, width, ruleMark, over}
 use Rattle.derive.specs.Derive.{Row, end, leaf, node, alternative, Derives, d-end, d-leaf, d-node}
-use Rattle.items.specs.Items.{kindAt, targetAt, tokenAt, markKind, ruleMark, over, Reads, Starts, Among, Stands, st-terminal, st-name, st-made, Spells, sp-end, sp-item, Alternatives, al-last, al-more}
+use Rattle.items.specs.Items.{kindAt, targetAt, tokenAt, markKind, Reads, Starts, Among, Stands, st-terminal, st-name, st-made, Spells, sp-end, sp-item, Alternatives, al-last, al-more}
 
 -- a number that is not 0 stands in the table
 pub in-table : (T : List ℕ) (p : ℕ) → (kindAt T p ≡ 0 → ⊥) → p < length T

@@ -5,26 +5,18 @@ use mathlib.Core.List.{List, [], _∷_, _++_, append-nil, append-assoc}
 use Prim.Native.Nat.{ℕ, _+_, _≤_, _<_}
 use native.Mathlib.Omega.{arith}
 use lib.ListN.{length}
-use Rattle.text.specs.Lists.{Text, chars, concatMap, pick, same}
-use Rattle.tree.specs.Tree.{Mark, unmarked, included, attribute, deleted, Symbol, terminal, Terminal, nonterminal, Rule, Grammar, rules}
+use Rattle.text.specs.Lists.{Text, chars, concatMap}
+use Rattle.tree.specs.Tree.{Mark, unmarked, included, attribute, deleted, Symbol, terminal, Terminal, nonterminal, Grammar, rules}
 use Rattle.tree.specs.Tokens.{counted, markNumber}
 use Rattle.plain.specs.Written.{Kind, atom, named, made, kind}
-use Rattle.plain.specs.Plain.{alts, width}
+use Rattle.plain.specs.Plain.{alts, width, ruleMark, over}
 use Rattle.derive.specs.Derive.{Row, end, leaf, node, alternative}
 use Rattle.items.specs.Items.{kindAt, tokenAt, markKind, Starts, Stands, st-terminal, st-name, st-made}
-use Rattle.items.specs.Items as items
-use Rattle.xml.specs.Document.{Xml, none, char, attr, elem, join, text, markOf, nameOf, marked, ruleMark, over, value, nodes, stretch, terminalText}
+use Rattle.xml.specs.Document.{Xml, none, char, attr, elem, join, text, markOf, nameOf, marked, value, nodes, stretch, terminalText}
 use Rattle.ends.specs.Steps.{Named}
-
-rule-mark : (rs : List Rule) (n : Text) → items.ruleMark rs n ≡ ruleMark rs n
-rule-mark [] n = refl
-rule-mark (r ∷ rs) n = ap (λ (m : Mark). pick (same n (r .name)) (r .mark) m) (rule-mark rs n)
 
 by-kind : Grammar → Kind → Mark
 by-kind g k = elim k [ atom x ↦ deleted | named m n ↦ over m (ruleMark (rules g) n) | made ↦ deleted ]
-
-pub name-mark : (g : Grammar) (m : Mark) (n : Text) → markKind (items.over m (items.ruleMark (rules g) n)) ≡ markKind (markOf g (nonterminal m n))
-name-mark g m n = ap (λ (x : Mark). markKind (over m x)) (rule-mark (rules g) n)
 
 pub made-mark : (g : Grammar) (s : Symbol) → kind s ≡ made → 4 ≡ markKind (markOf g s)
 unfolding by-kind
@@ -33,7 +25,7 @@ made-mark g s q = sym (ap (λ (x : Kind). markKind (by-kind g x)) q)
 module _ {T : List ℕ} {g : Grammar} {starts : Starts} where
   pub node-mark : {p a : ℕ} {s : Symbol} → Stands T g starts p s → a < length (alts g s) → kindAt T p ≡ markKind (markOf g s)
   node-mark (st-terminal k r i) l = absurd (omega arith)
-  node-mark (st-name {m = m} {n = n} k r a) l = k ∙ name-mark g m n
+  node-mark (st-name {m = m} {n = n} k r a) l = k
   node-mark (st-made {s = s} q k a) l = k ∙ made-mark g s q
 
   pub node-named : {p : ℕ} {s : Symbol} → Stands T g starts p s → 2 ≤ kindAt T p → kindAt T p ≤ 3 → (k : ℕ) × Named T (tokenAt T p) k (nameOf s)

@@ -1,15 +1,14 @@
 -- Places of cells.
 use mathlib.Core.Path.{_≡_, refl, sym, ap}
-use Prim.Native.Nat.{ℕ, zero, suc, _+_, _*_, _/_, _<_, _≤_}
-use native.Mathlib.Nat.{mul-suc, suc-mul, mul-le-mul, mul-le-mul-right, div-eq-of-eq-mul-left}
+use Prim.Native.Nat.{ℕ, zero, suc, _+_, _*_, _<_, _≤_}
+use native.Mathlib.Nat.{mul-suc, suc-mul, mul-le-mul-right, div-eq-of-eq-mul-left}
 use native.Mathlib.Decide.{decLt, ℕ-discrete}
 use native.Mathlib.Numerals.{add-one}
 use native.Mathlib.Omega.{arith}
-use mir.Syntax.{w64}
-use mir.Val.{Fits}
 use Rattle.code.specs.Heights.{before, stretches, cellAt}
 use mathlib.Core.List.{List}
 use Rattle.code.specs.Code.{kindAt, ruleAt, ownerAt}
+use Rattle.code.proofs.Cells.{before-next}
 use Rattle.engine.specs.Table.{Room, Shape, Place}
 
 -- 0 + 1 + .. + j
@@ -24,9 +23,6 @@ tri-twice (suc j) = omega (arith, tri-twice j, mul-suc (suc j) (suc j), suc-mul 
 before-tri : (j : ℕ) → before j ≡ triOf j
 before-tri j = div-eq-of-eq-mul-left (omega arith) (rw add-one (sym (tri-twice j)))
 
-stretches-tri : (n : ℕ) → stretches n ≡ triOf (suc n)
-stretches-tri n = div-eq-of-eq-mul-left (omega arith) (let e : n + 1 ≡ suc n = omega arith in let k : n + 2 ≡ suc (suc n) = omega arith in rw (e, k) (sym (tri-twice (suc n))))
-
 tri-le : (i j : ℕ) → i ≤ j → triOf i ≤ triOf j
 tri-le i zero h = let e : i ≡ 0 = omega arith in rw e (omega arith)
 tri-le i (suc j) h = elim (ℕ-discrete i (suc j)) as (λ _. triOf i ≤ triOf (suc j)) [
@@ -34,12 +30,9 @@ tri-le i (suc j) h = elim (ℕ-discrete i (suc j)) as (λ _. triOf i ≤ triOf (
   | no f ↦ omega (arith, tri-le i j (omega arith))
 ]
 
-slot-lt : (n i j : ℕ) → i ≤ j → j ≤ n → before j + i < stretches n
-slot-lt n i j h k = omega (arith, before-tri j, stretches-tri n, tri-le (suc j) (suc n) (omega arith))
-
 pub in-room : {size n len p i j : ℕ} → Room size n len → Place size n p i j → cellAt n p i j < len
 in-room {size} {n} {len} {p} {i} {j} r h =
-    omega (arith, mul-le-mul-right (stretches n) (h .inside), suc-mul p (stretches n), slot-lt n i j (h .order) (h .stop), r .room)
+    omega (arith, mul-le-mul-right (stretches n) (h .inside), suc-mul p (stretches n), before-next j i n (h .order) (h .stop), r .room)
 
 pub at-room : {size n len p i j x : ℕ} → Room size n len → Place size n p i j → x ≡ cellAt n p i j → x < len
 at-room r h e = omega (arith, in-room r h)
@@ -81,31 +74,8 @@ pub record SameCell (p i j q k l : ℕ) : Type 0 where
 -- two cells at one place are one cell
 pub cell-inj : (n p i j q k l : ℕ) → i ≤ j → j ≤ n → k ≤ l → l ≤ n → cellAt n p i j ≡ cellAt n q k l → SameCell p i j q k l
 cell-inj n p i j q k l hi hj hk hl e =
-    let ep = block-inj (stretches n) p (before j + i) q (before l + k) (slot-lt n i j hi hj) (slot-lt n k l hk hl) (omega arith) in
+    let ep = block-inj (stretches n) p (before j + i) q (before l + k) (before-next j i n hi hj) (before-next l k n hk hl) (omega arith) in
     let em : p * stretches n ≡ q * stretches n = ap (λ (z : ℕ). z * stretches n) ep in
     let ej = tri-inj i j k l hi hk (omega (arith, before-tri j, before-tri l)) in
     let et : before j ≡ before l = ap before ej in
     record { same-p = ep; same-i = omega arith; same-j = ej }
-
--- what `cell` computes fits
-pub square-fits : (a b : ℕ) → a ≤ 121 → b ≤ 122 → Fits w64 (a * b)
-square-fits a b ha hb =
-    let k : a * b ≤ 121 * 122 = mul-le-mul {n₁ = a} {m₁ = b} {n₂ = 121} {m₂ = 122} ha hb in
-    record { fits = omega arith }
-
-small : (a b : ℕ) → a ≤ 121 → b ≤ 122 → a * b / 2 ≤ 7381
-small a b ha hb =
-    let k : a * b ≤ 121 * 122 = mul-le-mul {n₁ = a} {m₁ = b} {n₂ = 121} {m₂ = 122} ha hb in
-    omega arith
-
-pub stretches-small : (n : ℕ) → n ≤ 120 → stretches n ≤ 7381
-stretches-small n h = small (n + 1) (n + 2) (omega arith) (omega arith)
-
-pub rows-small : (p n : ℕ) → p ≤ 512 → n ≤ 120 → p * stretches n ≤ 3779072
-rows-small p n hp hn = mul-le-mul {n₁ = p} {m₁ = stretches n} {n₂ = 512} {m₂ = 7381} hp (stretches-small n hn)
-
-pub rows-fit : (p n : ℕ) → p ≤ 512 → n ≤ 120 → Fits w64 (p * stretches n)
-rows-fit p n hp hn = record { fits = omega (arith, rows-small p n hp hn) }
-
-pub before-small : (j : ℕ) → j ≤ 120 → before j ≤ 7381
-before-small j h = small j (j + 1) (omega arith) (omega arith)

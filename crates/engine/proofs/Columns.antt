@@ -8,8 +8,8 @@ use lib.ListN.{length, getD, set}
 use lib.Seq.{getD-set-same, getD-set-other}
 use Rattle.code.specs.Code.{kindAt, ruleAt, goesAt}
 use Rattle.code.specs.Heights.{cellAt, none}
-use Rattle.engine.specs.Table.{valueOf, splitOf, Shape}
-use Rattle.engine.specs.Sweep.{cellOf, Steps, stay, Only, Ahead, EndsAt, Any, Settled, Closed, Spread, Given, Bare, ColumnFrom, Before}
+use Rattle.engine.specs.Table.{cellOf, valueOf, splitOf, Shape}
+use Rattle.engine.specs.Sweep.{Steps, stay, Only, Ahead, EndsAt, Any, Settled, Closed, Spread, Given, Bare, ColumnFrom, Before}
 use Rattle.engine.proofs.Values.{value-gap, value-cell, up-none}
 use Rattle.engine.proofs.Lowering.{steps-join, steps-widen, steps-same, value-same, split-same}
 use Rattle.engine.proofs.Spreading.{on-kept}

@@ -16,9 +16,10 @@ use Rattle.derive.proofs.Rows.{forward}
 use Rattle.derive.proofs.Levels.{Low}
 use Rattle.code.specs.Code.{kindAt, goesAt, ruleAt, ownerAt, fitsAt, flag, behind, headOf, Stands, at-end, at-terminal, at-symbol, Chain, ch-last, ch-next, Coded}
 use Rattle.code.specs.Heights.{cellAt, stretches, none, Says, says-none, says-height, SaysRule, rule-none, rule-height, Heights}
-use Rattle.engine.specs.Table.{valueOf, upOf, splitOf, Shape, Safe, Place}
-use Rattle.engine.specs.Sweep.{cellOf, Gives, by-terminal, by-split, by-owned, Steps, stay, step, Any, Closed, Settled, Before}
-use Rattle.engine.proofs.Cells.{cell-inj, in-room, rows-small}
+use Rattle.engine.specs.Table.{cellOf, valueOf, upOf, splitOf, Shape, Safe, Place}
+use Rattle.engine.specs.Sweep.{Gives, by-terminal, by-split, by-owned, Steps, stay, step, Any, Closed, Settled, Before}
+use Rattle.code.proofs.Cells.{rows-small}
+use Rattle.engine.proofs.Cells.{cell-inj, in-room}
 use Rattle.engine.proofs.Lowering.{in-range, steps-le, steps-length}
 use Rattle.engine.proofs.Values.{Value, v-end, v-none, v-cell, value-is, value-cell, value-end, up-is, up-low}
 use Rattle.engine.proofs.Small.{height-small}

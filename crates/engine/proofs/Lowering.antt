@@ -10,11 +10,11 @@ use lib.Dec.{eqb}
 use Rattle.text.specs.Lists.{pick}
 use Rattle.code.specs.Code.{kindAt, ruleAt}
 use Rattle.code.specs.Heights.{cellAt, none}
-use Rattle.engine.specs.Table.{valueOf, upOf, splitOf}
-use Rattle.engine.specs.Sweep.{cellOf, Steps, stay, step, sumOf}
+use Rattle.engine.specs.Table.{cellOf, valueOf, upOf, splitOf}
+use Rattle.engine.specs.Sweep.{Steps, stay, step, total}
 use Rattle.engine.proofs.Cells.{cell-inj}
 
-pub sum-set : (t : List ℕ) (x v : ℕ) → v < getD t x 0 → sumOf (set t x v) < sumOf t
+pub sum-set : (t : List ℕ) (x v : ℕ) → v < getD t x 0 → total (set t x v) < total t
 sum-set [] x v h = absurd (omega arith)
 sum-set (y ∷ t) zero v h = omega arith
 sum-set (y ∷ t) (suc x) v h = omega (arith, sum-set t x v h)
@@ -49,7 +49,7 @@ module _ (c f : List ℕ) (size n : ℕ) where
   steps-le stay x = omega arith
   steps-le (step {t = t} p i j v s ha hp hi hj d l) x = omega (arith, steps-le s x, set-le t (cellAt n p i j) x v l)
 
-  pub steps-sum : {A : ℕ → ℕ → Type 0} {t₀ t : List ℕ} → Steps c f size n A t₀ t → sumOf t ≤ sumOf t₀
+  pub steps-sum : {A : ℕ → ℕ → Type 0} {t₀ t : List ℕ} → Steps c f size n A t₀ t → total t ≤ total t₀
   steps-sum stay = omega arith
   steps-sum (step {t = t} p i j v s ha hp hi hj d l) = omega (arith, steps-sum s, sum-set t (cellAt n p i j) v l)
 

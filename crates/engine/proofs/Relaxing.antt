@@ -12,8 +12,8 @@ use Rattle.text.specs.Limits.{mostSize}
 use Rattle.text.specs.Lists.{pick}
 use Rattle.code.specs.Code.{kindAt, ruleAt, goesAt, ownerAt, fitsAt}
 use Rattle.code.specs.Heights.{cellAt, none}
-use Rattle.engine.specs.Table.{valueOf, upOf, splitOf, Shape, Place}
-use Rattle.engine.specs.Sweep.{sumOf, cellOf, Gives, by-terminal, by-split, by-owned, Steps, stay, step, Only, Settled, Lowered, lowered, kept, Closed, HandedOn, Spread, Given, Shifted, Offer, Seen, Held, AllHeld, Handed, free, above, handed, weight, Relaxed, unseenBy, Descended, LastUse, Uses, AllKept, Revisited, Rounded}
+use Rattle.engine.specs.Table.{cellOf, valueOf, upOf, splitOf, Shape, Place}
+use Rattle.engine.specs.Sweep.{total, Gives, by-terminal, by-split, by-owned, Steps, stay, step, Only, Settled, Lowered, lowered, kept, Closed, HandedOn, Spread, Given, Shifted, Offer, Seen, Held, AllHeld, Handed, free, above, handed, potential, Relaxed, unseenBy, Descended, LastUse, Uses, AllKept, Revisited, Rounded}
 use Rattle.engine.proofs.Cells.{cell-inj, owner-place}
 use Rattle.engine.proofs.Lowering.{in-range, sum-set, set-le, steps-join, steps-le, steps-sum, steps-same, value-same, split-same}
 
@@ -40,7 +40,7 @@ module _ (c f : List ℕ) (size n : ℕ) (t : List ℕ) (p i j : ℕ) where
     offer-right l = record { terminal = λ q. absurd (omega arith); left = λ _. omega arith; right = λ _. omega arith; dot = λ _ q. omega arith; some = λ _. by-split j k h (omega arith) eb }
 
 -- what a sum becomes
-sum-more : (S : List ℕ) (e d : ℕ) → sumOf (set S e d) ≤ sumOf S + d
+sum-more : (S : List ℕ) (e d : ℕ) → total (set S e d) ≤ total S + d
 sum-more [] e d = omega arith
 sum-more (x ∷ S) zero d = omega arith
 sum-more (x ∷ S) (suc e) d = omega (arith, sum-more S e d)
@@ -140,7 +140,7 @@ module _ (c f : List ℕ) (size n : ℕ) (i j : ℕ) (hi : i ≤ j) (hj : j ≤ 
         seen = λ _. ruled-seen q h;
       }
 
-      ruled-falls : d ≤ mostSize → weight ruled (set S e d) ≤ weight t S
+      ruled-falls : d ≤ mostSize → potential ruled (set S e d) ≤ potential t S
       ruled-falls h = omega (arith, sum-set t (cellAt n e i j) v l, sum-more S e d)
 
     -- first the cell of p itself
@@ -178,7 +178,7 @@ module _ (c f : List ℕ) (size n : ℕ) (i j : ℕ) (hi : i ≤ j) (hj : j ≤ 
       under : (q : ℕ) → mostSize ≤ q + d → Under t S q → Under u R q
       kept : (q : ℕ) → mostSize ≤ q + d → Held c f n i j t S q → Held c f n i j u R q
       owner : (e : ℕ) → ownerAt c p ≡ e + 1 → cellOf n u e i j ≤ valueOf c u n p i j
-      falls : d ≤ mostSize → weight u R ≤ weight t S
+      falls : d ≤ mostSize → potential u R ≤ potential t S
 
     second : {t S u R : List ℕ} {d : ℕ} → size ≤ length S → Handed c n t S p i j d u R → Second t S d u R
     second room (free o) = record { steps = stay; under = λ q h w. w; kept = λ q h w. w; owner = λ e k. absurd (omega arith); falls = λ _. omega arith }
@@ -224,7 +224,7 @@ module _ (c f : List ℕ) (size n : ℕ) (i j : ℕ) where
     pub every : (all ≡ 0 → ⊥) → (q : ℕ) → p ≤ q → q < from → Held c f n i j u R q
     pub top : all ≡ 0 → (q : ℕ) → q + 1 ≡ from → p < from → Held c f n i j u R q
     pub kept : all ≡ 0 → (q : ℕ) → q < size → (q + 1 ≡ from → ⊥) → (q + 1 ≡ p → ⊥) → Held c f n i j t S q → Held c f n i j u R q
-    pub falls : weight u R ≤ weight t S
+    pub falls : potential u R ≤ potential t S
 
   pub descend-start : (from all : ℕ) (t S : List ℕ) → Descending from all from t S t S
   descend-start from all t S = record { low = omega arith; steps = stay; every = λ _ q h l. absurd (omega arith); top = λ _ q e l. absurd (omega arith); kept = λ _ q hq a b h. h; falls = omega arith }
@@ -286,7 +286,7 @@ module _ (c f : List ℕ) (size n : ℕ) (i j : ℕ) where
     pub steps : Steps c f size n (Only i j) t u
     pub made : (q : ℕ) → q < size → kindAt c q ≡ 2 → ruleAt c q ≡ e → x ≤ q → Held c f n i j u R q
     pub kept : AllKept c f size n i j t S u R
-    pub falls : weight u R ≤ weight t S
+    pub falls : potential u R ≤ potential t S
 
   pub revisit-start : {e x : ℕ} (t S : List ℕ) → LastUse c e size x → Revisiting e x t S t S
   revisit-start t S l = record { below = l .below; is = l .is; steps = stay; made = λ q hq k r h. absurd (l .last q h hq k r); kept = λ q hq h. h; falls = omega arith }
@@ -329,8 +329,8 @@ module _ (c f : List ℕ) (size n : ℕ) (i j : ℕ) where
     pub steps : Steps c f size n (Only i j) t u
     pub kept : AllHeld c f size n i j t S → AllHeld c f size n i j u R
     pub clean : found ≡ 0 → (o : ℕ) → o < e → getD R o 0 ≡ 0
-    pub falls : weight u R ≤ weight t S
-    pub less : (found ≡ 0 → ⊥) → weight u R < weight t S
+    pub falls : potential u R ≤ potential t S
+    pub less : (found ≡ 0 → ⊥) → potential u R < potential t S
 
   pub round-start : (t S : List ℕ) → Rounding 0 0 t S t S
   round-start t S = record { steps = stay; kept = λ h. h; clean = λ _ o l. absurd (omega arith); falls = omega arith; less = λ h. absurd (h refl) }

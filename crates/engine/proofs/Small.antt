@@ -10,8 +10,8 @@ use lib.Dec.{ltb}
 use borrow.Author.Tests.{lt-ltb, le-ltb}
 use Rattle.code.specs.Code.{ruleAt, flag}
 use Rattle.code.specs.Heights.{cellAt, stretches, none}
-use Rattle.engine.specs.Table.{valueOf, Shape, Place}
-use Rattle.engine.specs.Sweep.{cellOf, Gives, by-terminal, by-split, by-owned, Steps, stay, step}
+use Rattle.engine.specs.Table.{cellOf, valueOf, Shape, Place}
+use Rattle.engine.specs.Sweep.{Gives, by-terminal, by-split, by-owned, Steps, stay, step}
 use Rattle.engine.proofs.Cells.{in-room, next-place, rule-place}
 use Rattle.engine.proofs.Lowering.{in-range, set-le, steps-le}
 use Rattle.engine.proofs.Values.{Value, v-end, v-none, v-cell, value-is, up-is, up-low}

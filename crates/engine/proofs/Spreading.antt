@@ -8,8 +8,8 @@ use lib.ListN.{length, getD, set}
 use lib.Seq.{getD-set-same, getD-set-other, set-getD}
 use Rattle.code.specs.Code.{kindAt, goesAt, ruleAt, fitsAt}
 use Rattle.code.specs.Heights.{cellAt}
-use Rattle.engine.specs.Table.{valueOf, upOf, splitOf, Room, Shape, Place}
-use Rattle.engine.specs.Sweep.{cellOf, Steps, stay, step, by-terminal, by-split, Ahead, Settled, Lowered, lowered, kept, HandedOn, SpreadTo, Idle, idle-end, idle-none, NextRest}
+use Rattle.engine.specs.Table.{cellOf, valueOf, upOf, splitOf, Room, Shape, Place}
+use Rattle.engine.specs.Sweep.{Steps, stay, step, by-terminal, by-split, Ahead, Settled, Lowered, lowered, kept, HandedOn, Spread, Idle, idle-end, idle-none, NextRest}
 use Rattle.engine.proofs.Cells.{in-room, rule-place}
 use Rattle.engine.proofs.Lowering.{in-range, steps-join, steps-le, value-same, split-same}
 
@@ -120,11 +120,11 @@ idle-next {c} {t} {n} {m} {j} from p h x q a b = elim (ℕ-discrete q p) as (λ 
 
 -- the positions before the next one with something behind it
 module _ (c f : List ℕ) (size n m j : ℕ) where
-  pub spread-start : {t : List ℕ} {r : ℕ} → NextRest c t size n 0 m j r → Settled c f size n (Ahead m j) (SpreadTo c f n m j r) t t
+  pub spread-start : {t : List ℕ} {r : ℕ} → NextRest c t size n 0 m j r → Settled c f size n (Ahead m j) (Spread c f r n m j) t t
   spread-start {t} x = record { steps = stay; closed = λ q l. idle-on c f n m j t q (x .idle q (omega arith) l) }
 
-  pub spread-next : {t₀ t t' : List ℕ} {p r : ℕ} → m ≤ j → j ≤ n → Settled c f size n (Ahead m j) (SpreadTo c f n m j p) t₀ t → Settled c f size n (Ahead m j) (λ u. HandedOn c f n m j u p) t t'
-      → NextRest c t' size n (p + 1) m j r → Settled c f size n (Ahead m j) (SpreadTo c f n m j r) t₀ t'
+  pub spread-next : {t₀ t t' : List ℕ} {p r : ℕ} → m ≤ j → j ≤ n → Settled c f size n (Ahead m j) (Spread c f p n m j) t₀ t → Settled c f size n (Ahead m j) (λ u. HandedOn c f n m j u p) t t'
+      → NextRest c t' size n (p + 1) m j r → Settled c f size n (Ahead m j) (Spread c f r n m j) t₀ t'
   spread-next {t' = t'} {p = p} hm hj a b x = record {
     steps = steps-join c f size n (a .steps) (b .steps);
     closed = λ q l. elim (decLt q p) as (λ _. HandedOn c f n m j t' q) [

@@ -1,15 +1,14 @@
 -- The value of a position, by cases.
 use mathlib.Core.Path.{_≡_, ap, _∙_}
 use mathlib.Core.List.{List}
-use Prim.Native.Nat.{ℕ, _+_, _<_, _≤_}
+use Prim.Native.Nat.{ℕ, _+_, _<_, _≤_, max}
 use native.Mathlib.Decide.{decLt, ℕ-discrete}
 use native.Mathlib.Omega.{arith}
 use lib.ListN.{getD}
 use borrow.Author.Tests.{lt-ltb, le-ltb, eq-eqb, ne-eqb}
 use Rattle.code.specs.Code.{kindAt, ruleAt}
 use Rattle.code.specs.Heights.{cellAt, none}
-use Rattle.engine.specs.Table.{valueOf, upOf, splitOf}
-use Rattle.engine.specs.Sweep.{cellOf}
+use Rattle.engine.specs.Table.{cellOf, valueOf, upOf, splitOf}
 
 pub data Value (c t : List ℕ) (n q i j v : ℕ) : Type 0 where
   v-end : kindAt c q ≡ 0 → i ≡ j → v ≡ 0 → Value c t n q i j v
@@ -55,12 +54,5 @@ module _ (c t : List ℕ) (n p i j m b : ℕ) (eb : b ≡ valueOf c t n (p + 1) 
   pub split-none : b ≡ none → none ≡ splitOf c t n p i j m
   split-none e = omega (arith, up-most (cellOf n t (ruleAt c p) i m))
 
-  module _ (a x : ℕ) (ex : x ≡ cellAt n (ruleAt c p) i m) (ea : a ≡ upOf (getD t x 0)) where
-    is : a ≡ upOf (cellOf n t (ruleAt c p) i m)
-    is = ea ∙ ap (λ (z : ℕ). upOf (getD t z 0)) ex
-
-    pub split-rest : a < b → b ≡ splitOf c t n p i j m
-    split-rest l = omega (arith, is)
-
-    pub split-symbol : b ≤ a → a ≡ splitOf c t n p i j m
-    split-symbol l = omega (arith, is)
+  pub split-some : (a x r : ℕ) → x ≡ cellAt n (ruleAt c p) i m → a ≡ upOf (getD t x 0) → r ≡ max a b → r ≡ splitOf c t n p i j m
+  split-some a x r ex ea er = let is = ea ∙ ap (λ (z : ℕ). upOf (getD t z 0)) ex in omega arith

@@ -9,15 +9,11 @@ use Rattle.text.specs.Lists.{Text, pick}
 use Rattle.tree.specs.Tree.{Grammar}
 use Rattle.code.specs.Code.{kindAt, goesAt, ruleAt, ownerAt, fitsAt, Coded}
 use Rattle.code.specs.Heights.{cellAt, none, Heights}
-use Rattle.engine.specs.Table.{valueOf, splitOf}
+use Rattle.engine.specs.Table.{cellOf, valueOf, splitOf}
 
-abbrev pub sumOf : List ℕ → ℕ
-sumOf [] = 0
-sumOf (x ∷ xs) = x + sumOf xs
-
--- what stands at the cell of p on the stretch from i to j
-abbrev pub cellOf : ℕ → List ℕ → ℕ → ℕ → ℕ → ℕ
-cellOf n t p i j = getD t (cellAt n p i j) 0
+abbrev pub total : List ℕ → ℕ
+total [] = 0
+total (x ∷ xs) = x + total xs
 
 -- the table t gives the cell of p on the stretch the value v
 pub data Gives (c f : List ℕ) (size n : ℕ) (t : List ℕ) (p i j v : ℕ) : Type 0 where
@@ -65,12 +61,9 @@ pub record HandedOn (c f : List ℕ) (n m j : ℕ) (t : List ℕ) (p : ℕ) : Ty
   pub terminal : (i : ℕ) → kindAt c p ≡ 1 → fitsAt f p i ≡ 1 → i < m → i + goesAt c p ≡ m → valueOf c t n (p + 1) m j < none → cellOf n t p i j ≤ valueOf c t n (p + 1) m j
   pub split : (i : ℕ) → kindAt c p ≡ 2 → i < m → m < j → valueOf c t n (p + 1) m j < none → cellOf n t p i j ≤ splitOf c t n p i j m
 
+-- the same for every position, all of them being the first size
 abbrev pub Spread : List ℕ → List ℕ → ℕ → ℕ → ℕ → ℕ → List ℕ → Type 0
 Spread c f size n m j t = (p : ℕ) → p < size → HandedOn c f n m j t p
-
--- the same for the positions before p
-abbrev pub SpreadTo : List ℕ → List ℕ → ℕ → ℕ → ℕ → ℕ → List ℕ → Type 0
-SpreadTo c f n m j p t = (q : ℕ) → q < p → HandedOn c f n m j t q
 
 -- the stretch has been handed all that shorter ones have for it
 abbrev pub Given : List ℕ → List ℕ → ℕ → ℕ → ℕ → ℕ → List ℕ → Type 0
@@ -81,7 +74,7 @@ pub data Idle (c t : List ℕ) (n m j q : ℕ) : Type 0 where
   idle-end : kindAt c q ≡ 0 → Idle c t n m j q
   idle-none : valueOf c t n (q + 1) m j ≡ none → Idle c t n m j q
 
--- r is the first position from p on that is not idle, or size
+-- all from p on and before r are idle; r is size, or no end
 pub record NextRest (c t : List ℕ) (size n p m j r : ℕ) : Type 0 where
   pub from : p ≤ r
   pub below : r ≤ size
@@ -128,15 +121,15 @@ pub data Handed (c : List ℕ) (n : ℕ) (t S : List ℕ) (p i j d : ℕ) : List
       → Handed c n t S p i j d (set t (cellAt n e i j) (valueOf c t n p i j)) (set S e d)
 
 -- what falls with every rule that is lowered and every rule that is seen
-abbrev pub weight : List ℕ → List ℕ → ℕ
-weight t S = (mostSize + 1) * sumOf t + sumOf S
+abbrev pub potential : List ℕ → List ℕ → ℕ
+potential t S = (mostSize + 1) * total t + total S
 
--- p was relaxed; a is 1 where its own cell was lowered
+-- p was relaxed; a is 0 only where its own cell was not lowered
 pub record Relaxed (c f : List ℕ) (size n p i j d : ℕ) (t S : List ℕ) (a : ℕ) (t' S' : List ℕ) : Type 0 where
   pub steps : Steps c f size n (Only i j) t t'
   pub held : mostSize ≤ p + d → Held c f n i j t' S' p
   pub kept : (q : ℕ) → q < size → (q ≡ p → ⊥) → (q + 1 ≡ p → a ≡ 0) → mostSize ≤ q + d → Held c f n i j t S q → Held c f n i j t' S' q
-  pub falls : d ≤ mostSize → weight t' S' ≤ weight t S
+  pub falls : d ≤ mostSize → potential t' S' ≤ potential t S
 
 -- how many of the last positions do not see what is lowered at p
 abbrev pub unseenBy : ℕ → ℕ → ℕ
@@ -148,7 +141,7 @@ pub record Descended (c f : List ℕ) (size n from i j all : ℕ) (t S t' S' : L
   pub every : (all ≡ 0 → ⊥) → (q : ℕ) → q < from → Held c f n i j t' S' q
   pub top : all ≡ 0 → (u : ℕ) → u + 1 ≡ from → Held c f n i j t' S' u
   pub kept : all ≡ 0 → (q : ℕ) → q < size → (q + 1 ≡ from → ⊥) → Held c f n i j t S q → Held c f n i j t' S' q
-  pub falls : weight t' S' ≤ weight t S
+  pub falls : potential t' S' ≤ potential t S
 
 -- x is the last use of the rule e before b and 1, or 0
 pub record LastUse (c : List ℕ) (e b x : ℕ) : Type 0 where
@@ -170,15 +163,15 @@ pub record Revisited (c f : List ℕ) (size n e d i j : ℕ) (t S t' S' : List �
   pub steps : Steps c f size n (Only i j) t t'
   pub made : (q : ℕ) → q < size → kindAt c q ≡ 2 → ruleAt c q ≡ e → mostSize ≤ q + d → Held c f n i j t' S' q
   pub kept : AllKept c f size n i j t S t' S'
-  pub falls : weight t' S' ≤ weight t S
+  pub falls : potential t' S' ≤ potential t S
 
 -- every rule was seen once by what had not seen it; r is 0 where there was none
 pub record Rounded (c f : List ℕ) (size n i j : ℕ) (t S : List ℕ) (r : ℕ) (t' S' : List ℕ) : Type 0 where
   pub steps : Steps c f size n (Only i j) t t'
   pub kept : AllHeld c f size n i j t S → AllHeld c f size n i j t' S'
   pub clean : r ≡ 0 → (e : ℕ) → e < size → getD S' e 0 ≡ 0
-  pub falls : weight t' S' ≤ weight t S
-  pub less : (r ≡ 0 → ⊥) → weight t' S' < weight t S
+  pub falls : potential t' S' ≤ potential t S
+  pub less : (r ≡ 0 → ⊥) → potential t' S' < potential t S
 
 -- the stretches that end at j, from i on, are closed and handed on
 pub record ColumnFrom (c f : List ℕ) (size n j i : ℕ) (t : List ℕ) : Type 0 where
@@ -190,11 +183,9 @@ abbrev pub Before : List ℕ → List ℕ → ℕ → ℕ → ℕ → List ℕ �
 Before c f size n j t = (k l : ℕ) → k ≤ l → l < j → Closed c f size n t k l
 
 -- the first k cells are none
-pub record Clear (k : ℕ) (t₀ t : List ℕ) : Type 0 where
-  pub same : length t ≡ length t₀
-  pub empty : (x : ℕ) → x < k → getD t x 0 ≡ none
+abbrev pub Clear : ℕ → List ℕ → Type 0
+Clear k t = (x : ℕ) → x < k → getD t x 0 ≡ none
 
 -- the table has the least heights of every grammar and record that have this code
-pub record Filled (c f : List ℕ) (size n len : ℕ) (t : List ℕ) : Type 0 where
-  pub same : length t ≡ len
-  pub heights : (g : Grammar) (r : Text) (top first : ℕ) (k : Coded c f g r size top first) → length r ≡ n → Heights c f g r size top first k t
+abbrev pub Filled : List ℕ → List ℕ → ℕ → ℕ → List ℕ → Type 0
+Filled c f size n t = (g : Grammar) (r : Text) (top first : ℕ) (k : Coded c f g r size top first) → length r ≡ n → Heights c f g r size top first k t

@@ -9,9 +9,13 @@ use Rattle.text.specs.Lists.{pick}
 use Rattle.code.specs.Code.{kindAt, ruleAt, ownerAt}
 use Rattle.code.specs.Heights.{stretches, cellAt, none}
 
--- the position q on the stretch from i to j: nothing stands behind an end
+-- what stands at the cell of p on the stretch from i to j
+abbrev pub cellOf : ℕ → List ℕ → ℕ → ℕ → ℕ → ℕ
+cellOf n t p i j = getD t (cellAt n p i j) 0
+
+-- the position q on the stretch: nothing stands behind an end
 abbrev pub valueOf : List ℕ → List ℕ → ℕ → ℕ → ℕ → ℕ → ℕ
-valueOf c t n q i j = pick (eqb (kindAt c q) 0) (pick (eqb i j) 0 none) (getD t (cellAt n q i j) 0)
+valueOf c t n q i j = pick (eqb (kindAt c q) 0) (pick (eqb i j) 0 none) (cellOf n t q i j)
 
 -- one higher
 abbrev pub upOf : ℕ → ℕ
@@ -19,7 +23,7 @@ upOf h = pick (ltb h none) (h + 1) none
 
 -- the symbol at p from i to m, then what stands behind it from m to j
 abbrev pub splitOf : List ℕ → List ℕ → ℕ → ℕ → ℕ → ℕ → ℕ → ℕ
-splitOf c t n p i j m = max (upOf (getD t (cellAt n (ruleAt c p) i m) 0)) (valueOf c t n (p + 1) m j)
+splitOf c t n p i j m = max (upOf (cellOf n t (ruleAt c p) i m)) (valueOf c t n (p + 1) m j)
 
 -- the main table has a cell for each position on each stretch
 pub record Room (size n len : ℕ) : Type 0 where

@@ -8,17 +8,8 @@ ghost use Rattle.code.specs.Code.{kindAt, ruleAt};
 ghost use Rattle.code.specs.Heights.{cellAt};
 ghost use Rattle.engine.specs.Table.{valueOf, upOf, splitOf, Room, Shape, Safe, Place};
 ghost use Rattle.engine.specs.Sweep.{Lowered, Handed, Shifted, Offer, Relaxed, unseenBy, Descended, Uses, Revisited, Rounded, Settled, Only, Ahead, EndsAt, Given, Closed, HandedOn, Spread, NextRest, Bare, ColumnFrom, Clear, Filled};
-
-// No derivation.
-const NONE: u32 = 4294967295;
-
-// Where the cell of p on the stretch from i to j stands.
-fn cell(n: usize, p: usize, i: usize, j: usize) -> usize
-    requires { ⌜ (n ≤ 120) × (p < 512) × (i ≤ j) × (j ≤ n) ⌝ }
-    ensures { λ r. ⌜ r ≡ cellAt n p i j ⌝ }
-{
-    p * ((n + 1) * (n + 2) / 2) + j * (j + 1) / 2 + i
-}
+use code::NONE;
+use code::cell;
 
 // What the table has for the position q.
 fn value(code: &[u32], main: &[u32], size: usize, n: usize, q: usize, i: usize, j: usize) -> u32
@@ -64,11 +55,7 @@ fn split(
     }
     let e = code[4 * p + 2] as usize;
     let x = cell(n, e, i, m);
-    let a = up(main[x]);
-    if a < b {
-        return b;
-    }
-    a
+    larger(up(main[x]), b)
 }
 
 // The larger of two heights.
@@ -404,7 +391,7 @@ fn spread_at(
     }
 }
 
-// The next position from p on with something behind it from m to j.
+// The next position from `from` on with something behind it from m to j.
 fn next_rest(
     code: &[u32],
     main: &[u32],
@@ -441,7 +428,7 @@ fn spread(code: &[u32], fits: &[u8], main: &mut [u32], size: usize, n: usize, m:
     }
 }
 
-// 0 where no position has a value on the stretch. At an empty one the ends have.
+// 0 only where no position has a value on the stretch. At an empty one the ends have.
 fn holds_any(main: &[u32], size: usize, n: usize, i: usize, j: usize) -> u32
     requires { ⌜ Room size n (length (now main)) × (i ≤ j) × (j ≤ n) ⌝ }
     ensures { λ r. ⌜ (r ≡ 0 → Bare size n i j (now (main .entry))) ⌝ }
@@ -521,7 +508,7 @@ fn list_uses(code: &[u32], uses: &mut [u32], size: usize)
 // The first k cells hold nothing.
 fn clear(main: &mut [u32], k: usize)
     requires { ⌜ k ≤ length (now main) ⌝ }
-    ensures { λ r. ⌜ Clear k (now (main .entry)) (now (main .exit)) ⌝ }
+    ensures { λ r. ⌜ Clear k (now (main .exit)) ⌝ }
 {
     let mut x = 0;
     while x < k {
@@ -534,7 +521,7 @@ fn clear(main: &mut [u32], k: usize)
 // numbers in code and 121 in fits.
 pub fn fill(code: &[u32], fits: &[u8], size: usize, n: usize, main: &mut [u32])
     requires { ⌜ Safe (now code) (now fits) size n (length (now main)) ⌝ }
-    ensures { λ r. ⌜ Filled (now (code .entry)) (now (fits .entry)) size n (length (now (main .entry))) (now (main .exit)) ⌝ }
+    ensures { λ r. ⌜ Filled (now (code .entry)) (now (fits .entry)) size n (now (main .exit)) ⌝ }
 {
     let mut uses = [0u32; 1024];
     let mut stale = [0u32; 512];

@@ -15,9 +15,9 @@ use Rattle.tree.specs.Tree.{Mark, unmarked, included, attribute, deleted, Symbo
 use Rattle.tree.specs.Tokens.{name, rule-head, markNumber, counted}
 use Rattle.plain.specs.Written.{heads}
 use Rattle.plain.specs.Static.{duplicate}
-use Rattle.plain.specs.Plain.{alts, alternatives, ruleFor, weight, size}
+use Rattle.plain.specs.Plain.{alts, alternatives, ruleFor, weight, size, ruleMark, over}
 use Rattle.items.specs.declared.State.{State}
-use Rattle.items.specs.Items.{kindAt, targetAt, tokenAt, Reads, ruleMark, over, markKind, Starts, Among, st-name, Alternatives, Items}
+use Rattle.items.specs.Items.{kindAt, targetAt, tokenAt, Reads, markKind, Starts, Among, st-name, Alternatives, Items}
 use Rattle.items.specs.Machine.{kindBy}
 use Rattle.items.specs.Final.{Placed, PlacedAll, Final}
 use Rattle.items.specs.Scanned.{At, Listed, l-none, l-rule, RuleCover, RuleBegins, Begins, Clean, Cleans, Bodies, Whole, Scanned}

@@ -7,8 +7,8 @@ use native.Mathlib.Omega.{arith}
 use lib.ListN.{length, getD}
 use Rattle.tree.specs.Tree.{Mark, unmarked, included, attribute, deleted, Symbol, Grammar, rules}
 use Rattle.text.proofs.Tests.{split}
-use Rattle.plain.specs.Plain.{weight}
-use Rattle.items.specs.Items.{kindAt, markKind, over, ruleMark, Starts, Stands, st-terminal, st-name, st-made, Spells, sp-end, sp-item, Alternatives, al-last, al-more, Spelt}
+use Rattle.plain.specs.Plain.{weight, ruleMark, over}
+use Rattle.items.specs.Items.{kindAt, markKind, Starts, Stands, st-terminal, st-name, st-made, Spells, sp-end, sp-item, Alternatives, al-last, al-more, Spelt}
 
 kind-of-mark : (m : Mark) → (2 ≤ markKind m) × (markKind m ≤ 4)
 kind-of-mark unmarked = (omega arith, omega arith)

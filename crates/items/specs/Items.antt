@@ -9,11 +9,11 @@ use mathlib.Core.Logic.{_⊎_}
 use mathlib.Core.Path.{_≡_}
 use Prim.Native.Nat.{ℕ, _+_, _*_, _<_, _≤_}
 use lib.ListN.{length, getD, take, drop}
-use Rattle.text.specs.Lists.{Text, pick, same}
-use Rattle.tree.specs.Tree.{Mark, unmarked, included, attribute, deleted, Terminal, Symbol, terminal, nonterminal, Rule, Grammar, rules}
+use Rattle.text.specs.Lists.{Text}
+use Rattle.tree.specs.Tree.{Mark, unmarked, included, attribute, deleted, Terminal, Symbol, terminal, nonterminal, Grammar, rules}
 use Rattle.tree.specs.Tokens.{Token, name, encode, terminalTokens}
 use Rattle.plain.specs.Written.{kind, made, terminals}
-use Rattle.plain.specs.Plain.{alts, weight, size}
+use Rattle.plain.specs.Plain.{alts, ruleMark, over, weight, size}
 
 abbrev pub kindAt : List ℕ → ℕ → ℕ
 kindAt T p = getD T (12288 + 3 * p) 0
@@ -29,14 +29,7 @@ pub record Reads (T : List ℕ) (at : ℕ) (ts : List Token) : Type 0 where
   pub more : List ℕ
   pub stands : drop at (take 12288 T) ≡ encode ts ++ more
 
--- "The mark at the use wins over the mark at the rule", and the kind of an item
-abbrev pub ruleMark : List Rule → Text → Mark
-ruleMark [] n = unmarked
-ruleMark (r ∷ rs) n = pick (same n (r .name)) (r .mark) (ruleMark rs n)
-
-abbrev pub over : Mark → Mark → Mark
-over m rule = elim m [ unmarked ↦ rule | included ↦ included | attribute ↦ attribute | deleted ↦ deleted ]
-
+-- the kind of an item, by its mark
 abbrev pub markKind : Mark → ℕ
 markKind m = elim m [ unmarked ↦ 2 | included ↦ 2 | attribute ↦ 3 | deleted ↦ 4 ]
 

@@ -23,9 +23,6 @@ use Rattle.job.specs.declared.Start.{Start}
 use Rattle.job.specs.declared.Begun.{Begun}
 use Rattle.job.specs.declared.Begun.the-variants.{At, Refused as Ended}
 
-abbrev pub job : List ℕ → List ℕ → ℕ → ℕ → Job
-job gs rs main second = record { grammar = gs; input = rs; mainTable = main; secondTable = second }
-
 -- the number of each refusal
 abbrev pub whyText : Decoding → ℕ
 whyText (Of n) = 0

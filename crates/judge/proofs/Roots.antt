@@ -15,7 +15,8 @@ use Rattle.tree.specs.Tokens.{markNumber}
 use Rattle.derive.specs.Derive.{Row, root}
 use Rattle.items.specs.Items.{Starts}
 use Rattle.xml.specs.Names.{xmlName}
-use Rattle.xml.specs.Document.{Xml, nodes, markOf, ruleMark, document, twice, misnamed, unwritable, isAttribute, notOne, namespaced}
+use Rattle.plain.specs.Plain.{ruleMark}
+use Rattle.xml.specs.Document.{Xml, nodes, markOf, document, twice, misnamed, unwritable, isAttribute, notOne, namespaced}
 use Rattle.ends.specs.declared.Spot.{Spot}
 use Rattle.ends.specs.Noted.{Room}
 use Rattle.ends.specs.Walk.{Walk}

@@ -6,7 +6,7 @@ use lib.Dec.{leb, eqb}
 use lib.ListN.{length}
 use Rattle.text.specs.Lists.{Text, pick, any, same, begins, among}
 use Rattle.category.specs.Category.{inClass}
-use Rattle.tree.specs.Tree.{Mark, Chars, Member, chars, range, class, Terminal, literal, inclusion, exclusion, insertion, codes}
+use Rattle.tree.specs.Tree.{Mark, unmarked, included, attribute, deleted, Chars, Member, chars, range, class, Terminal, literal, inclusion, exclusion, insertion, codes}
 use Rattle.tree.specs.Tree.{Symbol, terminal, nonterminal, group, option, repeat0, repeat1, repeat0sep, repeat1sep, rest, Alternative, nil, cons, Body, one, also, Rule, Grammar, rules}
 use Rattle.plain.specs.Written.{written}
 use Rattle.plain.specs.Static.{codeOf}
@@ -23,6 +23,14 @@ alternatives (also a b) = symbols a ∷ alternatives b
 abbrev pub ruleFor : List Rule → Text → List (List Symbol)
 ruleFor [] n = []
 ruleFor (r ∷ rs) n = pick (same n (r .name)) (alternatives (r .body)) (ruleFor rs n)
+
+-- "The mark at the use wins over the mark at the rule"
+abbrev pub ruleMark : List Rule → Text → Mark
+ruleMark [] n = unmarked
+ruleMark (r ∷ rs) n = pick (same n (r .name)) (r .mark) (ruleMark rs n)
+
+abbrev pub over : Mark → Mark → Mark
+over m rule = elim m [ unmarked ↦ rule | included ↦ included | attribute ↦ attribute | deleted ↦ deleted ]
 
 -- "Repetitions and brackets become extra rules, …, alternatives numbered from 0": a rule for each symbol that is no terminal
 abbrev pub alts : Grammar → Symbol → List (List Symbol)

@@ -10,8 +10,8 @@ use lib.ListN.{length, getD, drop, length-append, List·getD-append}
 use lib.Seq.{getD-append-add}
 use Rattle.text.proofs.Tests.{split}
 use Rattle.tree.specs.Tree.{Mark, unmarked, included, attribute, deleted, Symbol, Grammar, rules}
-use Rattle.plain.specs.Plain.{alts, weight}
-use Rattle.items.specs.Items.{kindAt, Starts, Stands, st-terminal, st-name, st-made, Spells, sp-end, sp-item, Alternatives, al-last, al-more, over, markKind, ruleMark}
+use Rattle.plain.specs.Plain.{alts, weight, ruleMark, over}
+use Rattle.items.specs.Items.{kindAt, Starts, Stands, st-terminal, st-name, st-made, Spells, sp-end, sp-item, Alternatives, al-last, al-more, markKind}
 use Rattle.code.specs.Code.{behind, Chain, ch-last, ch-next, ownerAt, goesAt}
 
 -- what is behind each dot of an alternative; of alternatives one behind the other

@@ -14,11 +14,11 @@ use Rattle.text.specs.Lists.{Text}
 use Rattle.text.proofs.Tests.{split}
 use Rattle.tree.specs.Tree.{Mark, unmarked, string, hex, Terminal, literal, inclusion, exclusion, insertion, Symbol, terminal, nonterminal, Grammar, rules}
 use Rattle.tree.specs.Tokens.{encode, terminalTokens}
-use Rattle.plain.specs.Plain.{alts, weight, width, fits}
+use Rattle.plain.specs.Plain.{alts, weight, width, fits, ruleMark, over}
 use Rattle.plain.specs.Plain as plain
 use Rattle.plain.specs.Written.{kind, made, atom}
 use Rattle.derive.specs.Derive.{root}
-use Rattle.items.specs.Items.{kindAt, targetAt, tokenAt, Starts, Among, Stands, st-terminal, st-name, st-made, Reads, over, ruleMark, markKind}
+use Rattle.items.specs.Items.{kindAt, targetAt, tokenAt, Starts, Among, Stands, st-terminal, st-name, st-made, Reads, markKind}
 use Rattle.items.specs.Built.{Cover}
 use Rattle.code.specs.Code.{behind, headOf, Chain, Owned, Coded, ownerAt, goesAt, ruleAt, fitsAt, flag, at-end, at-terminal, at-symbol}
 use Rattle.code.specs.Code as code

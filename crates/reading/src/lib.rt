@@ -5,12 +5,11 @@ ghost use mathlib.Core.List.{List};
 ghost use Prim.Native.Nat.{ℕ, _+_, _*_, _-_, _<_, _≤_};
 ghost use lib.ListN.{length, getD};
 ghost use Rattle.code.specs.Code.{kindAt, goesAt};
-ghost use Rattle.code.specs.Heights.{cellAt};
 ghost use Rattle.reading.specs.Walk.{Tells, Stretch, Row, Position, heightAt, valueAt, Ends, Line, Lined, SomeLow, FirstLow, OtherBy, LowEnd, SomeEnd, FirstEnd, EndToo, OtherEnd, pushed, popped, Entered, Stepped, CanEnter, CanCross, CanStep, Over};
 ghost use Rattle.reading.specs.Answer.{Finished, Given, Answers};
+use code::NONE;
+use code::cell;
 
-// "no derivation", in the main table.
-const NONE: u32 = 4294967295;
 // Numbers of a reading.
 const MOST: usize = 4096;
 
@@ -53,14 +52,6 @@ fn either(a: bool, b: bool) -> bool
         return true;
     }
     b
-}
-
-fn cell(n: usize, p: usize, i: usize, j: usize) -> usize
-    requires { ⌜ Stretch n i j × (p < 512) ⌝ }
-    ensures { λ r. ⌜ r ≡ cellAt n p i j ⌝ }
-{
-    let width = (n + 1) * (n + 2) / 2;
-    p * width + j * (j + 1) / 2 + i
 }
 
 fn height(main: &[u32], n: usize, p: usize, i: usize, j: usize) -> u32

@@ -12,7 +12,7 @@ use Rattle.items.specs.Items.{kindAt, markKind, Starts, Stands, st-terminal, st
 use Rattle.xml.specs.Document.{Xml, text, markOf, nameOf, value, nodes, stretch, terminalText}
 use Rattle.xml.specs.Bytes.{escape, attributes}
 use Rattle.xml.proofs.Rows.{attributes-join, attributes-text}
-use Rattle.ends.proofs.Marks.{name-mark, made-mark, nodes-element, nodes-attribute, nodes-deleted}
+use Rattle.ends.proofs.Marks.{made-mark, nodes-element, nodes-attribute, nodes-deleted}
 use Rattle.writer.specs.Rows.{values, exposed, attributeOf, textAt}
 use Rattle.writer.specs.Content.{isElement, startOf}
 
@@ -32,12 +32,12 @@ other-mark deleted e = refl
 module _ {T : List ℕ} {g : Grammar} {starts : Starts} where
   pub frame-element : {p : ℕ} {s : Symbol} → Stands T g starts p s → kindAt T p ≡ 2 → isElement (markOf g s) ≡ true
   frame-element (st-terminal k r i) h = absurd (omega arith)
-  frame-element (st-name {m = m} {n = n} k r a) h = element-mark (markOf g (nonterminal m n)) (sym h ∙ k ∙ name-mark g m n)
+  frame-element (st-name {m = m} {n = n} k r a) h = element-mark (markOf g (nonterminal m n)) (sym h ∙ k)
   frame-element (st-made {s = s} q k a) h = absurd (omega arith)
 
   pub frame-other : {p : ℕ} {s : Symbol} → Stands T g starts p s → (kindAt T p ≡ 2 → ⊥) → isElement (markOf g s) ≡ false
   frame-other (st-terminal k r i) h = refl
-  frame-other (st-name {m = m} {n = n} k r a) h = other-mark (markOf g (nonterminal m n)) (λ q. h (k ∙ name-mark g m n ∙ q))
+  frame-other (st-name {m = m} {n = n} k r a) h = other-mark (markOf g (nonterminal m n)) (λ q. h (k ∙ q))
   frame-other (st-made {s = s} q k a) h = other-mark (markOf g s) (λ e. h (k ∙ made-mark g s q ∙ e))
 
 pub spells-append : (f : ℕ → Text) (xs ys : Text) → concatMap f (xs ++ ys) ≡ concatMap f xs ++ concatMap f ys

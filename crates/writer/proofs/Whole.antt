@@ -12,7 +12,8 @@ use Rattle.text.specs.Utf8.{utf8s}
 use Rattle.tree.specs.Tree.{Mark, unmarked, included, attribute, deleted, Symbol, Grammar, rules}
 use Rattle.tree.specs.Tokens.{counted, markNumber}
 use Rattle.derive.specs.Derive.{Row, end, node, leftParse, alternative, root}
-use Rattle.xml.specs.Document.{Xml, none, char, attr, elem, nodes, marked, markOf, ruleMark, asRoot, document, notOne, misnamed, unwritable}
+use Rattle.plain.specs.Plain.{ruleMark}
+use Rattle.xml.specs.Document.{Xml, none, char, attr, elem, nodes, marked, markOf, asRoot, document, notOne, misnamed, unwritable}
 use Rattle.xml.specs.Bytes.{attributes, content, closed, bytes, state as stateText}
 use Rattle.ends.specs.Noted.{Noted, Parsed, Room}
 use Rattle.ends.specs.Walk.{Walk}

@@ -3,10 +3,11 @@ use mathlib.Core.Bool.{Bool, true, false, not, _&&_, _||_}
 use mathlib.Core.List.{List, [], _∷_, _++_}
 use Prim.Native.Nat.{ℕ, _-_}
 use lib.ListN.{take, drop}
-use Rattle.text.specs.Lists.{Text, chars, pick, any, same, repeats}
+use Rattle.text.specs.Lists.{Text, chars, any, same, repeats}
 use Rattle.tree.specs.Tree.{Mark, unmarked, included, attribute, deleted, Terminal, literal, inclusion, exclusion, insertion, codes}
-use Rattle.tree.specs.Tree.{Symbol, Rule, Grammar, rules}
+use Rattle.tree.specs.Tree.{Symbol, Grammar, rules}
 use Rattle.plain.specs.Written.{Kind, atom, named, made, kind}
+use Rattle.plain.specs.Plain.{ruleMark, over}
 use Rattle.derive.specs.Derive.{Row, end, leaf, node, alternative, root}
 use Rattle.xml.specs.Names.{xmlChar, xmlName}
 
@@ -28,14 +29,7 @@ abbrev pub text : Text → Xml
 text [] = none
 text (c ∷ cs) = char c (text cs)
 
--- "The mark at the use wins over the mark at the rule"; extra rules are "marked deleted"
-abbrev pub ruleMark : List Rule → Text → Mark
-ruleMark [] n = unmarked
-ruleMark (r ∷ rs) n = pick (same n (r .name)) (r .mark) (ruleMark rs n)
-
-abbrev pub over : Mark → Mark → Mark
-over m rule = elim m [ unmarked ↦ rule | included ↦ included | attribute ↦ attribute | deleted ↦ deleted ]
-
+-- extra rules are "marked deleted"
 abbrev pub markOf : Grammar → Symbol → Mark
 markOf g s = elim (kind s) [ atom x ↦ deleted | named m n ↦ over m (ruleMark (rules g) n) | made ↦ deleted ]
 

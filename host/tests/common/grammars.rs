@@ -274,7 +274,14 @@ pub fn awkward() -> Vec<(&'static str, String)> {
             ("accented letters", full("a: '", "é", "'.")),
             ("byte order marks", full("", "\u{FEFF}", "")),
         ]);
-        for family in [gen::fields, gen::pairs, gen::copies, gen::stars, gen::runs] {
+        for family in [
+            gen::fields,
+            gen::pairs,
+            gen::copies,
+            gen::stars,
+            gen::runs,
+            gen::chains,
+        ] {
             for size in [511, 512] {
                 let mut text = family(size);
                 let missing = length.saturating_sub(text.len());

@@ -81,7 +81,7 @@ pub fn awkward() -> Vec<Job> {
 /// Grammars of full size with records of 120 characters.
 pub fn full_size() -> Vec<Job> {
     let letters = gen::letters(120);
-    let families = [gen::pairs, gen::copies, gen::stars, gen::runs];
+    let families = [gen::pairs, gen::copies, gen::stars, gen::runs, gen::chains];
     let mut jobs = vec![Job::new(gen::fields(512), gen::fields_record(120))];
     jobs.extend(families.map(|family| Job::new(family(512), &letters)));
     jobs

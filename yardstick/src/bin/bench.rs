@@ -55,12 +55,13 @@ fn size(grammar: &str) -> usize {
 type Family = (&'static str, fn(usize) -> String, fn(usize) -> String);
 
 fn main() {
-    let families: [Family; 5] = [
+    let families: [Family; 6] = [
         ("fields, unambiguous", gen::fields, gen::fields_record),
         ("pairs, ambiguous", gen::pairs, gen::letters),
         ("copies, ambiguous", gen::copies, gen::letters),
         ("stars, ambiguous", gen::stars, gen::letters),
         ("runs, ambiguous", gen::runs, gen::letters),
+        ("chains, unambiguous", gen::chains, gen::letters),
     ];
     println!("| converting | size | 20 characters | 80 characters | 120 characters |");
     println!("|---|---:|---:|---:|---:|");

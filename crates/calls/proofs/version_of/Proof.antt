@@ -1,14 +1,10 @@
 use borrow.Author.Tests.{eq-eqb, ne-eqb}
 use Rattle.calls.proofs.version_of.Statement.{statement}
 use Rattle.calls.proofs.version_of.Tie as tie
-use Rattle.calls.proofs.version_of.Reads as reads
-use Rattle.calls.proofs.version_of.Lts as lts
 
--- src/lib.rt:94:9
 returns : tie.Need-returns
 returns c = rw (eq-eqb _ _ (c .if1 .taken))
 
--- src/lib.rt:90:1
 returns-2 : tie.Need-returns-2
 returns-2 c = rw (ne-eqb _ _ (c .if1 .left))
 

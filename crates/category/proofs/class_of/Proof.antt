@@ -11,10 +11,6 @@ use Rattle.category.specs.Category.{classes, letters}
 use Rattle.category.proofs.Classes.{firstLetters, secondLetters, class-here, place-is, place-none, listed}
 use Rattle.category.proofs.class_of.Statement.{statement}
 use Rattle.category.proofs.class_of.Tie as tie
-use Rattle.category.proofs.class_of.Reads as reads
-use Rattle.category.proofs.class_of.Lts as lts
-use Rattle.category.proofs.same_letters.Reads as same-letters-reads
-use Rattle.category.proofs.wide.Reads as wide-reads
 
 abbrev Inv-loop : tie.InvT-loop
 Inv-loop first second letter other class₀ class = (class ≤ 38) × ((j : ℕ) → j < class → same (letters first second) (getD classes j []) ≡ false)
@@ -22,49 +18,38 @@ Inv-loop first second letter other class₀ class = (class ≤ 38) × ((j : ℕ)
 abbrev μ-loop : tie.MeasureT-loop
 μ-loop first second letter other class₀ class = 38 - class
 
--- src/lib.rt:485:5
 loop-holds : tie.Need-loop-holds Inv-loop μ-loop
 loop-holds c = (omega arith, below-none _)
 
--- src/lib.rt:486:45
 array-read-wide : tie.Need-array-read-wide Inv-loop μ-loop
 array-read-wide c = search needs
 
--- src/lib.rt:486:40
 wide-requires : tie.Need-wide-requires Inv-loop μ-loop
 wide-requires c κs = search needs
 
--- src/lib.rt:486:66
 array-read-wide-2 : tie.Need-array-read-wide-2 Inv-loop μ-loop
 array-read-wide-2 c = search needs
 
--- src/lib.rt:486:61
 wide-requires-2 : tie.Need-wide-requires-2 Inv-loop μ-loop
 wide-requires-2 c κs = search needs
 
--- src/lib.rt:486:12
 same-letters-requires : tie.Need-same-letters-requires Inv-loop μ-loop
 same-letters-requires c κs = search needs
 
--- src/lib.rt:487:13
 returns : tie.Need-returns Inv-loop μ-loop
 unfolding firstLetters secondLetters
 returns c = sym (place-is classes _ (c .before .before .before .before .before .loop .class) (omega (arith, listed)) (c .before .before .before .before .before .loop .inv .1) (class-here (c .before .before .before .before .before .before .args .first) (c .before .before .before .before .before .before .args .second) (c .before .before .before .before .before .loop .class) (c .before .before .before .wide .result) (c .before .before .wide2 .result) (c .before .same-letters .result) (c .before .before .before .before .loop-test .taken) (c .before .before .before .wide .ensures) (c .before .before .wide2 .ensures) (c .before .same-letters .ensures) ∙ c .if1 .taken))
 
--- src/lib.rt:489:9
 add-class : tie.Need-add-class Inv-loop μ-loop
 add-class c = omega arith
 
--- src/lib.rt:485:5
 loop-less : tie.Need-loop-less Inv-loop μ-loop
 loop-less c = omega arith
 
--- src/lib.rt:485:5
 loop-again : tie.Need-loop-again Inv-loop μ-loop
 unfolding firstLetters secondLetters
 loop-again c = (omega arith, below-more _ _ (c .before .before .before .before .before .loop .inv .1) (class-here (c .before .before .before .before .before .before .args .first) (c .before .before .before .before .before .before .args .second) (c .before .before .before .before .before .loop .class) (c .before .before .before .wide .result) (c .before .before .wide2 .result) (c .before .same-letters .result) (c .before .before .before .before .loop-test .taken) (c .before .before .before .wide .ensures) (c .before .before .wide2 .ensures) (c .before .same-letters .ensures) ∙ c .if1 .left))
 
--- src/lib.rt:479:1
 returns-2 : tie.Need-returns-2 Inv-loop μ-loop
 returns-2 c = sym (place-none classes _ (λ j h. c .before .loop .inv .1 j (omega (arith, listed))) ∙ listed)
 

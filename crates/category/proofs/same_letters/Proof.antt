@@ -3,14 +3,10 @@ use borrow.Author.Tests.{eq-eqb, ne-eqb}
 use Rattle.category.proofs.Classes.{same-letters-is}
 use Rattle.category.proofs.same_letters.Statement.{statement}
 use Rattle.category.proofs.same_letters.Tie as tie
-use Rattle.category.proofs.same_letters.Reads as reads
-use Rattle.category.proofs.same_letters.Lts as lts
 
--- src/lib.rt:473:9
 returns : tie.Need-returns
 returns c = sym (same-letters-is (c .before .args .c) (c .before .args .d) (c .before .args .x) (c .before .args .y) ∙ rw (ne-eqb _ _ (c .if1 .taken)))
 
--- src/lib.rt:469:1
 returns-2 : tie.Need-returns-2
 returns-2 c = sym (same-letters-is (c .before .args .c) (c .before .args .d) (c .before .args .x) (c .before .args .y) ∙ rw (eq-eqb _ _ (c .if1 .left)))
 

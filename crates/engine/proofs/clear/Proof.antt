@@ -35,7 +35,7 @@ same-length : tie.Need-same-length Inv-loop μ-loop
 same-length c = c .before .loop .inv .1
 
 returns : tie.Need-returns Inv-loop μ-loop
-returns c = record { same = c .before .loop .inv .1; empty = λ y h. c .before .loop .inv .2 y (omega (arith, c .loop-test .left)) }
+returns c = λ y h. c .before .loop .inv .2 y (omega (arith, c .loop-test .left))
 
 pub clear-spec : {M : Type 1} → statement M
 clear-spec =

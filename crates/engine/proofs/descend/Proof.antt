@@ -4,10 +4,6 @@ use lib.ListN.{length}
 use Rattle.engine.proofs.Relaxing.{Descending, descend-start, descend-next, descend-quiet, descend-end}
 use Rattle.engine.proofs.descend.Statement.{statement}
 use Rattle.engine.proofs.descend.Tie as tie
-use Rattle.engine.proofs.descend.Reads as reads
-use Rattle.engine.proofs.descend.Lts as lts
-use Rattle.engine.proofs.relax.Reads as relax-reads
-use Rattle.engine.proofs.unseen.Reads as unseen-reads
 
 abbrev Inv-loop : tie.InvT-loop
 Inv-loop code fits main₀ stale₀ size n from i j all p₀ main stale p = Descending code fits size n i j from all p main₀ stale₀ main stale × (length main ≡ length main₀) × (length stale ≡ length stale₀)
@@ -15,67 +11,53 @@ Inv-loop code fits main₀ stale₀ size n from i j all p₀ main stale p = Desc
 abbrev μ-loop : tie.MeasureT-loop
 μ-loop code fits main₀ stale₀ size n from i j all p₀ main stale p = p
 
--- src/lib.rt:214:5
 loop-holds : tie.Need-loop-holds Inv-loop μ-loop
 loop-holds c =
     let a = c .before .before .before .before .args in
     (descend-start (a .code .now) (a .fits .now) (a .size) (a .n) (a .i) (a .j) (a .from) (a .all) (a .main .now) (a .stale .now), refl, refl)
 
--- src/lib.rt:215:9
 sub-p : tie.Need-sub-p Inv-loop μ-loop
 sub-p c = omega (arith, c .loop-test .taken)
 
--- src/lib.rt:216:13
 unseen-requires : tie.Need-unseen-requires Inv-loop μ-loop
 unseen-requires c κs = omega (arith, c .loop-test .taken, c .before .loop .inv .0 .low, c .before .before .before .before .before .before .pre .1, c .before .before .before .before .before .before .pre .0 .shape .cells .few)
 
--- src/lib.rt:217:12
 relax-requires : tie.Need-relax-requires Inv-loop μ-loop
 relax-requires c κs = (rw (c .before .before .before .before .loop .inv .1) (c .before .before .before .before .before .before .before .before .before .pre .0), record { inside = omega (arith, c .before .before .before .loop-test .taken, c .before .before .before .before .loop .inv .0 .low, c .before .before .before .before .before .before .before .before .before .pre .1); order = c .before .before .before .before .before .before .before .before .before .pre .2; stop = c .before .before .before .before .before .before .before .before .before .pre .3 }, omega (arith, c .before .before .before .before .loop .inv .2, c .before .before .before .before .before .before .before .before .before .pre .4))
 
--- src/lib.rt:219:17
 same-length : tie.Need-same-length Inv-loop μ-loop
 same-length c = c .before .before .before .before .before .before .relax .kept .1 .1 .0 ∙ c .before .before .before .before .before .before .before .before .before .before .before .loop .inv .1
 
--- src/lib.rt:219:17
 same-length-2 : tie.Need-same-length-2 Inv-loop μ-loop
 same-length-2 c = c .before .before .before .before .before .before .relax .kept .1 .1 .1 .0 ∙ c .before .before .before .before .before .before .before .before .before .before .before .loop .inv .2
 
--- src/lib.rt:219:17
 returns : tie.Need-returns Inv-loop μ-loop
 returns c =
     let a = c .before .before .before .before .before .before .before .before .before .before .before .before .before .before .before .before .args in
     descend-quiet (a .code .now) (a .fits .now) (a .size) (a .n) (a .i) (a .j) (c .before .before .before .before .before .before .before .before .before .before .before .before .before .before .before .before .pre .0 .shape .cells .few) (c .before .before .before .before .before .before .before .before .before .before .before .before .before .before .before .before .pre .1) (c .before .before .before .before .before .before .before .before .before .before .loop-test .taken) (c .before .before .before .before .before .before .before .before .before .unseen .ensures) (c .before .before .before .before .before .before .before .before .before .before .before .loop .inv .0) (c .before .before .before .before .before .before .relax .ensures) (c .if2 .taken) (c .before .if1 .taken)
 
--- src/lib.rt:214:5
 loop-less : tie.Need-loop-less Inv-loop μ-loop
 loop-less c = omega (arith, c .before .before .before .before .before .before .before .before .before .before .loop-test .taken)
 
--- src/lib.rt:214:5
 loop-again : tie.Need-loop-again Inv-loop μ-loop
 loop-again c =
     let a = c .before .before .before .before .before .before .before .before .before .before .before .before .before .before .before .before .args in
     (descend-next (a .code .now) (a .fits .now) (a .size) (a .n) (a .i) (a .j) (c .before .before .before .before .before .before .before .before .before .before .before .before .before .before .before .before .pre .0 .shape .cells .few) (c .before .before .before .before .before .before .before .before .before .before .before .before .before .before .before .before .pre .1) (c .before .before .before .before .before .before .before .before .before .before .loop-test .taken) (c .before .before .before .before .before .before .before .before .before .unseen .ensures) (c .before .before .before .before .before .before .before .before .before .before .before .loop .inv .0) (c .before .before .before .before .before .before .relax .ensures), c .before .before .before .before .before .before .relax .kept .1 .1 .0 ∙ c .before .before .before .before .before .before .before .before .before .before .before .loop .inv .1, c .before .before .before .before .before .before .relax .kept .1 .1 .1 .0 ∙ c .before .before .before .before .before .before .before .before .before .before .before .loop .inv .2)
 
--- src/lib.rt:214:5
 loop-less-2 : tie.Need-loop-less-2 Inv-loop μ-loop
 loop-less-2 c = omega (arith, c .before .before .before .before .before .before .before .before .before .loop-test .taken)
 
--- src/lib.rt:214:5
 loop-again-2 : tie.Need-loop-again-2 Inv-loop μ-loop
 loop-again-2 c =
     let a = c .before .before .before .before .before .before .before .before .before .before .before .before .before .before .before .args in
     (descend-next (a .code .now) (a .fits .now) (a .size) (a .n) (a .i) (a .j) (c .before .before .before .before .before .before .before .before .before .before .before .before .before .before .before .pre .0 .shape .cells .few) (c .before .before .before .before .before .before .before .before .before .before .before .before .before .before .before .pre .1) (c .before .before .before .before .before .before .before .before .before .loop-test .taken) (c .before .before .before .before .before .before .before .before .unseen .ensures) (c .before .before .before .before .before .before .before .before .before .before .loop .inv .0) (c .before .before .before .before .before .relax .ensures), c .before .before .before .before .before .relax .kept .1 .1 .0 ∙ c .before .before .before .before .before .before .before .before .before .before .loop .inv .1, c .before .before .before .before .before .relax .kept .1 .1 .1 .0 ∙ c .before .before .before .before .before .before .before .before .before .before .loop .inv .2)
 
--- src/lib.rt:198:1
 same-length-3 : tie.Need-same-length-3 Inv-loop μ-loop
 same-length-3 c = c .before .loop .inv .1
 
--- src/lib.rt:198:1
 same-length-4 : tie.Need-same-length-4 Inv-loop μ-loop
 same-length-4 c = c .before .loop .inv .2
 
--- src/lib.rt:198:1
 returns-2 : tie.Need-returns-2 Inv-loop μ-loop
 returns-2 c =
     let a = c .before .before .before .before .before .before .args in

@@ -4,7 +4,7 @@ use native.Mathlib.Omega.{arith}
 use lib.ListN.{length}
 use borrow.Author.Needs.{needs}
 use Rattle.engine.specs.Sweep.{Settled, Any, Before}
-use Rattle.engine.proofs.Cells.{square-fits, rows-fit}
+use Rattle.code.proofs.Cells.{square-fits, rows-fit}
 use Rattle.engine.proofs.Columns.{all-start, all-next}
 use Rattle.engine.proofs.Users.{all-zero}
 use Rattle.engine.proofs.Exact.{filled}
@@ -80,10 +80,7 @@ returns c =
     let s = c .before .before .before .before .before .before .before .before .before .before .before .before in
     let a = s .args in
     let e : c .before .loop .j ≡ a .n + 1 = omega (arith, c .before .loop .inv .0, c .loop-test .left) in
-    record {
-      same = c .before .loop .inv .1 ∙ c .before .before .before .before .clear .kept .0;
-      heights = filled (a .code .now) (a .fits .now) (a .size) (a .n) (c .before .before .before .before .clear .last .0) (c .before .loop .main) (c .before .before .before .before .clear .ensures .empty) (rw e at (c .before .loop .inv .3)) (rw (c .before .before .before .before .clear .kept .0) (s .pre .shape .cells .room));
-    }
+    filled (a .code .now) (a .fits .now) (a .size) (a .n) (c .before .before .before .before .clear .last .0) (c .before .loop .main) (c .before .before .before .before .clear .ensures) (rw e at (c .before .loop .inv .3)) (rw (c .before .before .before .before .clear .kept .0) (s .pre .shape .cells .room))
 
 pub fill-spec : {M : Type 1} → statement M
 fill-spec =

@@ -7,78 +7,57 @@ use Rattle.engine.proofs.Relaxing.{hand-low, hand-same}
 use borrow.Author.Needs.{needs}
 use Rattle.engine.proofs.hand.Statement.{statement}
 use Rattle.engine.proofs.hand.Tie as tie
-use Rattle.engine.proofs.hand.Reads as reads
-use Rattle.engine.proofs.hand.Lts as lts
-use Rattle.engine.proofs.lower.Reads as lower-reads
-use Rattle.engine.proofs.value.Reads as value-reads
 
--- src/lib.rt:154:18
 mul-o : tie.Need-mul-o
 mul-o c = search needs
 
--- src/lib.rt:154:18
 add-o : tie.Need-add-o
 add-o c = search needs
 
--- src/lib.rt:154:13
 mul-o-2 : tie.Need-mul-o-2
 mul-o-2 c = search needs
 
--- src/lib.rt:154:13
 shared-slice-read-o : tie.Need-shared-slice-read-o
 shared-slice-read-o c = search needs
 
--- src/lib.rt:154:13
 cast-o : tie.Need-cast-o
 cast-o c = omega (arith, c .shared-slice-known2 .given (4 * c .before .before .before .before .args .p + 3))
 
--- src/lib.rt:156:9
 returns : tie.Need-returns
 returns c = free (c .if1 .taken)
 
--- src/lib.rt:158:9
 value-requires : tie.Need-value-requires
 value-requires c κs = search needs
 
--- src/lib.rt:159:29
 sub-lower : tie.Need-sub-lower
 sub-lower c = search needs
 
--- src/lib.rt:159:8
 lower-requires : tie.Need-lower-requires
 lower-requires c κs = (c .before .before .before .before .before .before .before .before .pre .0 .cells, owner-place (c .before .before .before .before .before .before .before .before .pre .0) (c .before .before .before .before .before .before .before .before .pre .1) (ownerAt (c .before .before .before .before .before .before .before .before .args .code .now) (c .before .before .before .before .before .before .before .before .args .p) - 1) (omega arith))
 
--- src/lib.rt:160:15
 sub-stale : tie.Need-sub-stale
 sub-stale c = search needs
 
--- src/lib.rt:160:9
 mul-stale : tie.Need-mul-stale
 mul-stale c = omega (arith, c .before .before .before .before .before .before .before .before .before .before .before .before .pre .0 .owners (c .before .before .before .before .before .before .before .before .before .before .before .before .args .p) (ownerAt (c .before .before .before .before .before .before .before .before .before .before .before .before .args .code .now) (c .before .before .before .before .before .before .before .before .before .before .before .before .args .p) - 1) (c .before .before .before .before .before .before .before .before .before .before .before .before .pre .1 .inside) (omega arith), c .before .before .before .before .before .before .before .before .before .before .before .before .pre .0 .cells .few)
 
--- src/lib.rt:160:9
 slice-write-stale : tie.Need-slice-write-stale
 slice-write-stale c = omega (arith, c .before .before .before .before .before .before .before .before .before .before .before .before .pre .0 .owners (c .before .before .before .before .before .before .before .before .before .before .before .before .args .p) (ownerAt (c .before .before .before .before .before .before .before .before .before .before .before .before .args .code .now) (c .before .before .before .before .before .before .before .before .before .before .before .before .args .p) - 1) (c .before .before .before .before .before .before .before .before .before .before .before .before .pre .1 .inside) (omega arith), c .before .before .before .before .before .before .before .before .before .before .before .before .pre .2)
 
--- src/lib.rt:140:1
 same-length : tie.Need-same-length
 same-length c = search needs
 
--- src/lib.rt:140:1
 same-length-2 : tie.Need-same-length-2
 same-length-2 c = search needs
 
--- src/lib.rt:140:1
 returns-2 : tie.Need-returns-2
 returns-2 c =
     let a = c .before .before .before .before .before .before .before .before .before .before .before .before .args in
     hand-low (a .code .now) (a .n) (a .main .now) (a .stale .now) (a .p) (a .i) (a .j) (a .d) (ownerAt (a .code .now) (a .p) - 1) (omega arith) (c .before .before .before .before .before .value .ensures) (c .if2 .taken) (c .before .before .before .lower .ensures)
 
--- src/lib.rt:140:1
 same-length-3 : tie.Need-same-length-3
 same-length-3 c = search needs
 
--- src/lib.rt:140:1
 returns-3 : tie.Need-returns-3
 returns-3 c =
     let a = c .before .before .before .before .before .before .before .before .before .before .before .before .args in

@@ -3,7 +3,7 @@ use mathlib.Core.Path.{_≡_}
 use native.Mathlib.Omega.{arith}
 use borrow.Author.Needs.{needs}
 use Rattle.code.specs.Heights.{none}
-use Rattle.engine.specs.Sweep.{cellOf}
+use Rattle.engine.specs.Table.{cellOf}
 use Rattle.engine.proofs.Cells.{at-room}
 use Rattle.engine.proofs.Columns.{bare-next}
 use Rattle.engine.proofs.holds_any.Statement.{statement}

@@ -8,48 +8,36 @@ use Rattle.engine.proofs.Cells.{at-room}
 use borrow.Author.Needs.{needs}
 use Rattle.engine.proofs.lower.Statement.{statement}
 use Rattle.engine.proofs.lower.Tie as tie
-use Rattle.engine.proofs.lower.Reads as reads
-use Rattle.engine.proofs.lower.Lts as lts
-use Rattle.engine.proofs.cell.Reads as cell-reads
 
--- src/lib.rt:90:9
 returns : tie.Need-returns
 returns c =
     let a = c .before .before .args in
     kept (omega (arith, c .if1 .taken, c .before .slice-known .given (cellAt (a .n) (a .p) (a .i) (a .j))))
 
--- src/lib.rt:92:9
 cell-requires : tie.Need-cell-requires
 cell-requires c κs = search needs
 
--- src/lib.rt:93:12
 mul-if2 : tie.Need-mul-if2
 mul-if2 c = omega (arith, at-room (c .before .before .before .pre .0) (c .before .before .before .pre .1) (c .cell .ensures))
 
--- src/lib.rt:93:12
 slice-read-if2 : tie.Need-slice-read-if2
 slice-read-if2 c = at-room (c .before .before .before .before .pre .0) (c .before .before .before .before .pre .1) (c .before .cell .ensures)
 
--- src/lib.rt:94:9
 mul-main : tie.Need-mul-main
 mul-main c = omega (arith, at-room (c .before .before .before .before .before .pre .0) (c .before .before .before .before .before .pre .1) (c .before .before .cell .ensures))
 
--- src/lib.rt:94:9
 slice-write-main : tie.Need-slice-write-main
 slice-write-main c = at-room (c .before .before .before .before .before .pre .0) (c .before .before .before .before .before .pre .1) (c .before .before .cell .ensures)
 
--- src/lib.rt:95:9
 same-length : tie.Need-same-length
 same-length c = search needs
 
--- src/lib.rt:95:9
 returns-2 : tie.Need-returns-2
 returns-2 c =
     let a = c .before .before .before .before .before .args in
     let x = c .before .before .cell .result in
     subst (λ (z : ℕ). Lowered (a .main .now) z (a .v) 1 (set (a .main .now) x (a .v))) (c .before .before .cell .ensures) (lowered (c .if2 .taken) (omega (arith, c .before .slice-known2 .given x)))
 
--- src/lib.rt:85:1
 returns-3 : tie.Need-returns-3
 returns-3 c =
     let a = c .before .before .before .before .before .args in

@@ -3,54 +3,40 @@ use Rattle.engine.proofs.Relaxing.{offer-none, offer-shifted, offer-lef
 use borrow.Author.Needs.{needs}
 use Rattle.engine.proofs.offer.Statement.{statement}
 use Rattle.engine.proofs.offer.Tie as tie
-use Rattle.engine.proofs.offer.Reads as reads
-use Rattle.engine.proofs.offer.Lts as lts
-use Rattle.engine.proofs.shift.Reads as shift-reads
-use Rattle.engine.proofs.split.Reads as split-reads
 
--- src/lib.rt:124:18
 mul-k : tie.Need-mul-k
 mul-k c = search needs
 
--- src/lib.rt:124:13
 mul-k-2 : tie.Need-mul-k-2
 mul-k-2 c = search needs
 
--- src/lib.rt:124:13
 shared-slice-read-k : tie.Need-shared-slice-read-k
 shared-slice-read-k c = search needs
 
--- src/lib.rt:126:9
 shift-requires : tie.Need-shift-requires
 shift-requires c κs = search needs
 
--- src/lib.rt:126:9
 returns : tie.Need-returns
 returns c =
     let a = c .before .before .before .before .before .before .args in
     offer-shifted (a .code .now) (a .fits .now) (a .size) (a .n) (a .main .now) (a .p) (a .i) (a .j) (c .shift .result) (c .before .if1 .taken) (c .before .before .before .before .before .before .pre .1 .order) (c .shift .ensures)
 
--- src/lib.rt:129:9
 returns-2 : tie.Need-returns-2
 returns-2 c =
     let a = c .before .before .before .before .before .before .args in
     offer-none (a .code .now) (a .fits .now) (a .size) (a .n) (a .main .now) (a .p) (a .i) (a .j) (c .before .if1 .left) (c .if2 .taken)
 
--- src/lib.rt:131:9
 split-requires : tie.Need-split-requires
 split-requires c κs = search needs
 
--- src/lib.rt:132:9
 split-requires-2 : tie.Need-split-requires-2
 split-requires-2 c κs = search needs
 
--- src/lib.rt:134:9
 returns-3 : tie.Need-returns-3
 returns-3 c =
     let a = c .before .before .before .before .before .before .before .before .before .args in
     offer-left (a .code .now) (a .fits .now) (a .size) (a .n) (a .main .now) (a .p) (a .i) (a .j) (c .before .before .split .result) (c .before .split2 .result) (c .before .before .before .if2 .left) (c .before .before .before .before .before .before .before .before .before .pre .1 .order) (c .before .before .split .ensures) (c .before .split2 .ensures) (le-of-lt (c .if3 .taken))
 
--- src/lib.rt:111:1
 returns-4 : tie.Need-returns-4
 returns-4 c =
     let a = c .before .before .before .before .before .before .before .before .before .args in

@@ -4,33 +4,22 @@ use Rattle.engine.proofs.Relaxing.{relaxed}
 use borrow.Author.Needs.{needs}
 use Rattle.engine.proofs.relax.Statement.{statement}
 use Rattle.engine.proofs.relax.Tie as tie
-use Rattle.engine.proofs.relax.Reads as reads
-use Rattle.engine.proofs.relax.Lts as lts
-use Rattle.engine.proofs.hand.Reads as hand-reads
-use Rattle.engine.proofs.lower.Reads as lower-reads
-use Rattle.engine.proofs.offer.Reads as offer-reads
 
--- src/lib.rt:180:9
 offer-requires : tie.Need-offer-requires
 offer-requires c κs = search needs
 
--- src/lib.rt:181:9
 lower-requires : tie.Need-lower-requires
 lower-requires c κs = search needs
 
--- src/lib.rt:182:5
 hand-requires : tie.Need-hand-requires
 hand-requires c κs = (subst (Shape (c .before .before .before .before .before .before .before .before .before .before .before .before .args .code .now) (c .before .before .before .before .before .before .before .before .before .before .before .before .args .size) (c .before .before .before .before .before .before .before .before .before .before .before .before .args .n)) (sym (c .before .before .before .before .lower .kept .0)) (c .before .before .before .before .before .before .before .before .before .before .before .before .pre .0 .shape), c .before .before .before .before .before .before .before .before .before .before .before .before .pre .1, c .before .before .before .before .before .before .before .before .before .before .before .before .pre .2)
 
--- src/lib.rt:165:1
 same-length : tie.Need-same-length
 same-length c = search needs
 
--- src/lib.rt:165:1
 same-length-2 : tie.Need-same-length-2
 same-length-2 c = search needs
 
--- src/lib.rt:165:1
 returns : tie.Need-returns
 returns c =
     let a = c .before .before .before .before .before .before .before .before .before .before .before .before .before .before .before .before .before .args in

@@ -5,9 +5,6 @@ use lib.ListN.{length}
 use Rattle.engine.proofs.Relaxing.{Revisiting, revisit-start, revisit-next, revisit-end, use-before}
 use Rattle.engine.proofs.revisit.Statement.{statement}
 use Rattle.engine.proofs.revisit.Tie as tie
-use Rattle.engine.proofs.revisit.Reads as reads
-use Rattle.engine.proofs.revisit.Lts as lts
-use Rattle.engine.proofs.descend.Reads as descend-reads
 
 abbrev Inv-loop : tie.InvT-loop
 Inv-loop code fits uses main₀ stale₀ size n e d i j x₀ main stale x = Revisiting code fits size n i j e x main₀ stale₀ main stale × (length main ≡ length main₀) × (length stale ≡ length stale₀)
@@ -15,91 +12,71 @@ Inv-loop code fits uses main₀ stale₀ size n e d i j x₀ main stale x = Revi
 abbrev μ-loop : tie.MeasureT-loop
 μ-loop code fits uses main₀ stale₀ size n e d i j x₀ main stale x = x
 
--- src/lib.rt:242:22
 mul-x : tie.Need-mul-x Inv-loop μ-loop
 mul-x c = omega (arith, c .before .before .before .before .before .pre .4, c .before .before .before .before .before .pre .0 .shape .cells .few)
 
--- src/lib.rt:242:17
 mul-x-2 : tie.Need-mul-x-2 Inv-loop μ-loop
 mul-x-2 c = omega (arith, c .before .before .before .before .before .pre .4, c .before .before .before .before .before .pre .0 .shape .cells .few)
 
--- src/lib.rt:242:17
 shared-slice-read-x : tie.Need-shared-slice-read-x Inv-loop μ-loop
 shared-slice-read-x c = omega (arith, c .before .before .before .before .before .before .pre .4, c .before .before .before .before .before .before .pre .2)
 
--- src/lib.rt:242:17
 cast-x : tie.Need-cast-x Inv-loop μ-loop
 cast-x c = omega (arith, c .shared-slice-known4 .given (2 * c .before .before .before .before .before .before .args .e))
 
--- src/lib.rt:243:5
 loop-holds : tie.Need-loop-holds Inv-loop μ-loop
 loop-holds c =
     let a = c .before .before .before .before .before .before .args in
     (revisit-start (a .code .now) (a .fits .now) (a .size) (a .n) (a .i) (a .j) (a .main .now) (a .stale .now) (c .before .before .before .before .before .before .pre .1 .last (a .e) (c .before .before .before .before .before .before .pre .4)), refl, refl)
 
--- src/lib.rt:244:12
 add-if1 : tie.Need-add-if1 Inv-loop μ-loop
 add-if1 c = omega (arith, c .before .loop .inv .0 .below, c .before .before .before .before .before .before .before .before .pre .0 .shape .cells .few, c .before .before .before .before .before .before .before .before .pre .5)
 
--- src/lib.rt:245:13
 same-length : tie.Need-same-length Inv-loop μ-loop
 same-length c = c .before .before .loop .inv .1
 
--- src/lib.rt:245:13
 same-length-2 : tie.Need-same-length-2 Inv-loop μ-loop
 same-length-2 c = c .before .before .loop .inv .2
 
--- src/lib.rt:245:13
 returns : tie.Need-returns Inv-loop μ-loop
 returns c =
     let a = c .before .before .before .before .before .before .before .before .before .args in
     revisit-end (a .code .now) (a .fits .now) (a .size) (a .n) (a .i) (a .j) (λ q hq l. omega (arith, c .if1 .taken)) (c .before .before .loop .inv .0)
 
--- src/lib.rt:247:9
 descend-requires : tie.Need-descend-requires Inv-loop μ-loop
 descend-requires c κs = (rw (c .before .before .before .before .loop .inv .1) (c .before .before .before .before .before .before .before .before .before .before .before .pre .0), c .before .before .before .before .loop .inv .0 .below, c .before .before .before .before .before .before .before .before .before .before .before .pre .6, c .before .before .before .before .before .before .before .before .before .before .before .pre .7, omega (arith, c .before .before .before .before .loop .inv .2, c .before .before .before .before .before .before .before .before .before .before .before .pre .3))
 
--- src/lib.rt:248:18
 mul-x-3 : tie.Need-mul-x-3 Inv-loop μ-loop
 mul-x-3 c = omega (arith, c .before .before .before .before .before .before .before .before .before .loop .inv .0 .below, c .before .before .before .before .before .before .before .before .before .before .before .before .before .before .before .before .pre .0 .shape .cells .few)
 
--- src/lib.rt:248:18
 sub-x : tie.Need-sub-x Inv-loop μ-loop
 sub-x c = omega (arith, c .before .before .before .before .before .before .before .before .loop-test .taken)
 
--- src/lib.rt:248:13
 mul-x-4 : tie.Need-mul-x-4 Inv-loop μ-loop
 mul-x-4 c = omega (arith, c .before .before .before .before .before .before .before .before .before .loop .inv .0 .below, c .before .before .before .before .before .before .before .before .before .before .before .before .before .before .before .before .pre .0 .shape .cells .few)
 
--- src/lib.rt:248:13
 shared-slice-read-x-2 : tie.Need-shared-slice-read-x-2 Inv-loop μ-loop
 shared-slice-read-x-2 c = omega (arith, c .before .before .before .before .before .before .before .before .before .loop-test .taken, c .before .before .before .before .before .before .before .before .before .before .loop .inv .0 .below, c .before .before .before .before .before .before .before .before .before .before .before .before .before .before .before .before .before .pre .2)
 
--- src/lib.rt:248:13
 cast-x-2 : tie.Need-cast-x-2 Inv-loop μ-loop
 cast-x-2 c = omega (arith, c .shared-slice-known5 .given (2 * c .before .before .before .before .before .before .before .before .before .before .loop .x - 1))
 
--- src/lib.rt:243:5
 loop-less : tie.Need-loop-less Inv-loop μ-loop
 loop-less c =
     let a = c .before .before .before .before .before .before .before .before .before .before .before .before .before .before .before .before .before .args in
     omega (arith, (use-before (a .code .now) (a .fits .now) (a .size) (a .n) (a .i) (a .j) (c .before .before .before .before .before .before .before .before .before .before .before .before .before .before .before .before .before .pre .1) (c .before .before .before .before .before .before .before .before .before .loop-test .taken) refl (c .before .before .before .before .before .before .before .before .before .before .loop .inv .0)) .below, c .before .before .before .before .before .before .before .before .before .loop-test .taken)
 
--- src/lib.rt:243:5
 loop-again : tie.Need-loop-again Inv-loop μ-loop
 loop-again c =
     let a = c .before .before .before .before .before .before .before .before .before .before .before .before .before .before .before .before .before .args in
     (revisit-next (a .code .now) (a .fits .now) (a .size) (a .n) (a .i) (a .j) (c .before .before .before .before .before .before .before .before .before .loop-test .taken) (use-before (a .code .now) (a .fits .now) (a .size) (a .n) (a .i) (a .j) (c .before .before .before .before .before .before .before .before .before .before .before .before .before .before .before .before .before .pre .1) (c .before .before .before .before .before .before .before .before .before .loop-test .taken) refl (c .before .before .before .before .before .before .before .before .before .before .loop .inv .0)) (c .before .before .before .before .before .before .before .before .before .before .loop .inv .0) (c .before .before .before .before .before .descend .ensures), c .before .before .before .before .before .descend .kept .1 .1 .0 ∙ c .before .before .before .before .before .before .before .before .before .before .loop .inv .1, c .before .before .before .before .before .descend .kept .1 .1 .1 .0 ∙ c .before .before .before .before .before .before .before .before .before .before .loop .inv .2)
 
--- src/lib.rt:226:1
 same-length-3 : tie.Need-same-length-3 Inv-loop μ-loop
 same-length-3 c = c .before .loop .inv .1
 
--- src/lib.rt:226:1
 same-length-4 : tie.Need-same-length-4 Inv-loop μ-loop
 same-length-4 c = c .before .loop .inv .2
 
--- src/lib.rt:226:1
 returns-2 : tie.Need-returns-2 Inv-loop μ-loop
 returns-2 c =
     let a = c .before .before .before .before .before .before .before .before .args in

@@ -5,9 +5,6 @@ use lib.ListN.{length, length-set}
 use Rattle.engine.proofs.Relaxing.{Rounding, round-start, round-same, round-next, round-end}
 use Rattle.engine.proofs.round.Statement.{statement}
 use Rattle.engine.proofs.round.Tie as tie
-use Rattle.engine.proofs.round.Reads as reads
-use Rattle.engine.proofs.round.Lts as lts
-use Rattle.engine.proofs.revisit.Reads as revisit-reads
 
 abbrev Inv-loop : tie.InvT-loop
 Inv-loop code fits uses main₀ stale₀ size n i j found₀ next₀ main stale found next = Rounding code fits size n i j found next main₀ stale₀ main stale × (length main ≡ length main₀) × (length stale ≡ length stale₀)
@@ -15,69 +12,54 @@ Inv-loop code fits uses main₀ stale₀ size n i j found₀ next₀ main stale 
 abbrev μ-loop : tie.MeasureT-loop
 μ-loop code fits uses main₀ stale₀ size n i j found₀ next₀ main stale found next = size - next
 
--- src/lib.rt:269:5
 loop-holds : tie.Need-loop-holds Inv-loop μ-loop
 loop-holds c =
     let a = c .before .before .before .before .before .args in
     (round-start (a .code .now) (a .fits .now) (a .size) (a .n) (a .i) (a .j) (a .main .now) (a .stale .now), refl, refl)
 
--- src/lib.rt:271:9
 add-next : tie.Need-add-next Inv-loop μ-loop
 add-next c = omega (arith, c .loop-test .taken, c .before .before .before .before .before .before .before .pre .0 .shape .cells .few)
 
--- src/lib.rt:272:17
 mul-d : tie.Need-mul-d Inv-loop μ-loop
 mul-d c = omega (arith, c .loop-test .taken, c .before .before .before .before .before .before .before .pre .0 .shape .cells .few)
 
--- src/lib.rt:272:17
 slice-read-d : tie.Need-slice-read-d Inv-loop μ-loop
 slice-read-d c = omega (arith, c .before .loop-test .taken, c .before .before .loop .inv .2, c .before .before .before .before .before .before .before .before .pre .3)
 
--- src/lib.rt:272:17
 cast-d : tie.Need-cast-d Inv-loop μ-loop
 cast-d c = omega (arith, c .slice-known3 .given (c .before .before .loop .next))
 
--- src/lib.rt:274:13
 mul-stale : tie.Need-mul-stale Inv-loop μ-loop
 mul-stale c = omega (arith, c .before .before .loop-test .taken, c .before .before .before .before .before .before .before .before .before .pre .0 .shape .cells .few)
 
--- src/lib.rt:274:13
 slice-write-stale : tie.Need-slice-write-stale Inv-loop μ-loop
 slice-write-stale c = omega (arith, c .before .before .loop-test .taken, c .before .before .before .loop .inv .2, c .before .before .before .before .before .before .before .before .before .pre .3)
 
--- src/lib.rt:275:13
 revisit-requires : tie.Need-revisit-requires Inv-loop μ-loop
 revisit-requires c κs = (rw (c .before .before .before .before .before .loop .inv .1) (c .before .before .before .before .before .before .before .before .before .before .before .pre .0), c .before .before .before .before .before .before .before .before .before .before .before .pre .1, c .before .before .before .before .before .before .before .before .before .before .before .pre .2, omega (arith, length-set (c .before .before .before .before .before .loop .stale) (c .before .before .before .before .before .loop .next) 0, c .before .before .before .before .before .loop .inv .2, c .before .before .before .before .before .before .before .before .before .before .before .pre .3), c .before .before .before .before .loop-test .taken, omega (arith, c .before .before .before .slice-known3 .given (c .before .before .before .before .before .loop .next)), c .before .before .before .before .before .before .before .before .before .before .before .pre .4, c .before .before .before .before .before .before .before .before .before .before .before .pre .5)
 
--- src/lib.rt:269:5
 loop-less : tie.Need-loop-less Inv-loop μ-loop
 loop-less c = omega (arith, c .before .before .before .before .before .before .before .before .before .loop-test .taken)
 
--- src/lib.rt:269:5
 loop-again : tie.Need-loop-again Inv-loop μ-loop
 loop-again c =
     let a = c .before .before .before .before .before .before .before .before .before .before .before .before .before .before .before .before .args in
     (round-next (a .code .now) (a .fits .now) (a .size) (a .n) (a .i) (a .j) refl (c .before .before .before .before .before .before .before .if1 .taken) (c .before .before .before .before .before .before .before .before .before .before .loop .inv .0) (c .before .before .before .before .revisit .ensures), c .before .before .before .before .revisit .kept .1 .1 .1 .0 ∙ c .before .before .before .before .before .before .before .before .before .before .loop .inv .1, c .before .before .before .before .revisit .kept .1 .1 .1 .1 .0 ∙ length-set (c .before .before .before .before .before .before .before .before .before .before .loop .stale) (c .before .before .before .before .before .before .before .before .before .before .loop .next) 0 ∙ c .before .before .before .before .before .before .before .before .before .before .loop .inv .2)
 
--- src/lib.rt:269:5
 loop-less-2 : tie.Need-loop-less-2 Inv-loop μ-loop
 loop-less-2 c = omega (arith, c .before .before .loop-test .taken)
 
--- src/lib.rt:269:5
 loop-again-2 : tie.Need-loop-again-2 Inv-loop μ-loop
 loop-again-2 c =
     let a = c .before .before .before .before .before .before .before .before .before .args in
     (round-same (a .code .now) (a .fits .now) (a .size) (a .n) (a .i) (a .j) (c .if1 .left) (c .before .before .before .loop .inv .0), c .before .before .before .loop .inv .1, c .before .before .before .loop .inv .2)
 
--- src/lib.rt:253:1
 same-length : tie.Need-same-length Inv-loop μ-loop
 same-length c = c .before .loop .inv .1
 
--- src/lib.rt:253:1
 same-length-2 : tie.Need-same-length-2 Inv-loop μ-loop
 same-length-2 c = c .before .loop .inv .2
 
--- src/lib.rt:253:1
 returns : tie.Need-returns Inv-loop μ-loop
 returns c =
     let a = c .before .before .before .before .before .before .before .args in

@@ -3,55 +3,40 @@ use native.Mathlib.Omega.{arith}
 use borrow.Author.Needs.{needs}
 use Rattle.engine.proofs.shift.Statement.{statement}
 use Rattle.engine.proofs.shift.Tie as tie
-use Rattle.engine.proofs.shift.Reads as reads
-use Rattle.engine.proofs.shift.Lts as lts
-use Rattle.engine.proofs.value.Reads as value-reads
 
--- src/lib.rt:101:13
 mul-if1 : tie.Need-mul-if1
 mul-if1 c = search needs
 
--- src/lib.rt:101:13
 add-if1 : tie.Need-add-if1
 add-if1 c = search needs
 
--- src/lib.rt:101:8
 mul-if1-2 : tie.Need-mul-if1-2
 mul-if1-2 c = search needs
 
--- src/lib.rt:101:8
 shared-slice-read-if1 : tie.Need-shared-slice-read-if1
 shared-slice-read-if1 c = search needs
 
--- src/lib.rt:102:9
 returns : tie.Need-returns
 returns c = search needs
 
--- src/lib.rt:104:13
 mul-if2 : tie.Need-mul-if2
 mul-if2 c = search needs
 
--- src/lib.rt:104:13
 add-if2 : tie.Need-add-if2
 add-if2 c = search needs
 
--- src/lib.rt:104:8
 shared-slice-read-if2 : tie.Need-shared-slice-read-if2
 shared-slice-read-if2 c = search needs
 
--- src/lib.rt:105:9
 returns-2 : tie.Need-returns-2
 returns-2 c = search needs
 
--- src/lib.rt:107:32
 add-value : tie.Need-add-value
 add-value c = search needs
 
--- src/lib.rt:107:5
 value-requires : tie.Need-value-requires
 value-requires c κs = (c .before .before .before .before .before .before .before .pre .0 .shape, next-place (c .before .before .before .before .before .before .before .pre .0 .shape) (c .before .before .before .before .before .before .before .pre .1) (c .before .before .before .before .before .before .before .args .i) (λ z. omega (arith, c .before .before .before .before .before .before .before .pre .2)) (omega arith) (c .before .before .before .before .before .before .before .pre .1 .order))
 
--- src/lib.rt:88:1
 returns-3 : tie.Need-returns-3
 returns-3 c = search needs
 

@@ -1,7 +1,7 @@
 use Prim.Native.Nat.{_+_, _*_}
 use native.Mathlib.Omega.{arith}
 use Rattle.engine.proofs.Cells.{at-room, next-place, rule-place}
-use Rattle.engine.proofs.Values.{split-none, split-rest, split-symbol}
+use Rattle.engine.proofs.Values.{split-none, split-some}
 use borrow.Author.Needs.{needs}
 use Rattle.engine.proofs.split.Statement.{statement}
 use Rattle.engine.proofs.split.Tie as tie
@@ -10,9 +10,7 @@ add-value : tie.Need-add-value
 add-value c = search needs
 
 value-requires : tie.Need-value-requires
-value-requires c κs =
-    let s = c .before .before in
-    (s .pre .0, next-place (s .pre .0) (s .pre .1) (s .args .m) (λ z. omega arith) (s .pre .2) (s .pre .3))
+value-requires c κs = (c .before .before .pre .0, next-place (c .before .before .pre .0) (c .before .before .pre .1) (c .before .before .args .m) (λ z. omega (arith, c .before .before .pre .4)) (c .before .before .pre .2) (c .before .before .pre .3))
 
 returns : tie.Need-returns
 returns c =
@@ -53,15 +51,13 @@ shared-slice-read-up c =
 up-requires : tie.Need-up-requires
 up-requires c κs = search needs
 
+larger-requires : tie.Need-larger-requires
+larger-requires c κs = search needs
+
 returns-2 : tie.Need-returns-2
 returns-2 c =
     let a = c .before .before .before .before .before .before .before .before .before .args in
-    split-rest (a .code .now) (a .main .now) (a .n) (a .p) (a .i) (a .j) (a .m) (c .before .before .before .before .before .before .value .result) (c .before .before .before .before .before .before .value .ensures) (c .before .up .result) (c .before .before .before .cell .result) (c .before .before .before .cell .ensures) (c .before .up .ensures) (c .if2 .taken)
-
-returns-3 : tie.Need-returns-3
-returns-3 c =
-    let a = c .before .before .before .before .before .before .before .before .before .args in
-    split-symbol (a .code .now) (a .main .now) (a .n) (a .p) (a .i) (a .j) (a .m) (c .before .before .before .before .before .before .value .result) (c .before .before .before .before .before .before .value .ensures) (c .before .up .result) (c .before .before .before .cell .result) (c .before .before .before .cell .ensures) (c .before .up .ensures) (c .if2 .left)
+    split-some (a .code .now) (a .main .now) (a .n) (a .p) (a .i) (a .j) (a .m) (c .before .before .before .before .before .before .value .result) (c .before .before .before .before .before .before .value .ensures) (c .before .up .result) (c .before .before .before .cell .result) (c .larger .result) (c .before .before .before .cell .ensures) (c .before .up .ensures) (c .larger .ensures)
 
 pub split-spec : {M : Type 1} → statement M
 split-spec =
@@ -79,5 +75,5 @@ split-spec =
     mul-up
     shared-slice-read-up
     up-requires
-    returns-2
-    returns-3)
+    larger-requires
+    returns-2)

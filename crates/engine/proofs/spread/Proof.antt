@@ -3,14 +3,14 @@ use Prim.Native.Nat.{_-_, _<_, _≤_}
 use native.Mathlib.Omega.{arith}
 use lib.ListN.{length}
 use Rattle.code.specs.Code.{kindAt}
-use Rattle.engine.specs.Sweep.{Settled, Ahead, SpreadTo}
+use Rattle.engine.specs.Sweep.{Settled, Ahead, Spread}
 use Rattle.engine.proofs.Spreading.{spread-start, spread-next}
 use borrow.Author.Needs.{needs}
 use Rattle.engine.proofs.spread.Statement.{statement}
 use Rattle.engine.proofs.spread.Tie as tie
 
 abbrev Inv-loop : tie.InvT-loop
-Inv-loop code fits main₀ size n m j p₀ main p = (p ≤ size) × (length main ≡ length main₀) × (p < size → kindAt code p ≡ 0 → ⊥) × Settled code fits size n (Ahead m j) (SpreadTo code fits n m j p) main₀ main
+Inv-loop code fits main₀ size n m j p₀ main p = (p ≤ size) × (length main ≡ length main₀) × (p < size → kindAt code p ≡ 0 → ⊥) × Settled code fits size n (Ahead m j) (Spread code fits p n m j) main₀ main
 
 abbrev μ-loop : tie.MeasureT-loop
 μ-loop code fits main₀ size n m j p₀ main p = size - p

@@ -3,22 +3,16 @@ use Rattle.engine.proofs.Relaxing.{unseen-any, unseen-all}
 use borrow.Author.Needs.{needs}
 use Rattle.engine.proofs.unseen.Statement.{statement}
 use Rattle.engine.proofs.unseen.Tie as tie
-use Rattle.engine.proofs.unseen.Reads as reads
-use Rattle.engine.proofs.unseen.Lts as lts
 
--- src/lib.rt:192:9
 returns : tie.Need-returns
 returns c = sym (unseen-any (c .before .args .all) (c .before .args .p) (c .if1 .taken))
 
--- src/lib.rt:194:11
 cast-result : tie.Need-cast-result
 cast-result c = search needs
 
--- src/lib.rt:194:5
 sub-result : tie.Need-sub-result
 sub-result c = search needs
 
--- src/lib.rt:187:1
 returns-2 : tie.Need-returns-2
 returns-2 c = sym (unseen-all (c .before .args .all) (c .before .args .p) (c .if1 .left))
 

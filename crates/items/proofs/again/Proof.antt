@@ -7,28 +7,19 @@ use Rattle.items.proofs.Windows.{laid-then, entry-kept}
 use borrow.Author.Needs.{needs}
 use Rattle.items.proofs.again.Statement.{statement}
 use Rattle.items.proofs.again.Tie as tie
-use Rattle.items.proofs.again.Reads as reads
-use Rattle.items.proofs.again.Lts as lts
-use Rattle.items.proofs.copy.Reads as copy-reads
-use Rattle.items.proofs.item.Reads as item-reads
 
--- src/lib.rt:116:5
 copy-requires : tie.Need-copy-requires
 copy-requires c κs = search needs
 
--- src/lib.rt:117:17
 add-item : tie.Need-add-item
 add-item c = search needs
 
--- src/lib.rt:117:5
 item-requires : tie.Need-item-requires
 item-requires c κs = search needs
 
--- src/lib.rt:112:1
 same-length : tie.Need-same-length
 same-length c = search needs
 
--- src/lib.rt:112:1
 returns : tie.Need-returns
 returns c = laid-then (c .before .before .before .before .before .before .before .before .before .args .table .now) (c .before .before .before .before .before .before .before .before .before .args .i) ((c .before .before .before .before .before .before .before .before .before .args .i) + 1) (nums (entryAt (c .before .before .before .before .before .before .before .before .before .args .table .now) (c .before .before .before .before .before .before .before .before .before .args .from))) (nums (entry 4 (c .before .before .before .before .before .before .before .before .before .args .x) 0)) (c .before .before .before .before .before .before .copy .ensures) (omega arith) (c .before .before .item .ensures)
 

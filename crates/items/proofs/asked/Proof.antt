@@ -4,50 +4,38 @@ use Rattle.items.specs.Machine.{dutyOf}
 use borrow.Author.Needs.{needs}
 use Rattle.items.proofs.asked.Statement.{statement}
 use Rattle.items.proofs.asked.Tie as tie
-use Rattle.items.proofs.asked.Reads as reads
-use Rattle.items.proofs.asked.Lts as lts
-use Rattle.items.proofs.late_duty.Reads as late-duty-reads
 
--- src/lib.rt:35:9
 returns : tie.Need-returns
 unfolding dutyOf
 returns c = simp (lt-ltb _ _ (c .if1 .taken))
 
--- src/lib.rt:38:9
 returns-2 : tie.Need-returns-2
 unfolding dutyOf
 returns-2 c = simp (le-ltb _ _ (c .before .if1 .left), lt-ltb _ _ (c .if2 .taken))
 
--- src/lib.rt:41:9
 returns-3 : tie.Need-returns-3
 unfolding dutyOf
 returns-3 c = simp (le-ltb _ _ (c .before .before .if1 .left), le-ltb _ _ (c .before .if2 .left), lt-ltb _ _ (c .if3 .taken))
 
--- src/lib.rt:44:9
 returns-4 : tie.Need-returns-4
 unfolding dutyOf
 returns-4 c = simp (le-ltb _ _ (c .before .before .before .if1 .left), le-ltb _ _ (c .before .before .if2 .left), le-ltb _ _ (c .before .if3 .left), lt-ltb _ _ (c .if4 .taken))
 
--- src/lib.rt:47:9
 returns-5 : tie.Need-returns-5
 unfolding dutyOf
 returns-5 c = simp (le-ltb _ _ (c .before .before .before .before .if1 .left), le-ltb _ _ (c .before .before .before .if2 .left), le-ltb _ _ (c .before .before .if3 .left), le-ltb _ _ (c .before .if4 .left), lt-ltb _ _ (c .if5 .taken))
 
--- src/lib.rt:50:9
 returns-6 : tie.Need-returns-6
 unfolding dutyOf
 returns-6 c = simp (le-ltb _ _ (c .before .before .before .before .before .if1 .left), le-ltb _ _ (c .before .before .before .before .if2 .left), le-ltb _ _ (c .before .before .before .if3 .left), le-ltb _ _ (c .before .before .if4 .left), le-ltb _ _ (c .before .if5 .left), eq-eqb _ _ (c .if6 .taken))
 
--- src/lib.rt:53:9
 returns-7 : tie.Need-returns-7
 unfolding dutyOf
 returns-7 c = simp (le-ltb _ _ (c .before .before .before .before .before .before .if1 .left), le-ltb _ _ (c .before .before .before .before .before .if2 .left), le-ltb _ _ (c .before .before .before .before .if3 .left), le-ltb _ _ (c .before .before .before .if4 .left), le-ltb _ _ (c .before .before .if5 .left), ne-eqb _ _ (c .before .if6 .left), eq-eqb _ _ (c .if7 .taken))
 
--- src/lib.rt:55:5
 late-duty-requires : tie.Need-late-duty-requires
 late-duty-requires c κs = search needs
 
--- src/lib.rt:31:1
 returns-8 : tie.Need-returns-8
 unfolding dutyOf
 returns-8 c = simp (le-ltb _ _ (c .before .before .before .before .before .before .before .if1 .left), le-ltb _ _ (c .before .before .before .before .before .before .if2 .left), le-ltb _ _ (c .before .before .before .before .before .if3 .left), le-ltb _ _ (c .before .before .before .before .if4 .left), le-ltb _ _ (c .before .before .before .if5 .left), ne-eqb _ _ (c .before .before .if6 .left), ne-eqb _ _ (c .before .if7 .left)) (c .late-duty .ensures)

@@ -6,32 +6,22 @@ use Rattle.items.proofs.Finals.{scanned-linkable, scanned-built, scanne
 use borrow.Author.Needs.{needs}
 use Rattle.items.proofs.build_items.Statement.{statement}
 use Rattle.items.proofs.build_items.Tie as tie
-use Rattle.items.proofs.build_items.Reads as reads
-use Rattle.items.proofs.build_items.Lts as lts
-use Rattle.items.proofs.link.Reads as link-reads
-use Rattle.items.proofs.scan.Reads as scan-reads
 
--- src/lib.rt:156:9
 scan-requires : tie.Need-scan-requires
 scan-requires c κs = search needs
 
--- src/lib.rt:157:5
 link-requires : tie.Need-link-requires
 link-requires c κs = scanned-linkable (c .before .before .before .scan .ensures (c .before .before .before .before .before .before .pre .tree) (c .before .before .before .before .before .before .pre .readable))
 
--- src/lib.rt:158:5
 slice-read-result : tie.Need-slice-read-result
 slice-read-result c = search needs
 
--- src/lib.rt:158:5
 cast-result : tie.Need-cast-result
 cast-result c = omega (arith, c .slice-known4 .given 13825)
 
--- src/lib.rt:152:1
 same-length : tie.Need-same-length
 same-length c = search needs
 
--- src/lib.rt:152:1
 returns : tie.Need-returns
 returns c = λ g r. (scanned-tokens (c .before .before .before .before .before .before .before .scan .ensures g r) (c .before .before .before .link .ensures) (c .before .before .before .before .before .before .before .before .before .before .args .table .now) (c .before .before .before .before .before .before .before .before .before .before .args .end) refl (c .before .before .before .before .before .before .before .before .before .before .pre .inside), scanned-built (c .before .before .before .before .before .before .before .scan .ensures g r) (c .before .before .before .link .ensures) _ refl)
 

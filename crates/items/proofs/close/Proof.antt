@@ -9,64 +9,46 @@ use Rattle.items.proofs.Reps.{rep-pushed, rep-one', rep-two', rep-close
 use borrow.Author.Needs.{needs}
 use Rattle.items.proofs.close.Statement.{statement}
 use Rattle.items.proofs.close.Tie as tie
-use Rattle.items.proofs.close.Reads as reads
-use Rattle.items.proofs.close.Lts as lts
-use Rattle.items.proofs.block.Reads as block-reads
-use Rattle.items.proofs.put.Reads as put-reads
 
--- src/lib.rt:299:29
 mul-old : tie.Need-mul-old
 mul-old c = search needs
 
--- src/lib.rt:299:21
 add-old : tie.Need-add-old
 add-old c = search needs
 
--- src/lib.rt:299:15
 mul-old-2 : tie.Need-mul-old-2
 mul-old-2 c = search needs
 
--- src/lib.rt:299:15
 slice-read-old : tie.Need-slice-read-old
 slice-read-old c = search needs
 
--- src/lib.rt:299:15
 cast-old : tie.Need-cast-old
 cast-old c = omega (arith, mark-old (c .before .before .pre .rep) (c .before .before .pre .act .block), subst (λ (z : Abs). z .base ≤ 512) (c .before .before .pre .act .result) (c .before .before .pre .fit .base))
 
--- src/lib.rt:300:32
 add-block : tie.Need-add-block
 add-block c = search needs
 
--- src/lib.rt:300:9
 block-requires : tie.Need-block-requires
 block-requires c κs = block-bounds (c .before .before .before .pre .act .block) (closed-items (c .before .before .before .pre .act) (c .before .before .before .pre .fit)) (c .before .before .before .pre .rep .has .fit .depth) _ _ _ _ (c .before .before .before .pre .rep .has .size) (c .before .before .before .pre .rep .items) (c .before .before .before .pre .rep .base) (c .before .before .before .pre .rep .depth)
 
--- src/lib.rt:301:24
 mul-put : tie.Need-mul-put
 mul-put c = search needs
 
--- src/lib.rt:301:16
 add-put : tie.Need-add-put
 add-put c = search needs
 
--- src/lib.rt:301:34
 cast-put : tie.Need-cast-put
 cast-put c = search needs
 
--- src/lib.rt:301:5
 put-requires : tie.Need-put-requires
 put-requires c κs = search needs
 
--- src/lib.rt:305:16
 add-t9 : tie.Need-add-t9
 add-t9 c = search needs
 
--- src/lib.rt:293:1
 same-length : tie.Need-same-length
 same-length c = search needs
 
--- src/lib.rt:293:1
 returns : tie.Need-returns
 returns c = λ a b rep act fit. rep-closed rep fit act (c .before .before .before .before .before .before .block .ensures) (c .before .before .put .ensures) refl refl refl refl
 

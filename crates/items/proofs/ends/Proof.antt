@@ -7,27 +7,19 @@ use Rattle.items.proofs.Windows.{laid-then, entry-kept}
 use borrow.Author.Needs.{needs}
 use Rattle.items.proofs.ends.Statement.{statement}
 use Rattle.items.proofs.ends.Tie as tie
-use Rattle.items.proofs.ends.Reads as reads
-use Rattle.items.proofs.ends.Lts as lts
-use Rattle.items.proofs.item.Reads as item-reads
 
--- src/lib.rt:107:5
 item-requires : tie.Need-item-requires
 item-requires c κs = search needs
 
--- src/lib.rt:108:17
 add-item : tie.Need-add-item
 add-item c = search needs
 
--- src/lib.rt:108:5
 item-requires-2 : tie.Need-item-requires-2
 item-requires-2 c κs = search needs
 
--- src/lib.rt:103:1
 same-length : tie.Need-same-length
 same-length c = search needs
 
--- src/lib.rt:103:1
 returns : tie.Need-returns
 returns c = laid-then (c .before .before .before .before .before .before .before .before .before .args .table .now) (c .before .before .before .before .before .before .before .before .before .args .i) ((c .before .before .before .before .before .before .before .before .before .args .i) + 1) (nums (entry 5 0 0)) (nums (entry 6 0 0)) (c .before .before .before .before .before .before .item .ensures) (omega arith) (c .before .before .item2 .ensures)
 

@@ -11,99 +11,73 @@ use Rattle.items.proofs.Reps.{rep-pushed, rep-one', rep-two', rep-close
 use borrow.Author.Needs.{needs}
 use Rattle.items.proofs.finish.Statement.{statement}
 use Rattle.items.proofs.finish.Tie as tie
-use Rattle.items.proofs.finish.Reads as reads
-use Rattle.items.proofs.finish.Lts as lts
-use Rattle.items.proofs.block.Reads as block-reads
 
--- src/lib.rt:317:31
 mul-place : tie.Need-mul-place
 mul-place c = search needs
 
--- src/lib.rt:317:23
 add-place : tie.Need-add-place
 add-place c = search needs
 
--- src/lib.rt:317:17
 mul-place-2 : tie.Need-mul-place-2
 mul-place-2 c = search needs
 
--- src/lib.rt:317:17
 slice-read-place : tie.Need-slice-read-place
 slice-read-place c = search needs
 
--- src/lib.rt:318:29
 mul-old : tie.Need-mul-old
 mul-old c = search needs
 
--- src/lib.rt:318:21
 add-old : tie.Need-add-old
 add-old c = search needs
 
--- src/lib.rt:318:15
 mul-old-2 : tie.Need-mul-old-2
 mul-old-2 c = search needs
 
--- src/lib.rt:318:15
 slice-read-old : tie.Need-slice-read-old
 slice-read-old c = search needs
 
--- src/lib.rt:318:15
 cast-old : tie.Need-cast-old
 cast-old c = omega (arith, mark-old (c .before .before .before .pre .rep) (c .before .before .before .pre .act .block), subst (λ (z : Abs). z .base ≤ 512) (c .before .before .before .pre .act .result) (c .before .before .before .pre .fit .base))
 
--- src/lib.rt:319:32
 add-block : tie.Need-add-block
 add-block c = search needs
 
--- src/lib.rt:319:9
 block-requires : tie.Need-block-requires
 block-requires c κs = block-bounds (c .before .before .before .before .pre .act .block) (finished-items (c .before .before .before .before .pre .act) (c .before .before .before .before .pre .fit) .0) (c .before .before .before .before .pre .rep .has .fit .depth) _ _ _ _ (c .before .before .before .before .pre .rep .has .size) (c .before .before .before .before .pre .rep .items) (c .before .before .before .before .pre .rep .base) (c .before .before .before .before .pre .rep .depth)
 
--- src/lib.rt:320:19
 mul-table : tie.Need-mul-table
 mul-table c = search needs
 
--- src/lib.rt:320:11
 add-table : tie.Need-add-table
 add-table c = search needs
 
--- src/lib.rt:320:5
 mul-table-2 : tie.Need-mul-table-2
 mul-table-2 c = search needs
 
--- src/lib.rt:320:5
 slice-write-table : tie.Need-slice-write-table
 slice-write-table c = search needs
 
--- src/lib.rt:321:28
 cast-table : tie.Need-cast-table
 cast-table c = search needs
 
--- src/lib.rt:321:19
 mul-table-3 : tie.Need-mul-table-3
 mul-table-3 c = search needs
 
--- src/lib.rt:321:11
 add-table-2 : tie.Need-add-table-2
 add-table-2 c = search needs
 
--- src/lib.rt:321:5
 mul-table-4 : tie.Need-mul-table-4
 mul-table-4 c = search needs
 
--- src/lib.rt:321:5
 slice-write-table-2 : tie.Need-slice-write-table-2
 slice-write-table-2 c = simp length-set (omega (arith, c .before .before .block .kept .0, c .before .before .before .before .before .before .before .pre .rep .has .size, c .before .before .before .before .before .before .before .pre .rep .rules, finished-items (c .before .before .before .before .before .before .before .pre .act) (c .before .before .before .before .before .before .before .pre .fit) .1))
 
--- src/lib.rt:324:16
 add-t11 : tie.Need-add-t11
 add-t11 c = search needs
 
--- src/lib.rt:310:1
 same-length : tie.Need-same-length
 same-length c = search needs
 
--- src/lib.rt:310:1
 returns : tie.Need-returns
 returns c = λ a b rep act fit. rep-finished rep fit act (c .before .before .block .ensures) (ap (λ (n : ℕ). set (set (c .before .before .block .last .0) (13824 + 2 * (c .before .before .before .before .before .before .before .args .s .rules)) (getD (c .before .before .before .before .before .before .before .args .table .now) (14850 + 3 * (c .before .before .before .before .before .before .before .args .s .base)) 0)) n (c .before .before .before .before .before .before .before .args .s .items)) (let z : 13825 + 2 * (c .before .before .before .before .before .before .before .args .s .rules) ≡ suc (13824 + 2 * (c .before .before .before .before .before .before .before .args .s .rules)) = omega arith in z)) refl refl refl refl
 

@@ -2,35 +2,27 @@ use borrow.Author.Tests.{eq-eqb, ne-eqb}
 use Rattle.items.specs.Machine.{kindBy}
 use Rattle.items.proofs.kind_by.Statement.{statement}
 use Rattle.items.proofs.kind_by.Tie as tie
-use Rattle.items.proofs.kind_by.Reads as reads
-use Rattle.items.proofs.kind_by.Lts as lts
 
--- src/lib.rt:393:9
 returns : tie.Need-returns
 unfolding kindBy
 returns c = simp (eq-eqb _ _ (c .if1 .taken))
 
--- src/lib.rt:396:9
 returns-2 : tie.Need-returns-2
 unfolding kindBy
 returns-2 c = simp (ne-eqb _ _ (c .before .if1 .left), eq-eqb _ _ (c .if2 .taken))
 
--- src/lib.rt:399:9
 returns-3 : tie.Need-returns-3
 unfolding kindBy
 returns-3 c = simp (ne-eqb _ _ (c .before .before .if1 .left), ne-eqb _ _ (c .before .if2 .left), eq-eqb _ _ (c .if3 .taken))
 
--- src/lib.rt:402:9
 returns-4 : tie.Need-returns-4
 unfolding kindBy
 returns-4 c = simp (ne-eqb _ _ (c .before .before .before .if1 .left), ne-eqb _ _ (c .before .before .if2 .left), ne-eqb _ _ (c .before .if3 .left), eq-eqb _ _ (c .if4 .taken))
 
--- src/lib.rt:405:9
 returns-5 : tie.Need-returns-5
 unfolding kindBy
 returns-5 c = simp (ne-eqb _ _ (c .before .before .before .before .if1 .left), ne-eqb _ _ (c .before .before .before .if2 .left), ne-eqb _ _ (c .before .before .if3 .left), ne-eqb _ _ (c .before .if4 .left), eq-eqb _ _ (c .if5 .taken))
 
--- src/lib.rt:389:1
 returns-6 : tie.Need-returns-6
 unfolding kindBy
 returns-6 c = simp (ne-eqb _ _ (c .before .before .before .before .if1 .left), ne-eqb _ _ (c .before .before .before .if2 .left), ne-eqb _ _ (c .before .before .if3 .left), ne-eqb _ _ (c .before .if4 .left), ne-eqb _ _ (c .if5 .left))

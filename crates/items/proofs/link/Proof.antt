@@ -5,9 +5,6 @@ use lib.ListN.{length, getD}
 use Rattle.items.proofs.Links.{Linking, linking-start, linking-next, linking-done}
 use Rattle.items.proofs.link.Statement.{statement}
 use Rattle.items.proofs.link.Tie as tie
-use Rattle.items.proofs.link.Reads as reads
-use Rattle.items.proofs.link.Lts as lts
-use Rattle.items.proofs.resolve.Reads as resolve-reads
 
 abbrev Inv-loop : tie.InvT-loop
 Inv-loop table₀ items rules p₀ table p = Linking table₀ rules table p × (p ≤ items)
@@ -15,31 +12,24 @@ Inv-loop table₀ items rules p₀ table p = Linking table₀ rules table p × (
 abbrev μ-loop : tie.MeasureT-loop
 μ-loop table₀ items rules p₀ table p = items - p
 
--- src/lib.rt:145:5
 loop-holds : tie.Need-loop-holds Inv-loop μ-loop
 loop-holds c = (linking-start _ _, omega arith)
 
--- src/lib.rt:146:9
 resolve-requires : tie.Need-resolve-requires Inv-loop μ-loop
 resolve-requires c κs = record { size = c .before .before .loop .inv .0 .size ∙ c .before .before .before .before .pre .size; few-items = omega (arith, c .before .before .before .before .pre .few-items, c .before .loop-test .taken); few-rules = c .before .before .before .before .pre .few-rules }
 
--- src/lib.rt:147:9
 add-p : tie.Need-add-p Inv-loop μ-loop
 add-p c = omega (arith, c .before .before .before .before .before .before .before .pre .few-items, c .before .before .before .before .loop-test .taken)
 
--- src/lib.rt:145:5
 loop-less : tie.Need-loop-less Inv-loop μ-loop
 loop-less c = omega (arith, c .before .before .before .before .loop-test .taken)
 
--- src/lib.rt:145:5
 loop-again : tie.Need-loop-again Inv-loop μ-loop
 loop-again c = (linking-next (c .before .before .before .before .before .loop .inv .0) (c .before .before .resolve .last .0) (c .before .before .resolve .kept .0) (c .before .before .resolve .ensures), omega (arith, c .before .before .before .before .loop-test .taken))
 
--- src/lib.rt:140:1
 same-length : tie.Need-same-length Inv-loop μ-loop
 same-length c = c .before .loop .inv .0 .size
 
--- src/lib.rt:140:1
 returns : tie.Need-returns Inv-loop μ-loop
 returns c = linking-done (c .before .before .before .args .items) (c .before .loop .inv .0) (c .loop-test .left)
 

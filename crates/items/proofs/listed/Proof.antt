@@ -7,28 +7,19 @@ use Rattle.items.proofs.Windows.{laid-then, entry-kept}
 use borrow.Author.Needs.{needs}
 use Rattle.items.proofs.listed.Statement.{statement}
 use Rattle.items.proofs.listed.Tie as tie
-use Rattle.items.proofs.listed.Reads as reads
-use Rattle.items.proofs.listed.Lts as lts
-use Rattle.items.proofs.once.Reads as once-reads
-use Rattle.items.proofs.rest.Reads as rest-reads
 
--- src/lib.rt:194:5
 rest-requires : tie.Need-rest-requires
 rest-requires c κs = search needs
 
--- src/lib.rt:195:17
 add-once : tie.Need-add-once
 add-once c = search needs
 
--- src/lib.rt:195:5
 once-requires : tie.Need-once-requires
 once-requires c κs = search needs
 
--- src/lib.rt:190:1
 same-length : tie.Need-same-length
 same-length c = search needs
 
--- src/lib.rt:190:1
 returns : tie.Need-returns
 returns c = laid-then (c .before .before .before .before .before .before .before .before .before .args .table .now) (c .before .before .before .before .before .before .before .before .before .args .i) ((c .before .before .before .before .before .before .before .before .before .args .i) + 5) (restBlock (entryAt (c .before .before .before .before .before .before .before .before .before .args .table .now) (c .before .before .before .before .before .before .before .before .before .args .from)) (entryAt (c .before .before .before .before .before .before .before .before .before .args .table .now) ((c .before .before .before .before .before .before .before .before .before .args .from) + 3)) (c .before .before .before .before .before .before .before .before .before .args .i)) (onceBlock (entryAt (c .before .before .before .before .before .before .before .before .before .args .table .now) (c .before .before .before .before .before .before .before .before .before .args .from)) (c .before .before .before .before .before .before .before .before .before .args .i)) (c .before .before .before .before .before .before .rest .ensures) (omega arith) (c .before .before .once .ensures ∙ ap (λ (e : Entry). laid (c .before .before .before .before .before .before .rest .last .0) ((c .before .before .before .before .before .before .before .before .before .args .i) + 5) (onceBlock e (c .before .before .before .before .before .before .before .before .before .args .i))) (entry-kept (c .before .before .before .before .before .before .before .before .before .args .table .now) (c .before .before .before .before .before .before .before .before .before .args .i) (restBlock (entryAt (c .before .before .before .before .before .before .before .before .before .args .table .now) (c .before .before .before .before .before .before .before .before .before .args .from)) (entryAt (c .before .before .before .before .before .before .before .before .before .args .table .now) ((c .before .before .before .before .before .before .before .before .before .args .from) + 3)) (c .before .before .before .before .before .before .before .before .before .args .i)) (c .before .before .before .before .before .before .before .before .before .args .from) (c .before .before .before .before .before .before .rest .ensures) (omega (arith, c .before .before .before .before .before .before .before .before .before .pre .low, c .before .before .before .before .before .before .before .before .before .pre .room .fits))))
 

@@ -9,65 +9,46 @@ use Rattle.items.proofs.Reps.{is-option, is-star, is-plus, least-count,
 use borrow.Author.Needs.{needs}
 use Rattle.items.proofs.one.Statement.{statement}
 use Rattle.items.proofs.one.Tie as tie
-use Rattle.items.proofs.one.Reads as reads
-use Rattle.items.proofs.one.Lts as lts
-use Rattle.items.proofs.once.Reads as once-reads
-use Rattle.items.proofs.option.Reads as option-reads
-use Rattle.items.proofs.star.Reads as star-reads
 
--- src/lib.rt:169:9
 option-requires : tie.Need-option-requires
 option-requires c κs = record { room = record { size = c .before .before .before .pre .room .size; fits = omega (arith, c .before .before .before .pre .room .fits, is-option (c .before .before .before .args .k) (entryAt (c .before .before .before .args .table .now) (c .before .before .before .args .from)) (c .before .before .before .args .i) (c .before .if1 .taken) .count) }; low = c .before .before .before .pre .low; high = c .before .before .before .pre .high }
 
--- src/lib.rt:172:19
 add-t9 : tie.Need-add-t9
 add-t9 c = search needs
 
--- src/lib.rt:170:9
 same-length : tie.Need-same-length
 same-length c = search needs
 
--- src/lib.rt:170:9
 returns : tie.Need-returns
 returns c = let o = is-option (c .before .before .before .before .before .before .args .k) (entryAt (c .before .before .before .before .before .before .args .table .now) (c .before .before .before .before .before .before .args .from)) (c .before .before .before .before .before .before .args .i) (c .before .before .before .before .if1 .taken) in (c .before .before .option .ensures ∙ ap (laid (c .before .before .before .before .before .before .args .table .now) (c .before .before .before .before .before .before .args .i)) (sym (o .block)), omega arith, omega arith)
 
--- src/lib.rt:175:5
 star-requires : tie.Need-star-requires
 star-requires c κs = record { room = record { size = c .before .before .before .pre .room .size; fits = omega (arith, c .before .before .before .pre .room .fits, least-count (c .before .before .before .args .k) (c .before .if1 .left)) }; low = c .before .before .before .pre .low; high = c .before .before .before .pre .high }
 
--- src/lib.rt:179:19
 add-t13 : tie.Need-add-t13
 add-t13 c = search needs
 
--- src/lib.rt:177:9
 same-length-2 : tie.Need-same-length-2
 same-length-2 c = search needs
 
--- src/lib.rt:177:9
 returns-2 : tie.Need-returns-2
 returns-2 c = let o = is-star (c .before .before .before .before .before .before .before .args .k) (entryAt (c .before .before .before .before .before .before .before .args .table .now) (c .before .before .before .before .before .before .before .args .from)) (c .before .before .before .before .before .before .before .args .i) (c .before .before .before .before .before .if1 .left) (c .if2 .taken) in (c .before .before .before .star .ensures ∙ ap (laid (c .before .before .before .before .before .before .before .args .table .now) (c .before .before .before .before .before .before .before .args .i)) (sym (o .block)), omega arith, omega arith)
 
--- src/lib.rt:182:17
 add-once : tie.Need-add-once
 add-once c = search needs
 
--- src/lib.rt:182:5
 once-requires : tie.Need-once-requires
 once-requires c κs = (record { room = record { size = c .before .before .before .before .star .kept .0 ∙ c .before .before .before .before .before .before .before .before .pre .room .size; fits = omega (arith, c .before .before .before .before .before .before .before .before .pre .room .fits, is-plus (c .before .before .before .before .before .before .before .before .args .k) (entryAt (c .before .before .before .before .before .before .before .before .args .table .now) (c .before .before .before .before .before .before .before .before .args .from)) (c .before .before .before .before .before .before .before .before .args .i) (c .before .before .before .before .before .before .if1 .left) (c .before .if2 .left) .count) }; low = c .before .before .before .before .before .before .before .before .pre .low; high = c .before .before .before .before .before .before .before .before .pre .high }, omega (arith, c .before .before .before .before .before .before .before .before .pre .room .fits))
 
--- src/lib.rt:184:16
 add-t16 : tie.Need-add-t16
 add-t16 c = search needs
 
--- src/lib.rt:185:15
 add-t17 : tie.Need-add-t17
 add-t17 c = search needs
 
--- src/lib.rt:164:1
 same-length-3 : tie.Need-same-length-3
 same-length-3 c = search needs
 
--- src/lib.rt:164:1
 returns-3 : tie.Need-returns-3
 returns-3 c =
     let o = is-plus (c .before .before .before .before .before .before .before .before .before .before .before .args .k) (entryAt (c .before .before .before .before .before .before .before .before .before .before .before .args .table .now) (c .before .before .before .before .before .before .before .before .before .before .before .args .from)) (c .before .before .before .before .before .before .before .before .before .before .before .args .i) (c .before .before .before .before .before .before .before .before .before .if1 .left) (c .before .before .before .before .if2 .left) in

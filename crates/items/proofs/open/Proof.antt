@@ -9,39 +9,28 @@ use Rattle.items.proofs.Reps.{rep-pushed, rep-one', rep-two', rep-close
 use borrow.Author.Needs.{needs}
 use Rattle.items.proofs.open.Statement.{statement}
 use Rattle.items.proofs.open.Tie as tie
-use Rattle.items.proofs.open.Reads as reads
-use Rattle.items.proofs.open.Lts as lts
-use Rattle.items.proofs.put.Reads as put-reads
 
--- src/lib.rt:284:24
 mul-put : tie.Need-mul-put
 mul-put c = search needs
 
--- src/lib.rt:284:16
 add-put : tie.Need-add-put
 add-put c = search needs
 
--- src/lib.rt:284:34
 cast-put : tie.Need-cast-put
 cast-put c = omega (arith, c .before .before .before .pre .rep .base, c .before .before .before .pre .rep .has .fit .base)
 
--- src/lib.rt:284:49
 cast-put-2 : tie.Need-cast-put-2
 cast-put-2 c = search needs
 
--- src/lib.rt:284:5
 put-requires : tie.Need-put-requires
 put-requires c κs = omega (arith, c .before .before .before .pre .rep .has .size, c .before .before .before .pre .rep .depth, ap (λ (z : Abs). z .depth) (c .before .before .before .pre .act), c .before .before .before .pre .fit .depth)
 
--- src/lib.rt:288:16
 add-t8 : tie.Need-add-t8
 add-t8 c = search needs
 
--- src/lib.rt:279:1
 same-length : tie.Need-same-length
 same-length c = search needs
 
--- src/lib.rt:279:1
 returns : tie.Need-returns
 returns c = λ a b rep act fit. rep-pushed rep fit (entry 0 (a .base) (c .before .before .before .before .before .before .args .at)) (a .depth) act (c .before .before .put .ensures ∙ ap (λ (n : ℕ). sets (c .before .before .before .before .before .before .args .table .now) (14848 + 3 * (c .before .before .before .before .before .before .args .s .depth)) (nums (entry 0 n (c .before .before .before .before .before .before .args .at)))) (rep .base)) refl refl refl (rep .depth)
 

@@ -9,81 +9,58 @@ use Rattle.items.proofs.Reps.{rep-pushed, rep-one', rep-two', rep-close
 use borrow.Author.Needs.{needs}
 use Rattle.items.proofs.operate.Statement.{statement}
 use Rattle.items.proofs.operate.Tie as tie
-use Rattle.items.proofs.operate.Reads as reads
-use Rattle.items.proofs.operate.Lts as lts
-use Rattle.items.proofs.one.Reads as one-reads
-use Rattle.items.proofs.put.Reads as put-reads
-use Rattle.items.proofs.two.Reads as two-reads
 
--- src/lib.rt:225:17
 sub-d : tie.Need-sub-d
 sub-d c = omega (arith, one-bounds (c .before .before .before .pre .act .0 (c .before .if1 .taken)) (c .before .before .before .pre .fit) .1, c .before .before .before .pre .rep .depth)
 
--- src/lib.rt:226:28
 mul-from : tie.Need-mul-from
 mul-from c = search needs
 
--- src/lib.rt:226:20
 add-from : tie.Need-add-from
 add-from c = search needs
 
--- src/lib.rt:227:13
 one-requires : tie.Need-one-requires
 one-requires c κs = record { room = record { size = c .before .before .before .before .pre .rep .has .size; fits = omega (arith, one-bounds (c .before .before .before .before .pre .act .0 (c .before .before .if1 .taken)) (c .before .before .before .before .pre .fit) .0, c .before .before .before .before .pre .rep .items) }; low = omega arith; high = omega (arith, one-bounds (c .before .before .before .before .pre .act .0 (c .before .before .if1 .taken)) (c .before .before .before .before .pre .fit) .1, c .before .before .before .before .pre .rep .depth, c .before .before .before .before .pre .rep .has .fit .depth) }
 
--- src/lib.rt:228:29
 cast-put : tie.Need-cast-put
 cast-put c = omega (arith, c .before .before .before .before .one .ensures .1, one-first (c .before .before .before .before .before .before .before .before .before .args .k), one-bounds (c .before .before .before .before .before .before .before .before .before .pre .act .0 (c .before .before .before .before .before .before .before .if1 .taken)) (c .before .before .before .before .before .before .before .before .before .pre .fit) .0, c .before .before .before .before .before .before .before .before .before .pre .rep .items)
 
--- src/lib.rt:228:9
 put-requires : tie.Need-put-requires
 put-requires c κs = search needs
 
--- src/lib.rt:232:20
 add-t12 : tie.Need-add-t12
 add-t12 c = search needs
 
--- src/lib.rt:229:9
 same-length : tie.Need-same-length
 same-length c = search needs
 
--- src/lib.rt:229:9
 returns : tie.Need-returns
 returns c = λ a b rep act fit. rep-one' rep fit (c .before .before .before .before .before .before .before .before .before .before .before .before .args .k) ((c .before .before .before .before .before .before .before .before .before .before .before .before .args .s .depth) - 1) (14848 + 3 * ((c .before .before .before .before .before .before .before .before .before .before .before .before .args .s .depth) - 1)) (c .before .before .before .before .before .before .before .one .result .first) (act .0 (c .before .before .before .before .before .before .before .before .before .before .if1 .taken)) (omega (arith, one-bounds (act .0 (c .before .before .before .before .before .before .before .before .before .before .if1 .taken)) fit .1, rep .depth)) refl (c .before .before .before .before .before .before .before .one .ensures .0) (c .before .before .before .before .before .before .before .one .ensures .1) (c .before .before .put .ensures) (c .before .before .before .before .before .before .before .one .ensures .2) refl refl refl
 
--- src/lib.rt:236:13
 sub-d-2 : tie.Need-sub-d-2
 sub-d-2 c = omega (arith, two-bounds (c .before .before .before .pre .act .1 (c .before .if1 .left)) (c .before .before .before .pre .fit) .1, c .before .before .before .pre .rep .depth)
 
--- src/lib.rt:237:24
 mul-from-2 : tie.Need-mul-from-2
 mul-from-2 c = search needs
 
--- src/lib.rt:237:16
 add-from-2 : tie.Need-add-from-2
 add-from-2 c = search needs
 
--- src/lib.rt:238:9
 two-requires : tie.Need-two-requires
 two-requires c κs = record { room = record { size = c .before .before .before .before .pre .rep .has .size; fits = omega (arith, two-bounds (c .before .before .before .before .pre .act .1 (c .before .before .if1 .left)) (c .before .before .before .before .pre .fit) .0, c .before .before .before .before .pre .rep .items) }; low = omega arith; high = omega (arith, two-bounds (c .before .before .before .before .pre .act .1 (c .before .before .if1 .left)) (c .before .before .before .before .pre .fit) .1, c .before .before .before .before .pre .rep .depth, c .before .before .before .before .pre .rep .has .fit .depth) }
 
--- src/lib.rt:239:25
 cast-put-2 : tie.Need-cast-put-2
 cast-put-2 c = omega (arith, c .before .before .before .before .two .ensures .1, two-first (c .before .before .before .before .before .before .before .before .before .args .k), two-bounds (c .before .before .before .before .before .before .before .before .before .pre .act .1 (c .before .before .before .before .before .before .before .if1 .left)) (c .before .before .before .before .before .before .before .before .before .pre .fit) .0, c .before .before .before .before .before .before .before .before .before .pre .rep .items)
 
--- src/lib.rt:239:5
 put-requires-2 : tie.Need-put-requires-2
 put-requires-2 c κs = search needs
 
--- src/lib.rt:243:16
 add-t19 : tie.Need-add-t19
 add-t19 c = search needs
 
--- src/lib.rt:219:1
 same-length-2 : tie.Need-same-length-2
 same-length-2 c = search needs
 
--- src/lib.rt:219:1
 returns-2 : tie.Need-returns-2
 returns-2 c = λ a b rep act fit. rep-two' rep fit (c .before .before .before .before .before .before .before .before .before .before .before .before .args .k) ((c .before .before .before .before .before .before .before .before .before .before .before .before .args .s .depth) - 2) (14848 + 3 * ((c .before .before .before .before .before .before .before .before .before .before .before .before .args .s .depth) - 2)) (c .before .before .before .before .before .before .before .two .result .first) (act .1 (c .before .before .before .before .before .before .before .before .before .before .if1 .left)) (omega (arith, two-bounds (act .1 (c .before .before .before .before .before .before .before .before .before .before .if1 .left)) fit .1, rep .depth)) refl (c .before .before .before .before .before .before .before .two .ensures .0) (c .before .before .before .before .before .before .before .two .ensures .1) (c .before .before .put2 .ensures) (c .before .before .before .before .before .before .before .two .ensures .2) refl refl refl
 

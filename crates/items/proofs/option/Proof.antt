@@ -7,28 +7,19 @@ use Rattle.items.proofs.Windows.{laid-then, entry-kept}
 use borrow.Author.Needs.{needs}
 use Rattle.items.proofs.option.Statement.{statement}
 use Rattle.items.proofs.option.Tie as tie
-use Rattle.items.proofs.option.Reads as reads
-use Rattle.items.proofs.option.Lts as lts
-use Rattle.items.proofs.copy.Reads as copy-reads
-use Rattle.items.proofs.ends.Reads as ends-reads
 
--- src/lib.rt:134:5
 copy-requires : tie.Need-copy-requires
 copy-requires c κs = search needs
 
--- src/lib.rt:135:17
 add-ends : tie.Need-add-ends
 add-ends c = search needs
 
--- src/lib.rt:135:5
 ends-requires : tie.Need-ends-requires
 ends-requires c κs = search needs
 
--- src/lib.rt:130:1
 same-length : tie.Need-same-length
 same-length c = search needs
 
--- src/lib.rt:130:1
 returns : tie.Need-returns
 returns c = laid-then (c .before .before .before .before .before .before .before .before .before .args .table .now) (c .before .before .before .before .before .before .before .before .before .args .i) ((c .before .before .before .before .before .before .before .before .before .args .i) + 1) (nums (entryAt (c .before .before .before .before .before .before .before .before .before .args .table .now) (c .before .before .before .before .before .before .before .before .before .args .from))) bothEnds (c .before .before .before .before .before .before .copy .ensures) (omega arith) (c .before .before .ends .ensures)
 

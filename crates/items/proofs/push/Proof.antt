@@ -9,35 +9,25 @@ use Rattle.items.proofs.Reps.{rep-pushed, rep-one', rep-two', rep-close
 use borrow.Author.Needs.{needs}
 use Rattle.items.proofs.push.Statement.{statement}
 use Rattle.items.proofs.push.Tie as tie
-use Rattle.items.proofs.push.Reads as reads
-use Rattle.items.proofs.push.Lts as lts
-use Rattle.items.proofs.put.Reads as put-reads
 
--- src/lib.rt:269:24
 mul-put : tie.Need-mul-put
 mul-put c = search needs
 
--- src/lib.rt:269:16
 add-put : tie.Need-add-put
 add-put c = search needs
 
--- src/lib.rt:269:40
 cast-put : tie.Need-cast-put
 cast-put c = search needs
 
--- src/lib.rt:269:5
 put-requires : tie.Need-put-requires
 put-requires c κs = omega (arith, c .before .before .pre .rep .has .size, c .before .before .pre .rep .depth, ap (λ (z : Abs). z .depth) (c .before .before .pre .act), c .before .before .pre .fit .depth)
 
--- src/lib.rt:273:16
 add-t9 : tie.Need-add-t9
 add-t9 c = search needs
 
--- src/lib.rt:264:1
 same-length : tie.Need-same-length
 same-length c = search needs
 
--- src/lib.rt:264:1
 returns : tie.Need-returns
 returns c = λ a b rep act fit. rep-pushed rep fit (entry (c .before .before .before .before .before .args .kind) 0 (c .before .before .before .before .before .args .at)) (a .base) act (c .before .before .put .ensures) refl refl refl (rep .base)
 

@@ -6,164 +6,121 @@ use Rattle.items.proofs.Links.{single-kept, single-none, single-written
 use borrow.Author.Needs.{needs}
 use Rattle.items.proofs.resolve.Statement.{statement}
 use Rattle.items.proofs.resolve.Tie as tie
-use Rattle.items.proofs.resolve.Reads as reads
-use Rattle.items.proofs.resolve.Lts as lts
-use Rattle.items.proofs.find.Reads as find-reads
-use Rattle.items.proofs.kind_by.Reads as kind-by-reads
 
--- src/lib.rt:122:22
 mul-if1 : tie.Need-mul-if1
 mul-if1 c = search needs
 
--- src/lib.rt:122:14
 add-if1 : tie.Need-add-if1
 add-if1 c = search needs
 
--- src/lib.rt:122:8
 mul-if1-2 : tie.Need-mul-if1-2
 mul-if1-2 c = search needs
 
--- src/lib.rt:122:8
 slice-read-if1 : tie.Need-slice-read-if1
 slice-read-if1 c = search needs
 
--- src/lib.rt:123:9
 returns : tie.Need-returns
 returns c = single-kept (c .before .before .before .args .table .now) (c .before .before .before .args .rules) (c .before .before .before .args .p) (c .if1 .taken)
 
--- src/lib.rt:125:28
 mul-at : tie.Need-mul-at
 mul-at c = search needs
 
--- src/lib.rt:125:20
 add-at : tie.Need-add-at
 add-at c = search needs
 
--- src/lib.rt:125:14
 mul-at-2 : tie.Need-mul-at-2
 mul-at-2 c = search needs
 
--- src/lib.rt:125:14
 slice-read-at : tie.Need-slice-read-at
 slice-read-at c = search needs
 
--- src/lib.rt:125:14
 cast-at : tie.Need-cast-at
 cast-at c = omega (arith, c .slice-known3 .given (12290 + 3 * c .before .before .before .before .args .p))
 
--- src/lib.rt:126:9
 find-requires : tie.Need-find-requires
 find-requires c κs = search needs
 
--- src/lib.rt:127:30
 mul-head : tie.Need-mul-head
 mul-head c = search needs
 
--- src/lib.rt:127:22
 add-head : tie.Need-add-head
 add-head c = search needs
 
--- src/lib.rt:127:16
 mul-head-2 : tie.Need-mul-head-2
 mul-head-2 c = search needs
 
--- src/lib.rt:127:16
 slice-read-head : tie.Need-slice-read-head
 slice-read-head c = search needs
 
--- src/lib.rt:127:16
 cast-head : tie.Need-cast-head
 cast-head c = omega (arith, c .slice-known4 .given (13824 + 2 * c .before .find .result))
 
--- src/lib.rt:129:9
 same-length : tie.Need-same-length
 same-length c = search needs
 
--- src/lib.rt:129:9
 returns-2 : tie.Need-returns-2
 returns-2 c = single-none (c .before .before .before .before .before .before .before .before .args .table .now) (c .before .before .before .before .before .before .before .before .args .rules) (c .before .before .before .before .before .before .before .before .args .p) (c .before .before .find .result) (c .before .before .before .before .before .if1 .left) (c .before .before .find .ensures) (λ h k. omega (arith, c .if2 .taken))
 
--- src/lib.rt:132:9
 same-length-2 : tie.Need-same-length-2
 same-length-2 c = search needs
 
--- src/lib.rt:132:9
 returns-3 : tie.Need-returns-3
 returns-3 c = single-none (c .before .before .before .before .before .before .before .before .before .args .table .now) (c .before .before .before .before .before .before .before .before .before .args .rules) (c .before .before .before .before .before .before .before .before .before .args .p) (c .before .before .before .find .result) (c .before .before .before .before .before .before .if1 .left) (c .before .before .before .find .ensures) (λ h k. omega (arith, c .if3 .taken))
 
--- src/lib.rt:134:24
 mul-kind-by : tie.Need-mul-kind-by
 mul-kind-by c = search needs
 
--- src/lib.rt:134:24
 slice-read-kind-by : tie.Need-slice-read-kind-by
 slice-read-kind-by c = search needs
 
--- src/lib.rt:134:35
 mul-kind-by-2 : tie.Need-mul-kind-by-2
 mul-kind-by-2 c = search needs
 
--- src/lib.rt:134:35
 slice-read-kind-by-2 : tie.Need-slice-read-kind-by-2
 slice-read-kind-by-2 c = search needs
 
--- src/lib.rt:134:9
 kind-by-requires : tie.Need-kind-by-requires
 kind-by-requires c κs = search needs
 
--- src/lib.rt:135:31
 mul-first : tie.Need-mul-first
 mul-first c = search needs
 
--- src/lib.rt:135:23
 add-first : tie.Need-add-first
 add-first c = search needs
 
--- src/lib.rt:135:17
 mul-first-2 : tie.Need-mul-first-2
 mul-first-2 c = search needs
 
--- src/lib.rt:135:17
 slice-read-first : tie.Need-slice-read-first
 slice-read-first c = search needs
 
--- src/lib.rt:136:19
 mul-table : tie.Need-mul-table
 mul-table c = search needs
 
--- src/lib.rt:136:11
 add-table : tie.Need-add-table
 add-table c = search needs
 
--- src/lib.rt:136:5
 mul-table-2 : tie.Need-mul-table-2
 mul-table-2 c = search needs
 
--- src/lib.rt:136:5
 slice-write-table : tie.Need-slice-write-table
 slice-write-table c = search needs
 
--- src/lib.rt:137:19
 mul-table-3 : tie.Need-mul-table-3
 mul-table-3 c = search needs
 
--- src/lib.rt:137:11
 add-table-2 : tie.Need-add-table-2
 add-table-2 c = search needs
 
--- src/lib.rt:137:5
 mul-table-4 : tie.Need-mul-table-4
 mul-table-4 c = search needs
 
--- src/lib.rt:137:5
 slice-write-table-2 : tie.Need-slice-write-table-2
 slice-write-table-2 c = simp length-set (omega (arith, c .before .before .before .before .before .before .before .before .before .before .before .before .before .pre .few-items, c .before .before .before .before .before .before .before .before .before .before .before .before .before .pre .size))
 
--- src/lib.rt:118:1
 same-length-3 : tie.Need-same-length-3
 same-length-3 c = search needs
 
--- src/lib.rt:118:1
 returns-4 : tie.Need-returns-4
 returns-4 c = single-written (c .before .before .before .before .before .before .before .before .before .before .before .before .before .args .table .now) (c .before .before .before .before .before .before .before .before .before .before .before .before .before .args .p) (c .before .kind-by .result) (getD (c .before .before .before .before .before .before .before .before .before .before .before .before .before .args .table .now) (13825 + 2 * c .before .before .before .before .before .before .before .find .result) 0) (c .before .before .before .before .before .before .before .before .before .before .before .before .before .pre .size) (omega (arith, c .before .before .before .before .before .before .before .before .before .before .before .before .before .pre .few-items)) (c .before .before .before .before .before .before .before .before .before .before .before .before .before .args .rules) (c .before .before .before .before .before .before .before .find .result) (c .before .before .before .before .before .before .before .before .before .before .if1 .left) (c .before .before .before .before .before .before .before .find .ensures) (c .before .kind-by .ensures) refl
 

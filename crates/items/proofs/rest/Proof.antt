@@ -7,41 +7,28 @@ use Rattle.items.proofs.Windows.{laid-then, entry-kept}
 use borrow.Author.Needs.{needs}
 use Rattle.items.proofs.rest.Statement.{statement}
 use Rattle.items.proofs.rest.Tie as tie
-use Rattle.items.proofs.rest.Reads as reads
-use Rattle.items.proofs.rest.Lts as lts
-use Rattle.items.proofs.again.Reads as again-reads
-use Rattle.items.proofs.copy.Reads as copy-reads
-use Rattle.items.proofs.ends.Reads as ends-reads
 
--- src/lib.rt:152:20
 add-copy : tie.Need-add-copy
 add-copy c = search needs
 
--- src/lib.rt:152:5
 copy-requires : tie.Need-copy-requires
 copy-requires c κs = search needs
 
--- src/lib.rt:153:18
 add-again : tie.Need-add-again
 add-again c = search needs
 
--- src/lib.rt:153:5
 again-requires : tie.Need-again-requires
 again-requires c κs = search needs
 
--- src/lib.rt:154:17
 add-ends : tie.Need-add-ends
 add-ends c = search needs
 
--- src/lib.rt:154:5
 ends-requires : tie.Need-ends-requires
 ends-requires c κs = search needs
 
--- src/lib.rt:148:1
 same-length : tie.Need-same-length
 same-length c = search needs
 
--- src/lib.rt:148:1
 returns : tie.Need-returns
 returns c =
     laid-then (c .before .before .before .before .before .before .before .before .before .before .before .before .before .args .table .now) (c .before .before .before .before .before .before .before .before .before .before .before .before .before .args .i) ((c .before .before .before .before .before .before .before .before .before .before .before .before .before .args .i) + 3) (nums (entryAt (c .before .before .before .before .before .before .before .before .before .before .before .before .before .args .table .now) ((c .before .before .before .before .before .before .before .before .before .before .before .before .before .args .from) + 3)) ++ (nums (entryAt (c .before .before .before .before .before .before .before .before .before .before .before .before .before .args .table .now) (c .before .before .before .before .before .before .before .before .before .before .before .before .before .args .from)) ++ nums (entry 4 (c .before .before .before .before .before .before .before .before .before .before .before .before .before .args .i) 0))) bothEnds

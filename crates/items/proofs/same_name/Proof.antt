@@ -6,8 +6,6 @@ use Rattle.items.proofs.Names.{too-far, too-far-2, counts-differ, too-l
 use borrow.Author.Needs.{needs}
 use Rattle.items.proofs.same_name.Statement.{statement}
 use Rattle.items.proofs.same_name.Tie as tie
-use Rattle.items.proofs.same_name.Reads as reads
-use Rattle.items.proofs.same_name.Lts as lts
 
 abbrev Inv-loop : tie.InvT-loop
 Inv-loop table a b n i₀ i = (i ≤ n) × ((j : ℕ) → j < i → getD table (a + 2 + j) 0 ≡ getD table (b + 2 + j) 0)
@@ -15,119 +13,90 @@ Inv-loop table a b n i₀ i = (i ≤ n) × ((j : ℕ) → j < i → getD table (
 abbrev μ-loop : tie.MeasureT-loop
 μ-loop table a b n i₀ i = n - i
 
--- src/lib.rt:77:9
 returns : tie.Need-returns Inv-loop μ-loop
 returns c = λ x y h k. too-far (c .before .args .table .now) (c .before .args .a) (c .before .args .b) (c .before .pre) x y h k (c .if1 .taken)
 
--- src/lib.rt:80:9
 returns-2 : tie.Need-returns-2 Inv-loop μ-loop
 returns-2 c = λ x y h k. too-far-2 (c .before .before .args .table .now) (c .before .before .args .a) (c .before .before .args .b) (c .before .before .pre) x y h k (c .if2 .taken)
 
--- src/lib.rt:82:19
 add-n : tie.Need-add-n Inv-loop μ-loop
 add-n c = search needs
 
--- src/lib.rt:82:13
 mul-n : tie.Need-mul-n Inv-loop μ-loop
 mul-n c = search needs
 
--- src/lib.rt:82:13
 shared-slice-read-n : tie.Need-shared-slice-read-n Inv-loop μ-loop
 shared-slice-read-n c = omega (arith, c .before .before .if1 .left, c .before .before .before .pre)
 
--- src/lib.rt:82:13
 cast-n : tie.Need-cast-n Inv-loop μ-loop
 cast-n c = omega (arith, c .shared-slice-known .given (c .before .before .before .args .a + 1))
 
--- src/lib.rt:83:14
 add-if3 : tie.Need-add-if3 Inv-loop μ-loop
 add-if3 c = search needs
 
--- src/lib.rt:83:8
 mul-if3 : tie.Need-mul-if3 Inv-loop μ-loop
 mul-if3 c = search needs
 
--- src/lib.rt:83:8
 shared-slice-read-if3 : tie.Need-shared-slice-read-if3 Inv-loop μ-loop
 shared-slice-read-if3 c = omega (arith, c .before .before .if2 .left, c .before .before .before .before .pre)
 
--- src/lib.rt:83:8
 cast-if3 : tie.Need-cast-if3 Inv-loop μ-loop
 cast-if3 c = omega (arith, c .shared-slice-known2 .given (c .before .before .before .before .args .b + 1))
 
--- src/lib.rt:84:9
 returns-3 : tie.Need-returns-3 Inv-loop μ-loop
 returns-3 c = λ x y h k. counts-differ (c .before .before .before .before .before .args .table .now) (c .before .before .before .before .before .args .a) (c .before .before .before .before .before .args .b) (c .before .before .before .before .before .pre) x y h k (c .if3 .taken)
 
--- src/lib.rt:86:8
 sub-if4 : tie.Need-sub-if4 Inv-loop μ-loop
 sub-if4 c = omega (arith, c .before .before .before .before .if1 .left)
 
--- src/lib.rt:87:9
 returns-4 : tie.Need-returns-4 Inv-loop μ-loop
 returns-4 c = λ x y h k. too-long (c .before .before .before .before .before .before .args .table .now) (c .before .before .before .before .before .before .args .a) (c .before .before .before .before .before .before .args .b) (c .before .before .before .before .before .before .pre) x y h k (c .if4 .taken)
 
--- src/lib.rt:89:8
 sub-if5 : tie.Need-sub-if5 Inv-loop μ-loop
 sub-if5 c = omega (arith, c .before .before .before .before .if2 .left)
 
--- src/lib.rt:90:9
 returns-5 : tie.Need-returns-5 Inv-loop μ-loop
 returns-5 c = λ x y h k. too-long-2 (c .before .before .before .before .before .before .before .args .table .now) (c .before .before .before .before .before .before .before .args .a) (c .before .before .before .before .before .before .before .args .b) (c .before .before .before .before .before .before .before .pre) x y h k (c .before .before .if3 .left) (c .if5 .taken)
 
--- src/lib.rt:93:5
 loop-holds : tie.Need-loop-holds Inv-loop μ-loop
 loop-holds c = (omega arith, λ j l. absurd (omega arith))
 
--- src/lib.rt:94:18
 add-if6 : tie.Need-add-if6 Inv-loop μ-loop
 add-if6 c = search needs
 
--- src/lib.rt:94:18
 add-if6-2 : tie.Need-add-if6-2 Inv-loop μ-loop
 add-if6-2 c = omega (arith, c .before .before .before .before .before .before .before .before .if1 .left, c .before .before .before .if4 .left, c .loop-test .taken)
 
--- src/lib.rt:94:12
 mul-if6 : tie.Need-mul-if6 Inv-loop μ-loop
 mul-if6 c = omega (arith, c .before .before .before .before .before .before .before .before .if1 .left, c .before .before .before .if4 .left, c .loop-test .taken)
 
--- src/lib.rt:94:12
 shared-slice-read-if6 : tie.Need-shared-slice-read-if6 Inv-loop μ-loop
 shared-slice-read-if6 c = omega (arith, c .before .before .before .before .before .before .before .before .before .if1 .left, c .before .before .before .before .if4 .left, c .before .loop-test .taken, c .before .before .before .before .before .before .before .before .before .before .pre)
 
--- src/lib.rt:94:38
 add-if6-3 : tie.Need-add-if6-3 Inv-loop μ-loop
 add-if6-3 c = search needs
 
--- src/lib.rt:94:38
 add-if6-4 : tie.Need-add-if6-4 Inv-loop μ-loop
 add-if6-4 c = omega (arith, c .before .before .before .before .before .before .before .before .if2 .left, c .before .before .before .if5 .left, c .before .loop-test .taken)
 
--- src/lib.rt:94:32
 mul-if6-2 : tie.Need-mul-if6-2 Inv-loop μ-loop
 mul-if6-2 c = omega (arith, c .before .before .before .before .before .before .before .before .if2 .left, c .before .before .before .if5 .left, c .before .loop-test .taken)
 
--- src/lib.rt:94:32
 shared-slice-read-if6-2 : tie.Need-shared-slice-read-if6-2 Inv-loop μ-loop
 shared-slice-read-if6-2 c = omega (arith, c .before .before .before .before .before .before .before .before .before .if2 .left, c .before .before .before .before .if5 .left, c .before .before .loop-test .taken, c .before .before .before .before .before .before .before .before .before .before .before .pre)
 
--- src/lib.rt:95:13
 returns-6 : tie.Need-returns-6 Inv-loop μ-loop
 returns-6 c = λ x y h k. letters-differ (c .before .before .before .before .before .before .before .before .before .before .before .before .args .table .now) (c .before .before .before .before .before .before .before .before .before .before .before .before .args .a) (c .before .before .before .before .before .before .before .before .before .before .before .before .args .b) (c .before .before .before .before .before .before .before .before .before .before .before .before .pre) x y h k (c .before .before .before .before .loop .i) (c .before .before .before .before .before .before .before .if3 .left) (c .before .before .before .loop-test .taken) (c .if6 .taken)
 
--- src/lib.rt:97:9
 add-i : tie.Need-add-i Inv-loop μ-loop
 add-i c = search needs
 
--- src/lib.rt:93:5
 loop-less : tie.Need-loop-less Inv-loop μ-loop
 loop-less c = omega (arith, c .before .before .before .loop-test .taken)
 
--- src/lib.rt:93:5
 loop-again : tie.Need-loop-again Inv-loop μ-loop
 loop-again c = (omega (arith, c .before .before .before .loop-test .taken), letters-next (c .before .before .before .before .before .before .before .before .before .before .before .before .args .table .now) (c .before .before .before .before .before .before .before .before .before .before .before .before .args .a) (c .before .before .before .before .before .before .before .before .before .before .before .before .args .b) (c .before .before .before .before .loop .i) (c .before .before .before .before .loop .inv .1) (c .if6 .left))
 
--- src/lib.rt:72:1
 returns-7 : tie.Need-returns-7 Inv-loop μ-loop
 returns-7 c = λ x y h k. letters-same (c .before .before .before .before .before .before .before .before .before .args .table .now) (c .before .before .before .before .before .before .before .before .before .args .a) (c .before .before .before .before .before .before .before .before .before .args .b) (c .before .before .before .before .before .before .before .before .before .pre) x y h k (c .before .loop .i) (c .before .before .before .before .if3 .left) (c .loop-test .left) (c .before .loop .inv .1)
 

@@ -7,28 +7,19 @@ use Rattle.items.proofs.Windows.{laid-then, entry-kept}
 use borrow.Author.Needs.{needs}
 use Rattle.items.proofs.star.Statement.{statement}
 use Rattle.items.proofs.star.Tie as tie
-use Rattle.items.proofs.star.Reads as reads
-use Rattle.items.proofs.star.Lts as lts
-use Rattle.items.proofs.again.Reads as again-reads
-use Rattle.items.proofs.ends.Reads as ends-reads
 
--- src/lib.rt:143:5
 again-requires : tie.Need-again-requires
 again-requires c κs = search needs
 
--- src/lib.rt:144:17
 add-ends : tie.Need-add-ends
 add-ends c = search needs
 
--- src/lib.rt:144:5
 ends-requires : tie.Need-ends-requires
 ends-requires c κs = search needs
 
--- src/lib.rt:139:1
 same-length : tie.Need-same-length
 same-length c = search needs
 
--- src/lib.rt:139:1
 returns : tie.Need-returns
 returns c = laid-then (c .before .before .before .before .before .before .before .before .before .args .table .now) (c .before .before .before .before .before .before .before .before .before .args .i) ((c .before .before .before .before .before .before .before .before .before .args .i) + 2) (nums (entryAt (c .before .before .before .before .before .before .before .before .before .args .table .now) (c .before .before .before .before .before .before .before .before .before .args .from)) ++ nums (entry 4 (c .before .before .before .before .before .before .before .before .before .args .i) 0)) bothEnds (c .before .before .before .before .before .before .again .ensures) (omega arith) (c .before .before .ends .ensures)
 

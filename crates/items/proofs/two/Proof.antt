@@ -9,65 +9,46 @@ use Rattle.items.proofs.Reps.{is-option, is-star, is-plus, least-count,
 use borrow.Author.Needs.{needs}
 use Rattle.items.proofs.two.Statement.{statement}
 use Rattle.items.proofs.two.Tie as tie
-use Rattle.items.proofs.two.Reads as reads
-use Rattle.items.proofs.two.Lts as lts
-use Rattle.items.proofs.ends.Reads as ends-reads
-use Rattle.items.proofs.item.Reads as item-reads
-use Rattle.items.proofs.listed.Reads as listed-reads
 
--- src/lib.rt:203:5
 listed-requires : tie.Need-listed-requires
 listed-requires c κs = record { room = record { size = c .before .before .pre .room .size; fits = omega (arith, c .before .before .pre .room .fits, least-two (c .before .before .args .k)) }; low = c .before .before .pre .low; high = c .before .before .pre .high }
 
--- src/lib.rt:206:20
 add-t9 : tie.Need-add-t9
 add-t9 c = search needs
 
--- src/lib.rt:207:19
 add-t10 : tie.Need-add-t10
 add-t10 c = search needs
 
--- src/lib.rt:205:9
 same-length : tie.Need-same-length
 same-length c = search needs
 
--- src/lib.rt:205:9
 returns : tie.Need-returns
 returns c = let o = is-list (c .before .before .before .before .before .before .args .k) (entryAt (c .before .before .before .before .before .before .args .table .now) (c .before .before .before .before .before .before .args .from)) (entryAt (c .before .before .before .before .before .before .args .table .now) ((c .before .before .before .before .before .before .args .from) + 3)) (c .before .before .before .before .before .before .args .i) (c .if1 .taken) in (c .before .before .before .listed .ensures ∙ ap (laid (c .before .before .before .before .before .before .args .table .now) (c .before .before .before .before .before .before .args .i)) (sym (o .block)), omega arith, omega arith)
 
--- src/lib.rt:210:17
 add-item : tie.Need-add-item
 add-item c = search needs
 
--- src/lib.rt:210:27
 add-item-2 : tie.Need-add-item-2
 add-item-2 c = search needs
 
--- src/lib.rt:210:5
 item-requires : tie.Need-item-requires
 item-requires c κs = (record { size = c .before .before .before .before .listed .kept .0 ∙ c .before .before .before .before .before .before .before .pre .room .size; fits = omega (arith, c .before .before .before .before .before .before .before .pre .room .fits, is-maybe (c .before .before .before .before .before .before .before .args .k) (entryAt (c .before .before .before .before .before .before .before .args .table .now) (c .before .before .before .before .before .before .before .args .from)) (entryAt (c .before .before .before .before .before .before .before .args .table .now) ((c .before .before .before .before .before .before .before .args .from) + 3)) (c .before .before .before .before .before .before .before .args .i) (c .before .if1 .left) .count) }, omega (arith, c .before .before .before .before .before .before .before .pre .room .fits))
 
--- src/lib.rt:211:17
 add-ends : tie.Need-add-ends
 add-ends c = search needs
 
--- src/lib.rt:211:5
 ends-requires : tie.Need-ends-requires
 ends-requires c κs = record { size = c .before .before .before .item .kept .0 ∙ c .before .before .before .before .before .before .before .before .listed .kept .0 ∙ c .before .before .before .before .before .before .before .before .before .before .before .pre .room .size; fits = omega (arith, c .before .before .before .before .before .before .before .before .before .before .before .pre .room .fits, is-maybe (c .before .before .before .before .before .before .before .before .before .before .before .args .k) (entryAt (c .before .before .before .before .before .before .before .before .before .before .before .args .table .now) (c .before .before .before .before .before .before .before .before .before .before .before .args .from)) (entryAt (c .before .before .before .before .before .before .before .before .before .before .before .args .table .now) ((c .before .before .before .before .before .before .before .before .before .before .before .args .from) + 3)) (c .before .before .before .before .before .before .before .before .before .before .before .args .i) (c .before .before .before .before .before .if1 .left) .count) }
 
--- src/lib.rt:213:16
 add-t13 : tie.Need-add-t13
 add-t13 c = search needs
 
--- src/lib.rt:214:15
 add-t14 : tie.Need-add-t14
 add-t14 c = search needs
 
--- src/lib.rt:199:1
 same-length-2 : tie.Need-same-length-2
 same-length-2 c = search needs
 
--- src/lib.rt:199:1
 returns-2 : tie.Need-returns-2
 returns-2 c =
     let o = is-maybe (c .before .before .before .before .before .before .before .before .before .before .before .before .before .before .args .k) (entryAt (c .before .before .before .before .before .before .before .before .before .before .before .before .before .before .args .table .now) (c .before .before .before .before .before .before .before .before .before .before .before .before .before .before .args .from)) (entryAt (c .before .before .before .before .before .before .before .before .before .before .before .before .before .before .args .table .now) ((c .before .before .before .before .before .before .before .before .before .before .before .before .before .before .args .from) + 3)) (c .before .before .before .before .before .before .before .before .before .before .before .before .before .before .args .i) (c .before .before .before .before .before .before .before .before .if1 .left) in

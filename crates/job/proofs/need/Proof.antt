@@ -5,26 +5,19 @@ use Rattle.job.proofs.Needs.{pairs, whole}
 use borrow.Author.Needs.{needs}
 use Rattle.job.proofs.need.Statement.{statement}
 use Rattle.job.proofs.need.Tie as tie
-use Rattle.job.proofs.need.Reads as reads
-use Rattle.job.proofs.need.Lts as lts
 
--- src/lib.rt:54:14
 add-result : tie.Need-add-result
 add-result c = search needs
 
--- src/lib.rt:54:24
 add-result-2 : tie.Need-add-result-2
 add-result-2 c = search needs
 
--- src/lib.rt:54:13
 mul-result : tie.Need-mul-result
 mul-result c = omega (arith, pairs _ (c .pre .1))
 
--- src/lib.rt:54:5
 mul-result-2 : tie.Need-mul-result-2
 mul-result-2 c = omega (arith, whole _ _ (c .pre .0) (pairs _ (c .pre .1)))
 
--- src/lib.rt:50:1
 returns : tie.Need-returns
 returns c = search needs
 

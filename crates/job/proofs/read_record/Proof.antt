@@ -3,66 +3,46 @@ use Rattle.job.proofs.Readings.{readable, prepared, chars-part, prepare
 use borrow.Author.Needs.{needs}
 use Rattle.job.proofs.read_record.Statement.{statement}
 use Rattle.job.proofs.read_record.Tie as tie
-use Rattle.job.proofs.read_record.Reads as reads
-use Rattle.job.proofs.read_record.Lts as lts
-use Rattle.choose.proofs.choose.Reads as choose-reads
-use Rattle.items.proofs.build_items.Reads as build-items-reads
-use Rattle.job.proofs.why_walked.Reads as why-walked-reads
-use Rattle.job.proofs.wide.Reads as wide-reads
 
--- src/lib.rt:152:9
 wide-requires : tie.Need-wide-requires
 wide-requires c κs = search needs
 
--- src/lib.rt:153:9
 build-items-requires : tie.Need-build-items-requires
 build-items-requires c κs = prepared _ _ _ _ (c .before .before .before .before .before .before .before .pre .started) (c .before .before .before .before .before .before .before .pre .long)
 
--- src/lib.rt:155:52
 slice-aggregate-choose : tie.Need-slice-aggregate-choose
 slice-aggregate-choose c = chars-part _ _ _ _ (c .before .before .before .before .before .before .before .before .before .before .before .before .pre .started)
 
--- src/lib.rt:155:9
 choose-requires : tie.Need-choose-requires
 choose-requires c κs = choosable _ _ _ _ (c .before .before .before .before .before .before .before .before .before .before .before .before .before .before .pre .started) _ _ _ (c .before .before .before .before .before .before .before .before .wide .ensures) (c .before .before .before .before .before .before .build-items .ensures (c .before .before .before .before .before .before .before .before .before .before .before .before .before .before .pre .started .grammar .tree) (readable _ _ _ _ (c .before .before .before .before .before .before .before .before .before .before .before .before .before .before .pre .started))) _ _ (c .before .before .before .before .before .before .before .before .before .before .before .before .before .before .pre .lent) (search needs) (c .before .before .before .before .before .before .before .before .before .before .before .before .before .before .pre .room)
 
--- src/lib.rt:156:25
 enum-known-walked : tie.Need-enum-known-walked
 enum-known-walked c = search needs
 
--- src/lib.rt:157:30
 why-walked-requires : tie.Need-why-walked-requires
 why-walked-requires c κs = search needs
 
--- src/lib.rt:157:9
 same-length : tie.Need-same-length
 same-length c = search needs
 
--- src/lib.rt:157:9
 same-length-2 : tie.Need-same-length-2
 same-length-2 c = search needs
 
--- src/lib.rt:157:9
 same-length-3 : tie.Need-same-length-3
 same-length-3 c = search needs
 
--- src/lib.rt:157:9
 returns : tie.Need-returns
 returns c = λ j w. not-read j _ _ _ w _ _ _ (c .before .before .before .before .before .before .before .before .before .before .before .before .before .before .before .wide .ensures) (c .before .before .before .before .before .before .before .before .before .before .before .before .before .build-items .ensures (w .grammar .tree) (readable j _ _ _ w)) (c .before .before .before .before .before .before .choose .last .1 .1 .1 .1 .1 .0) (c .before .before .before .before .before .before .choose .result) (c .before .before .before .before .before .before .choose .ensures (w .grammar .tree) (prepares j _ _ _ w _ _ _ (c .before .before .before .before .before .before .before .before .before .before .before .before .before .before .before .wide .ensures) (c .before .before .before .before .before .before .before .before .before .before .before .before .before .build-items .ensures (w .grammar .tree) (readable j _ _ _ w)))) (c .before .match .keys2) _ (c .why-walked .ensures)
 
--- src/lib.rt:141:1
 same-length-4 : tie.Need-same-length-4
 same-length-4 c = search needs
 
--- src/lib.rt:141:1
 same-length-5 : tie.Need-same-length-5
 same-length-5 c = search needs
 
--- src/lib.rt:141:1
 same-length-6 : tie.Need-same-length-6
 same-length-6 c = search needs
 
--- src/lib.rt:141:1
 returns-2 : tie.Need-returns-2
 returns-2 c = λ j w. is-read j _ _ _ w _ _ _ (c .before .before .before .before .before .before .before .before .before .before .before .before .before .before .before .before .wide .ensures) (c .before .before .before .before .before .before .before .before .before .before .before .before .before .before .build-items .ensures (w .grammar .tree) (readable j _ _ _ w)) _ _ (c .before .before .before .before .before .before .before .choose .ensures (w .grammar .tree) (prepares j _ _ _ w _ _ _ (c .before .before .before .before .before .before .before .before .before .before .before .before .before .before .before .before .wide .ensures) (c .before .before .before .before .before .before .before .before .before .before .before .before .before .before .build-items .ensures (w .grammar .tree) (readable j _ _ _ w)))) _ _ (c .before .walked .given .1)
 

@@ -2,10 +2,6 @@ use borrow.Author.Needs.{needs}
 use Rattle.load.proofs.Loads.{readable, no-tree, standing, judged}
 use Rattle.load.proofs.read_text.Statement.{statement}
 use Rattle.load.proofs.read_text.Tie as tie
-use Rattle.load.proofs.read_text.Reads as reads
-use Rattle.load.proofs.read_text.Lts as lts
-use Rattle.load.proofs.judge.Reads as judge-reads
-use Rattle.reader.proofs.read_grammar.Reads as read-grammar-reads
 
 read-grammar-requires : tie.Need-read-grammar-requires
 read-grammar-requires c κs = readable (c .before .before .before .args .text .now) (c .before .before .before .args .table .now) (c .before .before .before .pre)

@@ -8,10 +8,6 @@ use Rattle.measure.proofs.Walk.{here-below}
 use Rattle.measure.proofs.Sizes.{Summing, sum-start, sum-here, sum-steps, sum-next, sum-done}
 use Rattle.measure.proofs.grammar_size.Statement.{statement}
 use Rattle.measure.proofs.grammar_size.Tie as tie
-use Rattle.measure.proofs.grammar_size.Reads as reads
-use Rattle.measure.proofs.grammar_size.Lts as lts
-use Rattle.measure.proofs.token_cost.Reads as token-cost-reads
-use Rattle.measure.proofs.token_end.Reads as token-end-reads
 
 abbrev Inv-loop : tie.InvT-loop
 Inv-loop table end sum₀ at₀ sum at = ((g : Grammar) → Holds table end g → Summing table end at sum g) × (sum ≤ 10 * at) × (at ≤ end)
@@ -19,41 +15,32 @@ Inv-loop table end sum₀ at₀ sum at = ((g : Grammar) → Holds table end g �
 abbrev μ-loop : tie.MeasureT-loop
 μ-loop table end sum₀ at₀ sum at = end - at
 
--- src/lib.rt:112:5
 loop-holds : tie.Need-loop-holds Inv-loop μ-loop
 loop-holds c = (λ g h. sum-start h, omega arith, omega arith)
 
--- src/lib.rt:113:27
 mul-token-cost : tie.Need-mul-token-cost Inv-loop μ-loop
 mul-token-cost c = omega (arith, c .before .before .before .pre .small, c .before .before .before .pre .inside)
 
--- src/lib.rt:113:27
 shared-slice-read-token-cost : tie.Need-shared-slice-read-token-cost Inv-loop μ-loop
 shared-slice-read-token-cost c = omega (arith, c .before .before .before .before .pre .inside, c .before .loop-test .taken)
 
--- src/lib.rt:113:16
 token-cost-requires : tie.Need-token-cost-requires Inv-loop μ-loop
 token-cost-requires c κs = search needs
 
--- src/lib.rt:113:9
 add-sum : tie.Need-add-sum Inv-loop μ-loop
 add-sum c = omega (arith, c .before .before .before .before .before .pre .small, c .before .before .before .before .before .pre .inside, c .token-cost .ensures .1, c .before .before .before .loop .inv .1, c .before .before .loop-test .taken)
 
--- src/lib.rt:114:9
 token-end-requires : tie.Need-token-end-requires Inv-loop μ-loop
 token-end-requires c κs = sum-here (c .before .before .loop-test .taken) (c .before .before .before .before .before .pre .inside) (c .before .before .before .loop .inv .0 (c .before .before .before .before .before .pre .tree) (c .before .before .before .before .before .pre .holds)) (c .before .before .before .before .before .pre .small)
 
--- src/lib.rt:112:5
 loop-less : tie.Need-loop-less Inv-loop μ-loop
 loop-less c = let s = sum-steps (c .before .before .before .loop-test .taken) (c .before .before .before .before .before .before .pre .inside) (c .before .before .before .before .loop .inv .0 (c .before .before .before .before .before .before .pre .tree) (c .before .before .before .before .before .before .pre .holds)) in omega (arith, c .token-end .ensures, s .forward, s .within)
 
--- src/lib.rt:112:5
 loop-again : tie.Need-loop-again Inv-loop μ-loop
 loop-again c =
     let s = sum-steps (c .before .before .before .loop-test .taken) (c .before .before .before .before .before .before .pre .inside) (c .before .before .before .before .loop .inv .0 (c .before .before .before .before .before .before .pre .tree) (c .before .before .before .before .before .before .pre .holds)) in
     (λ g h. rw (c .token-end .ensures, c .before .token-cost .ensures .0) (sum-next (c .before .before .before .loop-test .taken) (c .before .before .before .before .before .before .pre .inside) (c .before .before .before .before .loop .inv .0 g h)), omega (arith, c .token-end .ensures, s .forward, c .before .token-cost .ensures .1, c .before .before .before .before .loop .inv .1), omega (arith, c .token-end .ensures, s .within))
 
--- src/lib.rt:106:1
 returns : tie.Need-returns Inv-loop μ-loop
 returns c = λ g h. sum-done (c .loop-test .left) (c .before .before .before .pre .inside) (c .before .loop .inv .0 g h)
 

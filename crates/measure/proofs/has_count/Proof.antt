@@ -3,30 +3,23 @@ use borrow.Author.Tests.{lt-ltb, le-ltb, eq-eqb, ne-eqb}
 use Rattle.measure.specs.Walk.{hasCount}
 use Rattle.measure.proofs.has_count.Statement.{statement}
 use Rattle.measure.proofs.has_count.Tie as tie
-use Rattle.measure.proofs.has_count.Reads as reads
-use Rattle.measure.proofs.has_count.Lts as lts
 
--- src/lib.rt:14:9
 returns : tie.Need-returns
 unfolding hasCount
 returns c = simp (lt-ltb _ _ (c .if1 .taken))
 
--- src/lib.rt:17:9
 returns-2 : tie.Need-returns-2
 unfolding hasCount
 returns-2 c = simp (le-ltb _ _ (c .before .if1 .left), lt-ltb _ _ (c .if2 .taken))
 
--- src/lib.rt:20:9
 returns-3 : tie.Need-returns-3
 unfolding hasCount
 returns-3 c = simp (le-ltb _ _ (c .before .before .if1 .left), le-ltb _ _ (c .before .if2 .left), lt-ltb _ _ (c .if3 .taken))
 
--- src/lib.rt:23:9
 returns-4 : tie.Need-returns-4
 unfolding hasCount
 returns-4 c = simp (le-ltb _ _ (c .before .before .before .if1 .left), le-ltb _ _ (c .before .before .if2 .left), le-ltb _ _ (c .before .if3 .left), eq-eqb _ _ (c .if4 .taken))
 
--- src/lib.rt:10:1
 returns-5 : tie.Need-returns-5
 unfolding hasCount
 returns-5 c = simp (le-ltb _ _ (c .before .before .before .if1 .left), le-ltb _ _ (c .before .before .if2 .left), le-ltb _ _ (c .before .if3 .left), ne-eqb _ _ (c .if4 .left))

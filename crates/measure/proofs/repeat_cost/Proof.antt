@@ -3,35 +3,27 @@ use borrow.Author.Tests.{lt-ltb, le-ltb, eq-eqb, ne-eqb}
 use Rattle.measure.specs.Walk.{repeatCostOf}
 use Rattle.measure.proofs.repeat_cost.Statement.{statement}
 use Rattle.measure.proofs.repeat_cost.Tie as tie
-use Rattle.measure.proofs.repeat_cost.Reads as reads
-use Rattle.measure.proofs.repeat_cost.Lts as lts
 
--- src/lib.rt:88:9
 returns : tie.Need-returns
 unfolding repeatCostOf
 returns c = (simp (eq-eqb _ _ (c .if1 .taken)), omega arith)
 
--- src/lib.rt:91:9
 returns-2 : tie.Need-returns-2
 unfolding repeatCostOf
 returns-2 c = (simp (ne-eqb _ _ (c .before .if1 .left), eq-eqb _ _ (c .if2 .taken)), omega arith)
 
--- src/lib.rt:94:9
 returns-3 : tie.Need-returns-3
 unfolding repeatCostOf
 returns-3 c = (simp (ne-eqb _ _ (c .before .before .if1 .left), ne-eqb _ _ (c .before .if2 .left), eq-eqb _ _ (c .if3 .taken)), omega arith)
 
--- src/lib.rt:97:9
 returns-4 : tie.Need-returns-4
 unfolding repeatCostOf
 returns-4 c = (simp (ne-eqb _ _ (c .before .before .before .if1 .left), ne-eqb _ _ (c .before .before .if2 .left), ne-eqb _ _ (c .before .if3 .left), eq-eqb _ _ (c .if4 .taken)), omega arith)
 
--- src/lib.rt:100:9
 returns-5 : tie.Need-returns-5
 unfolding repeatCostOf
 returns-5 c = (simp (ne-eqb _ _ (c .before .before .before .before .if1 .left), ne-eqb _ _ (c .before .before .before .if2 .left), ne-eqb _ _ (c .before .before .if3 .left), ne-eqb _ _ (c .before .if4 .left), eq-eqb _ _ (c .if5 .taken)), omega arith)
 
--- src/lib.rt:84:1
 returns-6 : tie.Need-returns-6
 unfolding repeatCostOf
 returns-6 c = (simp (ne-eqb _ _ (c .before .before .before .before .if1 .left), ne-eqb _ _ (c .before .before .before .if2 .left), ne-eqb _ _ (c .before .before .if3 .left), ne-eqb _ _ (c .before .if4 .left), ne-eqb _ _ (c .if5 .left)), omega arith)

@@ -4,40 +4,30 @@ use Rattle.measure.specs.Walk.{costOf}
 use borrow.Author.Needs.{needs}
 use Rattle.measure.proofs.token_cost.Statement.{statement}
 use Rattle.measure.proofs.token_cost.Tie as tie
-use Rattle.measure.proofs.token_cost.Reads as reads
-use Rattle.measure.proofs.token_cost.Lts as lts
-use Rattle.measure.proofs.repeat_cost.Reads as repeat-cost-reads
 
--- src/lib.rt:67:9
 returns : tie.Need-returns
 unfolding costOf
 returns c = (simp (lt-ltb _ _ (c .if1 .taken)), omega arith)
 
--- src/lib.rt:70:9
 returns-2 : tie.Need-returns-2
 unfolding costOf
 returns-2 c = (simp (le-ltb _ _ (c .before .if1 .left), lt-ltb _ _ (c .if2 .taken)), omega arith)
 
--- src/lib.rt:73:9
 returns-3 : tie.Need-returns-3
 unfolding costOf
 returns-3 c = (simp (le-ltb _ _ (c .before .before .if1 .left), le-ltb _ _ (c .before .if2 .left), lt-ltb _ _ (c .if3 .taken)), omega arith)
 
--- src/lib.rt:76:9
 returns-4 : tie.Need-returns-4
 unfolding costOf
 returns-4 c = (simp (le-ltb _ _ (c .before .before .before .if1 .left), le-ltb _ _ (c .before .before .if2 .left), le-ltb _ _ (c .before .if3 .left), eq-eqb _ _ (c .if4 .taken)), omega arith)
 
--- src/lib.rt:79:9
 returns-5 : tie.Need-returns-5
 unfolding costOf
 returns-5 c = (simp (le-ltb _ _ (c .before .before .before .before .if1 .left), le-ltb _ _ (c .before .before .before .if2 .left), le-ltb _ _ (c .before .before .if3 .left), ne-eqb _ _ (c .before .if4 .left), eq-eqb _ _ (c .if5 .taken)), omega arith)
 
--- src/lib.rt:81:5
 repeat-cost-requires : tie.Need-repeat-cost-requires
 repeat-cost-requires c κs = search needs
 
--- src/lib.rt:63:1
 returns-6 : tie.Need-returns-6
 unfolding costOf
 returns-6 c = (simp (le-ltb _ _ (c .before .before .before .before .before .if1 .left), le-ltb _ _ (c .before .before .before .before .if2 .left), le-ltb _ _ (c .before .before .before .if3 .left), ne-eqb _ _ (c .before .before .if4 .left), ne-eqb _ _ (c .before .if5 .left)) (c .repeat-cost .ensures .0), omega arith)

@@ -5,60 +5,43 @@ use Rattle.measure.proofs.Walk.{here-inside, here-below, width-counted,
 use borrow.Author.Needs.{needs}
 use Rattle.measure.proofs.token_end.Statement.{statement}
 use Rattle.measure.proofs.token_end.Tie as tie
-use Rattle.measure.proofs.token_end.Reads as reads
-use Rattle.measure.proofs.token_end.Lts as lts
-use Rattle.measure.proofs.fixed_width.Reads as fixed-width-reads
-use Rattle.measure.proofs.has_count.Reads as has-count-reads
 
--- src/lib.rt:55:13
 mul-k : tie.Need-mul-k
 mul-k c = omega (arith, here-below _ _ (c .before .pre), c .before .pre .small)
 
--- src/lib.rt:55:13
 shared-slice-read-k : tie.Need-shared-slice-read-k
 shared-slice-read-k c = here-below _ _ (c .before .before .pre)
 
--- src/lib.rt:56:8
 has-count-requires : tie.Need-has-count-requires
 has-count-requires c κs = search needs
 
--- src/lib.rt:57:28
 add-result : tie.Need-add-result
 add-result c = omega (arith, here-below _ _ (c .before .before .before .before .pre), c .before .before .before .before .pre .small)
 
--- src/lib.rt:57:22
 mul-result : tie.Need-mul-result
 mul-result c = omega (arith, here-below _ _ (c .before .before .before .before .pre), c .before .before .before .before .pre .small)
 
--- src/lib.rt:57:22
 shared-slice-read-result : tie.Need-shared-slice-read-result
 shared-slice-read-result c = omega (arith, here-inside _ _ (c .before .before .before .before .before .pre), width-counted (c .before .before .before .before .before .args .table .now) (c .before .before .before .before .before .args .at) (sym (c .before .before .has-count .ensures) ∙ c .before .if1 .taken))
 
--- src/lib.rt:57:22
 cast-result : tie.Need-cast-result
 cast-result c = omega (arith, c .shared-slice-known3 .given (c .before .before .before .before .before .args .at + 1))
 
--- src/lib.rt:57:22
 add-result-2 : tie.Need-add-result-2
 add-result-2 c = omega (arith, c .shared-slice-known3 .given (c .before .before .before .before .before .args .at + 1))
 
--- src/lib.rt:57:16
 add-result-3 : tie.Need-add-result-3
 add-result-3 c = omega (arith, c .shared-slice-known3 .given (c .before .before .before .before .before .args .at + 1), here-below _ _ (c .before .before .before .before .before .pre), c .before .before .before .before .before .pre .small)
 
--- src/lib.rt:57:9
 returns : tie.Need-returns
 returns c = ap (_+_ (c .before .before .before .before .before .args .at)) (sym (width-counted (c .before .before .before .before .before .args .table .now) (c .before .before .before .before .before .args .at) (sym (c .before .before .has-count .ensures) ∙ c .before .if1 .taken)))
 
--- src/lib.rt:59:10
 fixed-width-requires : tie.Need-fixed-width-requires
 fixed-width-requires c κs = search needs
 
--- src/lib.rt:59:5
 add-result-4 : tie.Need-add-result-4
 add-result-4 c = omega (arith, here-below _ _ (c .before .before .before .before .before .pre), c .before .before .before .before .before .pre .small, c .fixed-width .ensures .1)
 
--- src/lib.rt:51:1
 returns-2 : tie.Need-returns-2
 returns-2 c = ap (_+_ (c .before .before .before .before .before .args .at)) (c .fixed-width .ensures .0 ∙ sym (width-fixed (c .before .before .before .before .before .args .table .now) (c .before .before .before .before .before .args .at) (sym (c .before .before .has-count .ensures) ∙ c .before .if1 .left)))
 

@@ -1,5 +1,4 @@
 use native.Mathlib.Omega.{arith}
-use borrow.Author.Needs.{needs}
 use mathlib.Core.Path.{_≡_, sym, _∙_, ap}
 use Prim.Native.Nat.{_-_}
 use lib.ListN.{length}
@@ -7,10 +6,6 @@ use Rattle.measure.proofs.Walk.{here-inside}
 use Rattle.prepare.proofs.Places.{Going, go-start, go-end, go-head, go-found, go-next, go-steps, members-some, head-here, head-token}
 use Rattle.prepare.proofs.any_member.Statement.{statement}
 use Rattle.prepare.proofs.any_member.Tie as tie
-use Rattle.prepare.proofs.any_member.Reads as reads
-use Rattle.prepare.proofs.any_member.Lts as lts
-use Rattle.measure.proofs.token_end.Reads as token-end-reads
-use Rattle.prepare.proofs.member_matches.Reads as member-matches-reads
 
 abbrev Inv-loop : tie.InvT-loop
 Inv-loop table from c at₀ at = Going table from c at
@@ -18,39 +13,30 @@ Inv-loop table from c at₀ at = Going table from c at
 abbrev μ-loop : tie.MeasureT-loop
 μ-loop table from c at₀ at = length table - at
 
--- src/lib.rt:107:5
 loop-holds : tie.Need-loop-holds Inv-loop μ-loop
 loop-holds c = go-start (c .before .args .c) (c .before .pre)
 
--- src/lib.rt:107:11
 mul-if1 : tie.Need-mul-if1 Inv-loop μ-loop
 mul-if1 c = omega (arith, members-some (c .loop .inv .here .members) (c .loop .inv .here .are), c .loop .inv .here .small)
 
--- src/lib.rt:107:11
 shared-slice-read-if1 : tie.Need-shared-slice-read-if1 Inv-loop μ-loop
 shared-slice-read-if1 c = omega (arith, members-some (c .before .loop .inv .here .members) (c .before .loop .inv .here .are), c .before .loop .inv .here .small)
 
--- src/lib.rt:108:12
 member-matches-requires : tie.Need-member-matches-requires Inv-loop μ-loop
 member-matches-requires c κs = head-here (go-head (c .before .before .loop .inv) (c .if1 .taken)) (c .before .before .loop .inv .here .small)
 
--- src/lib.rt:109:13
 returns : tie.Need-returns Inv-loop μ-loop
 returns c = go-found (c .before .before .before .before .loop .inv) (c .before .before .if1 .taken) (c .before .member-matches .result) (c .before .member-matches .ensures) (c .if2 .taken)
 
--- src/lib.rt:111:9
 token-end-requires : tie.Need-token-end-requires Inv-loop μ-loop
 token-end-requires c κs = head-token (go-head (c .before .before .before .before .loop .inv) (c .before .before .if1 .taken)) (c .before .before .before .before .loop .inv .here .small)
 
--- src/lib.rt:107:5
 loop-less : tie.Need-loop-less Inv-loop μ-loop
 loop-less c = omega (arith, c .token-end .ensures, go-steps (c .before .before .before .before .before .loop .inv) (c .before .before .before .if1 .taken), here-inside _ _ (head-token (go-head (c .before .before .before .before .before .loop .inv) (c .before .before .before .if1 .taken)) (c .before .before .before .before .before .loop .inv .here .small)))
 
--- src/lib.rt:107:5
 loop-again : tie.Need-loop-again Inv-loop μ-loop
 loop-again c = rw (c .token-end .ensures) (go-next (c .before .before .before .before .before .loop .inv) (c .before .before .before .if1 .taken) (c .before .before .member-matches .result) (c .before .before .member-matches .ensures) (c .before .if2 .left))
 
--- src/lib.rt:102:1
 returns-2 : tie.Need-returns-2 Inv-loop μ-loop
 returns-2 c = go-end (c .before .before .loop .inv) (c .if1 .left)
 

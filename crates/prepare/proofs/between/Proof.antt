@@ -1,14 +1,10 @@
 use borrow.Author.Tests.{lt-leb, le-leb}
 use Rattle.prepare.proofs.between.Statement.{statement}
 use Rattle.prepare.proofs.between.Tie as tie
-use Rattle.prepare.proofs.between.Reads as reads
-use Rattle.prepare.proofs.between.Lts as lts
 
--- src/lib.rt:78:9
 returns : tie.Need-returns
 returns c = simp (lt-leb _ _ (c .if1 .taken))
 
--- src/lib.rt:74:1
 returns-2 : tie.Need-returns-2
 returns-2 c = simp (le-leb _ _ (c .if1 .left))
 

@@ -1,13 +1,9 @@
 use native.Mathlib.Omega.{arith}
 use mathlib.Core.Path.{sym, _∙_, ap}
 use Prim.Native.Nat.{_-_}
-use borrow.Author.Needs.{needs}
 use Rattle.prepare.proofs.Arrays.{Coding, code-start, code-next, code-end}
 use Rattle.prepare.proofs.code_items.Statement.{statement}
 use Rattle.prepare.proofs.code_items.Tie as tie
-use Rattle.prepare.proofs.code_items.Reads as reads
-use Rattle.prepare.proofs.code_items.Lts as lts
-use Rattle.prepare.proofs.code_item.Reads as code-item-reads
 
 abbrev Inv-loop : tie.InvT-loop
 Inv-loop table size code₀ p₀ code p = Coding table size code₀ code p
@@ -15,31 +11,24 @@ Inv-loop table size code₀ p₀ code p = Coding table size code₀ code p
 abbrev μ-loop : tie.MeasureT-loop
 μ-loop table size code₀ p₀ code p = size - p
 
--- src/lib.rt:270:5
 loop-holds : tie.Need-loop-holds Inv-loop μ-loop
 loop-holds c = code-start (c .before .before .args .table .now) (c .before .before .args .size) (c .before .before .args .code .now)
 
--- src/lib.rt:271:9
 code-item-requires : tie.Need-code-item-requires Inv-loop μ-loop
 code-item-requires c κs = record { long = c .before .before .before .before .before .pre .long; small = c .before .before .before .before .before .pre .small; room = omega (arith, c .before .before .before .before .before .pre .room, c .before .before .loop .inv .long); inside = c .before .loop-test .taken; reach = c .before .before .before .before .before .pre .reach (c .before .before .loop .p) (c .before .loop-test .taken) }
 
--- src/lib.rt:272:9
 add-p : tie.Need-add-p Inv-loop μ-loop
 add-p c = omega (arith, c .before .before .before .before .before .before .before .before .pre .long, c .before .before .before .before .before .before .before .before .pre .small, c .before .before .before .before .before .before .before .before .pre .room, c .before .before .before .before .before .loop .inv .low, c .before .before .before .before .before .loop .inv .long, c .before .before .before .before .loop-test .taken)
 
--- src/lib.rt:270:5
 loop-less : tie.Need-loop-less Inv-loop μ-loop
 loop-less c = omega (arith, c .before .before .before .before .before .before .before .before .pre .long, c .before .before .before .before .before .before .before .before .pre .small, c .before .before .before .before .before .before .before .before .pre .room, c .before .before .before .before .before .loop .inv .low, c .before .before .before .before .before .loop .inv .long, c .before .before .before .before .loop-test .taken)
 
--- src/lib.rt:270:5
 loop-again : tie.Need-loop-again Inv-loop μ-loop
 loop-again c = code-next (c .before .before .before .before .before .loop .inv) (c .before .before .before .before .loop-test .taken) (c .before .before .code-item .ensures)
 
--- src/lib.rt:265:1
 same-length : tie.Need-same-length Inv-loop μ-loop
 same-length c = c .before .loop .inv .long
 
--- src/lib.rt:265:1
 returns : tie.Need-returns Inv-loop μ-loop
 returns c = code-end (c .before .loop .inv) (c .loop-test .left)
 

@@ -4,64 +4,46 @@ use Rattle.prepare.proofs.Rows.{item-skip, item-row}
 use borrow.Author.Needs.{needs}
 use Rattle.prepare.proofs.fit_item.Statement.{statement}
 use Rattle.prepare.proofs.fit_item.Tie as tie
-use Rattle.prepare.proofs.fit_item.Reads as reads
-use Rattle.prepare.proofs.fit_item.Lts as lts
-use Rattle.prepare.proofs.fit_row.Reads as fit-row-reads
-use Rattle.prepare.proofs.wide.Reads as wide-reads
 
--- src/lib.rt:174:22
 mul-if1 : tie.Need-mul-if1
 mul-if1 c = search needs
 
--- src/lib.rt:174:14
 add-if1 : tie.Need-add-if1
 add-if1 c = search needs
 
--- src/lib.rt:174:8
 mul-if1-2 : tie.Need-mul-if1-2
 mul-if1-2 c = search needs
 
--- src/lib.rt:174:8
 shared-slice-read-if1 : tie.Need-shared-slice-read-if1
 shared-slice-read-if1 c = search needs
 
--- src/lib.rt:175:9
 returns : tie.Need-returns
 returns c = search needs
 
--- src/lib.rt:177:39
 mul-wide : tie.Need-mul-wide
 mul-wide c = search needs
 
--- src/lib.rt:177:31
 add-wide : tie.Need-add-wide
 add-wide c = search needs
 
--- src/lib.rt:177:25
 mul-wide-2 : tie.Need-mul-wide-2
 mul-wide-2 c = search needs
 
--- src/lib.rt:177:25
 shared-slice-read-wide : tie.Need-shared-slice-read-wide
 shared-slice-read-wide c = search needs
 
--- src/lib.rt:177:20
 wide-requires : tie.Need-wide-requires
 wide-requires c κs = search needs
 
--- src/lib.rt:177:60
 mul-fit-row : tie.Need-mul-fit-row
 mul-fit-row c = search needs
 
--- src/lib.rt:177:5
 fit-row-requires : tie.Need-fit-row-requires
 fit-row-requires c κs = record { small = omega (arith, c .before .before .before .before .before .before .before .before .pre .0 .long); short = c .before .before .before .before .before .before .before .before .pre .0 .short; here = rw (c .before .wide .ensures) (c .before .before .before .before .before .before .before .before .pre .0 .here (c .before .before .before .before .before .before .before .before .args .p) (c .before .before .before .before .before .before .before .before .pre .1) (c .before .before .before .if1 .left)); room = omega (arith, c .before .before .before .before .before .before .before .before .pre .0 .short, c .before .before .before .before .before .before .before .before .pre .0 .room, c .before .before .before .before .before .before .before .before .pre .1) }
 
--- src/lib.rt:170:1
 same-length : tie.Need-same-length
 same-length c = search needs
 
--- src/lib.rt:170:1
 returns-2 : tie.Need-returns-2
 returns-2 c = item-row (c .before .before .before .before .wide .ensures) (c .before .before .before .before .before .before .before .before .before .before .before .pre .0 .short) (c .before .before .fit-row .ensures)
 

@@ -1,13 +1,9 @@
 use native.Mathlib.Omega.{arith}
-use borrow.Author.Needs.{needs}
 use mathlib.Core.Path.{_≡_, refl, sym, _∙_, ap}
 use Prim.Native.Nat.{_-_}
 use Rattle.prepare.proofs.Rows.{RowsBelow, rows-start, rows-next, rows-end}
 use Rattle.prepare.proofs.fit_rows.Statement.{statement}
 use Rattle.prepare.proofs.fit_rows.Tie as tie
-use Rattle.prepare.proofs.fit_rows.Reads as reads
-use Rattle.prepare.proofs.fit_rows.Lts as lts
-use Rattle.prepare.proofs.fit_item.Reads as fit-item-reads
 
 abbrev Inv-loop : tie.InvT-loop
 Inv-loop table size text fits₀ p₀ fits p = RowsBelow table size text fits₀ fits p
@@ -15,31 +11,24 @@ Inv-loop table size text fits₀ p₀ fits p = RowsBelow table size text fits₀
 abbrev μ-loop : tie.MeasureT-loop
 μ-loop table size text fits₀ p₀ fits p = size - p
 
--- src/lib.rt:185:5
 loop-holds : tie.Need-loop-holds Inv-loop μ-loop
 loop-holds c = rows-start (c .before .before .before .args .table .now) (c .before .before .before .args .size) (c .before .before .before .args .text .now) (c .before .before .before .args .fits .now)
 
--- src/lib.rt:186:9
 fit-item-requires : tie.Need-fit-item-requires Inv-loop μ-loop
 fit-item-requires c κs = (record { long = c .before .before .before .before .before .before .pre .long; small = c .before .before .before .before .before .before .pre .small; short = c .before .before .before .before .before .before .pre .short; room = omega (arith, c .before .before .before .before .before .before .pre .room, c .before .before .loop .inv .long); here = c .before .before .before .before .before .before .pre .here }, c .before .loop-test .taken)
 
--- src/lib.rt:187:9
 add-p : tie.Need-add-p Inv-loop μ-loop
 add-p c = omega (arith, c .before .before .before .before .before .before .before .before .before .pre .small, c .before .before .before .before .before .loop .inv .low, c .before .before .before .before .before .loop .inv .long, c .before .before .before .before .loop-test .taken)
 
--- src/lib.rt:185:5
 loop-less : tie.Need-loop-less Inv-loop μ-loop
 loop-less c = omega (arith, c .before .before .before .before .before .before .before .before .before .pre .small, c .before .before .before .before .before .loop .inv .low, c .before .before .before .before .before .loop .inv .long, c .before .before .before .before .loop-test .taken)
 
--- src/lib.rt:185:5
 loop-again : tie.Need-loop-again Inv-loop μ-loop
 loop-again c = rows-next (c .before .before .before .before .before .loop .inv) (c .before .before .before .before .loop-test .taken) (c .before .before .fit-item .ensures)
 
--- src/lib.rt:180:1
 same-length : tie.Need-same-length Inv-loop μ-loop
 same-length c = c .before .loop .inv .long
 
--- src/lib.rt:180:1
 returns : tie.Need-returns Inv-loop μ-loop
 returns c = rows-end (c .before .loop .inv) (c .loop-test .left)
 

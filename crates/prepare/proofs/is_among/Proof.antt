@@ -3,8 +3,6 @@ use Prim.Native.Nat.{_-_}
 use Rattle.prepare.proofs.Stretches.{Seeking, seek-start, seek-end, seek-here, seek-more}
 use Rattle.prepare.proofs.is_among.Statement.{statement}
 use Rattle.prepare.proofs.is_among.Tie as tie
-use Rattle.prepare.proofs.is_among.Reads as reads
-use Rattle.prepare.proofs.is_among.Lts as lts
 
 abbrev Inv-loop : tie.InvT-loop
 Inv-loop table at n c k₀ k = Seeking table at n c k
@@ -12,39 +10,30 @@ Inv-loop table at n c k₀ k = Seeking table at n c k
 abbrev μ-loop : tie.MeasureT-loop
 μ-loop table at n c k₀ k = n - k
 
--- src/lib.rt:65:5
 loop-holds : tie.Need-loop-holds Inv-loop μ-loop
 loop-holds c = seek-start (c .pre) (c .args .c)
 
--- src/lib.rt:66:18
 add-if1 : tie.Need-add-if1 Inv-loop μ-loop
 add-if1 c = omega (arith, c .before .before .pre .small, c .before .before .pre .inside, c .before .loop .inv .low, c .loop-test .taken)
 
--- src/lib.rt:66:12
 mul-if1 : tie.Need-mul-if1 Inv-loop μ-loop
 mul-if1 c = omega (arith, c .before .before .pre .small, c .before .before .pre .inside, c .before .loop .inv .low, c .loop-test .taken)
 
--- src/lib.rt:66:12
 shared-slice-read-if1 : tie.Need-shared-slice-read-if1 Inv-loop μ-loop
 shared-slice-read-if1 c = omega (arith, c .before .before .before .pre .small, c .before .before .before .pre .inside, c .before .before .loop .inv .low, c .before .loop-test .taken)
 
--- src/lib.rt:67:13
 returns : tie.Need-returns Inv-loop μ-loop
 returns c = seek-here (c .before .before .before .before .pre) (c .before .before .before .before .args .c) (c .before .before .before .loop .inv) (c .before .before .loop-test .taken) (c .if1 .taken)
 
--- src/lib.rt:69:9
 add-k : tie.Need-add-k Inv-loop μ-loop
 add-k c = omega (arith, c .before .before .before .before .pre .small, c .before .before .before .before .pre .inside, c .before .before .before .loop .inv .low, c .before .before .loop-test .taken)
 
--- src/lib.rt:65:5
 loop-less : tie.Need-loop-less Inv-loop μ-loop
 loop-less c = omega (arith, c .before .before .before .before .pre .small, c .before .before .before .before .pre .inside, c .before .before .before .loop .inv .low, c .before .before .loop-test .taken)
 
--- src/lib.rt:65:5
 loop-again : tie.Need-loop-again Inv-loop μ-loop
 loop-again c = seek-more (c .before .before .before .before .pre) (c .before .before .before .before .args .c) (c .before .before .before .loop .inv) (c .before .before .loop-test .taken) (c .if1 .left)
 
--- src/lib.rt:60:1
 returns-2 : tie.Need-returns-2 Inv-loop μ-loop
 returns-2 c = seek-end (c .before .before .pre) (c .before .before .args .c) (c .before .loop .inv) (c .loop-test .left)
 

@@ -10,131 +10,94 @@ use Rattle.category.specs.Category.{inClass}
 use borrow.Author.Needs.{needs}
 use Rattle.prepare.proofs.member_matches.Statement.{statement}
 use Rattle.prepare.proofs.member_matches.Tie as tie
-use Rattle.prepare.proofs.member_matches.Reads as reads
-use Rattle.prepare.proofs.member_matches.Lts as lts
-use Rattle.category.proofs.class_of.Reads as class-of-reads
-use Rattle.category.proofs.in_class.Reads as in-class-reads
-use Rattle.prepare.proofs.between.Reads as between-reads
-use Rattle.prepare.proofs.is_among.Reads as is-among-reads
-use Rattle.prepare.proofs.wide.Reads as wide-reads
 
--- src/lib.rt:88:16
 mul-kind : tie.Need-mul-kind
 mul-kind c = omega (arith, c .before .pre .small, here-some (c .before .pre))
 
--- src/lib.rt:88:16
 shared-slice-read-kind : tie.Need-shared-slice-read-kind
 shared-slice-read-kind c = omega (arith, c .before .before .pre .small, here-some (c .before .before .pre))
 
--- src/lib.rt:90:32
 add-is-among : tie.Need-add-is-among
 add-is-among c = omega (arith, c .before .before .before .pre .small, here-some (c .before .before .before .pre), here-counted (c .before .before .before .pre) (c .if1 .taken))
 
--- src/lib.rt:90:51
 add-wide : tie.Need-add-wide
 add-wide c = omega (arith, c .before .before .before .pre .small, here-some (c .before .before .before .pre), here-counted (c .before .before .before .pre) (c .if1 .taken))
 
--- src/lib.rt:90:45
 mul-wide : tie.Need-mul-wide
 mul-wide c = omega (arith, c .before .before .before .pre .small, here-some (c .before .before .before .pre), here-counted (c .before .before .before .pre) (c .if1 .taken))
 
--- src/lib.rt:90:45
 shared-slice-read-wide : tie.Need-shared-slice-read-wide
 shared-slice-read-wide c = omega (arith, c .before .before .before .before .pre .small, here-some (c .before .before .before .before .pre), here-counted (c .before .before .before .before .pre) (c .before .if1 .taken))
 
--- src/lib.rt:90:40
 wide-requires : tie.Need-wide-requires
 wide-requires c κs = search needs
 
--- src/lib.rt:90:9
 is-among-requires : tie.Need-is-among-requires
 is-among-requires c κs = record { small = c .before .before .before .before .before .pre .small; inside = rw (c .wide .ensures) (here-counted (c .before .before .before .before .before .pre) (c .before .before .if1 .taken)) }
 
--- src/lib.rt:90:9
 returns : tie.Need-returns
 returns c = c .is-among .ensures ∙ ap (λ (n : ℕ). among (c .before .before .before .before .before .before .args .c) (take n (drop (c .before .before .before .before .before .before .args .at + 2) (c .before .before .before .before .before .before .args .table .now)))) (c .before .wide .ensures) ∙ match-counted (c .before .before .before .before .before .before .pre) (c .before .before .before .before .before .before .args .c) (c .before .before .before .if1 .taken)
 
--- src/lib.rt:93:27
 add-result : tie.Need-add-result
 add-result c = omega (arith, c .before .before .before .before .pre .small, here-some (c .before .before .before .before .pre), here-coded (c .before .before .before .before .pre) (c .if2 .taken))
 
--- src/lib.rt:93:21
 mul-result : tie.Need-mul-result
 mul-result c = omega (arith, c .before .before .before .before .pre .small, here-some (c .before .before .before .before .pre), here-coded (c .before .before .before .before .pre) (c .if2 .taken))
 
--- src/lib.rt:93:21
 shared-slice-read-result : tie.Need-shared-slice-read-result
 shared-slice-read-result c = omega (arith, c .before .before .before .before .before .pre .small, here-some (c .before .before .before .before .before .pre), here-coded (c .before .before .before .before .before .pre) (c .before .if2 .taken))
 
--- src/lib.rt:93:9
 returns-2 : tie.Need-returns-2
 returns-2 c = match-coded (c .before .before .before .before .before .pre) (c .before .before .before .before .before .args .c) (c .before .if2 .taken)
 
--- src/lib.rt:96:30
 add-between : tie.Need-add-between
 add-between c = omega (arith, c .before .before .before .before .before .pre .small, here-some (c .before .before .before .before .before .pre), here-ranged (c .before .before .before .before .before .pre) (c .if3 .taken))
 
--- src/lib.rt:96:24
 mul-between : tie.Need-mul-between
 mul-between c = omega (arith, c .before .before .before .before .before .pre .small, here-some (c .before .before .before .before .before .pre), here-ranged (c .before .before .before .before .before .pre) (c .if3 .taken))
 
--- src/lib.rt:96:24
 shared-slice-read-between : tie.Need-shared-slice-read-between
 shared-slice-read-between c = omega (arith, c .before .before .before .before .before .before .pre .small, here-some (c .before .before .before .before .before .before .pre), here-ranged (c .before .before .before .before .before .before .pre) (c .before .if3 .taken))
 
--- src/lib.rt:96:48
 add-between-2 : tie.Need-add-between-2
 add-between-2 c = omega (arith, c .before .before .before .before .before .before .pre .small, here-some (c .before .before .before .before .before .before .pre), here-ranged (c .before .before .before .before .before .before .pre) (c .before .if3 .taken))
 
--- src/lib.rt:96:42
 mul-between-2 : tie.Need-mul-between-2
 mul-between-2 c = omega (arith, c .before .before .before .before .before .before .pre .small, here-some (c .before .before .before .before .before .before .pre), here-ranged (c .before .before .before .before .before .before .pre) (c .before .if3 .taken))
 
--- src/lib.rt:96:42
 shared-slice-read-between-2 : tie.Need-shared-slice-read-between-2
 shared-slice-read-between-2 c = omega (arith, c .before .before .before .before .before .before .before .pre .small, here-some (c .before .before .before .before .before .before .before .pre), here-ranged (c .before .before .before .before .before .before .before .pre) (c .before .before .if3 .taken))
 
--- src/lib.rt:96:9
 between-requires : tie.Need-between-requires
 between-requires c κs = search needs
 
--- src/lib.rt:96:9
 returns-3 : tie.Need-returns-3
 returns-3 c = c .between .ensures ∙ match-ranged (c .before .before .before .before .before .before .before .before .pre) (c .before .before .before .before .before .before .before .before .args .c) (c .before .before .before .if3 .taken)
 
--- src/lib.rt:98:49
 add-class-of : tie.Need-add-class-of
 add-class-of c = omega (arith, c .before .before .before .before .before .pre .small, here-some (c .before .before .before .before .before .pre), here-classed (c .before .before .before .before .before .pre) (c .before .before .if1 .left) (c .before .if2 .left) (c .if3 .left))
 
--- src/lib.rt:98:43
 mul-class-of : tie.Need-mul-class-of
 mul-class-of c = omega (arith, c .before .before .before .before .before .pre .small, here-some (c .before .before .before .before .before .pre), here-classed (c .before .before .before .before .before .pre) (c .before .before .if1 .left) (c .before .if2 .left) (c .if3 .left))
 
--- src/lib.rt:98:43
 shared-slice-read-class-of : tie.Need-shared-slice-read-class-of
 shared-slice-read-class-of c = omega (arith, c .before .before .before .before .before .before .pre .small, here-some (c .before .before .before .before .before .before .pre), here-classed (c .before .before .before .before .before .before .pre) (c .before .before .before .if1 .left) (c .before .before .if2 .left) (c .before .if3 .left))
 
--- src/lib.rt:98:64
 add-class-of-2 : tie.Need-add-class-of-2
 add-class-of-2 c = omega (arith, c .before .before .before .before .before .before .pre .small, here-some (c .before .before .before .before .before .before .pre), here-classed (c .before .before .before .before .before .before .pre) (c .before .before .before .if1 .left) (c .before .before .if2 .left) (c .before .if3 .left))
 
--- src/lib.rt:98:58
 mul-class-of-2 : tie.Need-mul-class-of-2
 mul-class-of-2 c = omega (arith, c .before .before .before .before .before .before .pre .small, here-some (c .before .before .before .before .before .before .pre), here-classed (c .before .before .before .before .before .before .pre) (c .before .before .before .if1 .left) (c .before .before .if2 .left) (c .before .if3 .left))
 
--- src/lib.rt:98:58
 shared-slice-read-class-of-2 : tie.Need-shared-slice-read-class-of-2
 shared-slice-read-class-of-2 c = omega (arith, c .before .before .before .before .before .before .before .pre .small, here-some (c .before .before .before .before .before .before .before .pre), here-classed (c .before .before .before .before .before .before .before .pre) (c .before .before .before .before .if1 .left) (c .before .before .before .if2 .left) (c .before .before .if3 .left))
 
--- src/lib.rt:98:24
 class-of-requires : tie.Need-class-of-requires
 class-of-requires c κs = search needs
 
--- src/lib.rt:98:5
 in-class-requires : tie.Need-in-class-requires
 in-class-requires c κs = rw (c .class-of .ensures) (here-class (c .before .before .before .before .before .before .before .before .pre) (c .before .before .before .before .before .if1 .left) (c .before .before .before .before .if2 .left) (c .before .before .before .if3 .left))
 
--- src/lib.rt:84:1
 returns-4 : tie.Need-returns-4
 returns-4 c = c .in-class .ensures ∙ ap (λ (k : Text). inClass k (c .before .before .before .before .before .before .before .before .before .args .c)) (rw (c .before .class-of .ensures) (class-at (c .before .before .before .before .before .before .before .before .before .pre) (c .before .before .before .before .before .before .if1 .left) (c .before .before .before .before .before .if2 .left) (c .before .before .before .before .if3 .left))) ∙ match-class (c .before .before .before .before .before .before .before .before .before .pre) (c .before .before .before .before .before .before .if1 .left) (c .before .before .before .before .before .if2 .left) (c .before .before .before .before .if3 .left) (c .before .before .before .before .before .before .before .before .before .args .c)
 

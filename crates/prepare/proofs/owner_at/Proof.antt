@@ -4,44 +4,33 @@ use Rattle.prepare.specs.Ready.{ownerOf}
 use borrow.Author.Needs.{needs}
 use Rattle.prepare.proofs.owner_at.Statement.{statement}
 use Rattle.prepare.proofs.owner_at.Tie as tie
-use Rattle.prepare.proofs.owner_at.Reads as reads
-use Rattle.prepare.proofs.owner_at.Lts as lts
 
--- src/lib.rt:208:16
 add-result : tie.Need-add-result
 add-result c = search needs
 
--- src/lib.rt:208:9
 returns : tie.Need-returns
 unfolding ownerOf
 returns c = simp (eq-eqb _ _ (c .if1 .taken))
 
--- src/lib.rt:210:22
 mul-if2 : tie.Need-mul-if2
 mul-if2 c = search needs
 
--- src/lib.rt:210:14
 add-if2 : tie.Need-add-if2
 add-if2 c = search needs
 
--- src/lib.rt:210:8
 mul-if2-2 : tie.Need-mul-if2-2
 mul-if2-2 c = search needs
 
--- src/lib.rt:210:8
 shared-slice-read-if2 : tie.Need-shared-slice-read-if2
 shared-slice-read-if2 c = search needs
 
--- src/lib.rt:211:9
 returns-2 : tie.Need-returns-2
 unfolding ownerOf
 returns-2 c = simp (ne-eqb _ _ (c .before .before .if1 .left), lt-ltb _ _ (c .if2 .taken))
 
--- src/lib.rt:213:5
 add-result-2 : tie.Need-add-result-2
 add-result-2 c = search needs
 
--- src/lib.rt:203:1
 returns-3 : tie.Need-returns-3
 unfolding ownerOf
 returns-3 c = simp (ne-eqb _ _ (c .before .before .if1 .left), le-ltb _ _ (c .if2 .left))

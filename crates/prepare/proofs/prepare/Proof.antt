@@ -4,59 +4,40 @@ use Rattle.prepare.proofs.Whole.{reach, here, first-inside, coded}
 use borrow.Author.Needs.{needs}
 use Rattle.prepare.proofs.prepare.Statement.{statement}
 use Rattle.prepare.proofs.prepare.Tie as tie
-use Rattle.prepare.proofs.prepare.Reads as reads
-use Rattle.prepare.proofs.prepare.Lts as lts
-use Rattle.prepare.proofs.code_items.Reads as code-items-reads
-use Rattle.prepare.proofs.fit_rows.Reads as fit-rows-reads
-use Rattle.prepare.proofs.less_one.Reads as less-one-reads
-use Rattle.prepare.proofs.owners.Reads as owners-reads
-use Rattle.prepare.proofs.wide.Reads as wide-reads
 
--- src/lib.rt:279:5
 owners-requires : tie.Need-owners-requires
 owners-requires c κs = record { long = c .before .before .before .before .before .pre .long; small = c .before .before .before .before .before .pre .small; room = omega (arith, c .before .before .before .before .before .pre .room); reach = reach (c .before .before .before .before .before .pre .ready) }
 
--- src/lib.rt:280:5
 code-items-requires : tie.Need-code-items-requires
 code-items-requires c κs = record { long = c .before .before .before .before .before .before .before .before .before .pre .long; small = c .before .before .before .before .before .before .before .before .before .pre .small; room = omega (arith, c .before .before .before .before .before .before .before .before .before .pre .room, c .before .before .before .owners .ensures .long); reach = reach (c .before .before .before .before .before .before .before .before .before .pre .ready) }
 
--- src/lib.rt:281:5
 fit-rows-requires : tie.Need-fit-rows-requires
 fit-rows-requires c κs = record { long = c .before .before .before .before .before .before .before .before .before .before .before .before .before .pre .long; small = c .before .before .before .before .before .before .before .before .before .before .before .before .before .pre .small; short = c .before .before .before .before .before .before .before .before .before .before .before .before .before .pre .short; room = c .before .before .before .before .before .before .before .before .before .before .before .before .before .pre .fits-room; here = here (c .before .before .before .before .before .before .before .before .before .before .before .before .before .pre .ready) }
 
--- src/lib.rt:282:24
 mul-less-one : tie.Need-mul-less-one
 mul-less-one c = omega (arith, c .before .before .before .before .before .before .before .before .before .before .before .before .before .before .before .before .pre .small, c .before .before .before .before .before .before .before .before .before .before .before .before .before .before .before .before .pre .room, first-inside (c .before .before .before .before .before .before .before .before .before .before .before .before .before .before .before .before .pre .ready), c .before .before .before .before .before .before .code-items .ensures .long, c .before .before .before .before .before .before .before .before .before .before .owners .ensures .long)
 
--- src/lib.rt:282:24
 add-less-one : tie.Need-add-less-one
 add-less-one c = omega (arith, c .before .before .before .before .before .before .before .before .before .before .before .before .before .before .before .before .pre .small, c .before .before .before .before .before .before .before .before .before .before .before .before .before .before .before .before .pre .room, first-inside (c .before .before .before .before .before .before .before .before .before .before .before .before .before .before .before .before .pre .ready), c .before .before .before .before .before .before .code-items .ensures .long, c .before .before .before .before .before .before .before .before .before .before .owners .ensures .long)
 
--- src/lib.rt:282:19
 mul-less-one-2 : tie.Need-mul-less-one-2
 mul-less-one-2 c = omega (arith, c .before .before .before .before .before .before .before .before .before .before .before .before .before .before .before .before .pre .small, c .before .before .before .before .before .before .before .before .before .before .before .before .before .before .before .before .pre .room, first-inside (c .before .before .before .before .before .before .before .before .before .before .before .before .before .before .before .before .pre .ready), c .before .before .before .before .before .before .code-items .ensures .long, c .before .before .before .before .before .before .before .before .before .before .owners .ensures .long)
 
--- src/lib.rt:282:19
 slice-read-less-one : tie.Need-slice-read-less-one
 slice-read-less-one c = omega (arith, c .before .before .before .before .before .before .before .before .before .before .before .before .before .before .before .before .before .pre .small, c .before .before .before .before .before .before .before .before .before .before .before .before .before .before .before .before .before .pre .room, first-inside (c .before .before .before .before .before .before .before .before .before .before .before .before .before .before .before .before .before .pre .ready), c .before .before .before .before .before .before .before .code-items .ensures .long, c .before .before .before .before .before .before .before .before .before .before .before .owners .ensures .long)
 
--- src/lib.rt:282:10
 less-one-requires : tie.Need-less-one-requires
 less-one-requires c κs = search needs
 
--- src/lib.rt:282:5
 wide-requires : tie.Need-wide-requires
 wide-requires c κs = search needs
 
--- src/lib.rt:275:1
 same-length : tie.Need-same-length
 same-length c = search needs
 
--- src/lib.rt:275:1
 same-length-2 : tie.Need-same-length-2
 same-length-2 c = search needs
 
--- src/lib.rt:275:1
 returns : tie.Need-returns
 returns c = λ g w. coded w (c .before .before .before .before .before .before .before .before .before .before .before .before .before .owners .ensures) (c .before .before .before .before .before .before .before .before .before .code-items .ensures) (c .before .before .before .before .before .fit-rows .ensures) (c .before .before .before .before .before .before .before .before .before .before .before .before .before .before .before .before .before .before .before .pre .small) (omega (arith, c .before .before .before .before .before .before .before .before .before .before .before .before .before .before .before .before .before .before .before .pre .room, c .before .before .before .before .before .before .before .before .before .before .before .before .before .owners .ensures .long, c .before .before .before .before .before .before .before .before .before .code-items .ensures .long)) (c .before .before .before .before .before .before .before .before .before .before .before .before .before .before .before .before .before .before .before .pre .short) (omega (arith, c .before .before .before .before .before .before .before .before .before .before .before .before .before .before .before .before .before .before .before .pre .fits-room, c .before .before .before .before .before .fit-rows .ensures .long)) (c .wide .result) (c .wide .ensures ∙ c .before .less-one .ensures)
 

@@ -5,50 +5,37 @@ use Rattle.prepare.proofs.Arrays.{put-law}
 use borrow.Author.Needs.{needs}
 use Rattle.prepare.proofs.put_item.Statement.{statement}
 use Rattle.prepare.proofs.put_item.Tie as tie
-use Rattle.prepare.proofs.put_item.Reads as reads
-use Rattle.prepare.proofs.put_item.Lts as lts
 
--- src/lib.rt:234:14
 mul-at : tie.Need-mul-at
 mul-at c = search needs
 
--- src/lib.rt:235:5
 mul-code : tie.Need-mul-code
 mul-code c = search needs
 
--- src/lib.rt:235:5
 slice-write-code : tie.Need-slice-write-code
 slice-write-code c = search needs
 
--- src/lib.rt:236:10
 add-code : tie.Need-add-code
 add-code c = search needs
 
--- src/lib.rt:236:5
 mul-code-2 : tie.Need-mul-code-2
 mul-code-2 c = search needs
 
--- src/lib.rt:236:5
 slice-write-code-2 : tie.Need-slice-write-code-2
 slice-write-code-2 c = simp length-set (omega (arith, c .pre .0))
 
--- src/lib.rt:237:10
 add-code-2 : tie.Need-add-code-2
 add-code-2 c = search needs
 
--- src/lib.rt:237:5
 mul-code-3 : tie.Need-mul-code-3
 mul-code-3 c = search needs
 
--- src/lib.rt:237:5
 slice-write-code-3 : tie.Need-slice-write-code-3
 slice-write-code-3 c = simp length-set (omega (arith, c .pre .0))
 
--- src/lib.rt:230:1
 same-length : tie.Need-same-length
 same-length c = search needs
 
--- src/lib.rt:230:1
 returns : tie.Need-returns
 returns c = put-law (c .args .code .now) (c .args .p) (c .args .kind) (c .args .goes) (c .args .rule) (c .pre .0)
 

@@ -1,11 +1,8 @@
 use native.Mathlib.Omega.{arith}
 use Prim.Native.Nat.{_-_}
-use borrow.Author.Needs.{needs}
 use Rattle.prepare.proofs.Stretches.{Spelling, spell-short, spell-start, spell-end, spell-differs, spell-more}
 use Rattle.prepare.proofs.spells.Statement.{statement}
 use Rattle.prepare.proofs.spells.Tie as tie
-use Rattle.prepare.proofs.spells.Reads as reads
-use Rattle.prepare.proofs.spells.Lts as lts
 
 abbrev Inv-loop : tie.InvT-loop
 Inv-loop table at n text i k₀ k = Spelling table at n text i k
@@ -13,59 +10,45 @@ Inv-loop table at n text i k₀ k = Spelling table at n text i k
 abbrev μ-loop : tie.MeasureT-loop
 μ-loop table at n text i k₀ k = n - k
 
--- src/lib.rt:46:8
 sub-if1 : tie.Need-sub-if1 Inv-loop μ-loop
 sub-if1 c = omega (arith, c .pre .small, c .pre .inside, c .pre .short, c .pre .on)
 
--- src/lib.rt:47:9
 returns : tie.Need-returns Inv-loop μ-loop
 returns c = spell-short (c .before .pre) (c .if1 .taken)
 
--- src/lib.rt:50:5
 loop-holds : tie.Need-loop-holds Inv-loop μ-loop
 loop-holds c = spell-start (c .before .pre) (c .if1 .left)
 
--- src/lib.rt:51:18
 add-if2 : tie.Need-add-if2 Inv-loop μ-loop
 add-if2 c = omega (arith, c .before .before .before .pre .small, c .before .before .before .pre .inside, c .before .before .before .pre .short, c .before .before .before .pre .on, c .before .loop .inv .low, c .before .loop .inv .enough, c .loop-test .taken)
 
--- src/lib.rt:51:12
 mul-if2 : tie.Need-mul-if2 Inv-loop μ-loop
 mul-if2 c = omega (arith, c .before .before .before .pre .small, c .before .before .before .pre .inside, c .before .before .before .pre .short, c .before .before .before .pre .on, c .before .loop .inv .low, c .before .loop .inv .enough, c .loop-test .taken)
 
--- src/lib.rt:51:12
 shared-slice-read-if2 : tie.Need-shared-slice-read-if2 Inv-loop μ-loop
 shared-slice-read-if2 c = omega (arith, c .before .before .before .before .pre .small, c .before .before .before .before .pre .inside, c .before .before .before .before .pre .short, c .before .before .before .before .pre .on, c .before .before .loop .inv .low, c .before .before .loop .inv .enough, c .before .loop-test .taken)
 
--- src/lib.rt:51:34
 add-if2-2 : tie.Need-add-if2-2 Inv-loop μ-loop
 add-if2-2 c = omega (arith, c .before .before .before .before .pre .small, c .before .before .before .before .pre .inside, c .before .before .before .before .pre .short, c .before .before .before .before .pre .on, c .before .before .loop .inv .low, c .before .before .loop .inv .enough, c .before .loop-test .taken)
 
--- src/lib.rt:51:29
 mul-if2-2 : tie.Need-mul-if2-2 Inv-loop μ-loop
 mul-if2-2 c = omega (arith, c .before .before .before .before .pre .small, c .before .before .before .before .pre .inside, c .before .before .before .before .pre .short, c .before .before .before .before .pre .on, c .before .before .loop .inv .low, c .before .before .loop .inv .enough, c .before .loop-test .taken)
 
--- src/lib.rt:51:29
 shared-slice-read-if2-2 : tie.Need-shared-slice-read-if2-2 Inv-loop μ-loop
 shared-slice-read-if2-2 c = omega (arith, c .before .before .before .before .before .pre .small, c .before .before .before .before .before .pre .inside, c .before .before .before .before .before .pre .short, c .before .before .before .before .before .pre .on, c .before .before .before .loop .inv .low, c .before .before .before .loop .inv .enough, c .before .before .loop-test .taken)
 
--- src/lib.rt:52:13
 returns-2 : tie.Need-returns-2 Inv-loop μ-loop
 returns-2 c = spell-differs (c .before .before .before .before .before .before .pre) (c .before .before .before .before .loop .inv) (c .before .before .before .loop-test .taken) (c .if2 .taken)
 
--- src/lib.rt:54:9
 add-k : tie.Need-add-k Inv-loop μ-loop
 add-k c = omega (arith, c .before .before .before .before .before .before .pre .small, c .before .before .before .before .before .before .pre .inside, c .before .before .before .before .before .before .pre .short, c .before .before .before .before .before .before .pre .on, c .before .before .before .before .loop .inv .low, c .before .before .before .before .loop .inv .enough, c .before .before .before .loop-test .taken)
 
--- src/lib.rt:50:5
 loop-less : tie.Need-loop-less Inv-loop μ-loop
 loop-less c = omega (arith, c .before .before .before .before .before .before .pre .small, c .before .before .before .before .before .before .pre .inside, c .before .before .before .before .before .before .pre .short, c .before .before .before .before .before .before .pre .on, c .before .before .before .before .loop .inv .low, c .before .before .before .before .loop .inv .enough, c .before .before .before .loop-test .taken)
 
--- src/lib.rt:50:5
 loop-again : tie.Need-loop-again Inv-loop μ-loop
 loop-again c = spell-more (c .before .before .before .before .before .before .pre) (c .before .before .before .before .loop .inv) (c .before .before .before .loop-test .taken) (c .if2 .left)
 
--- src/lib.rt:42:1
 returns-3 : tie.Need-returns-3 Inv-loop μ-loop
 returns-3 c = spell-end (c .before .before .before .pre) (c .before .loop .inv) (c .loop-test .left)
 

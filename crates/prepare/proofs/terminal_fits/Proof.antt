@@ -11,93 +11,67 @@ use Rattle.prepare.proofs.Places.{term-two, term-counted, term-members,
 use borrow.Author.Needs.{needs}
 use Rattle.prepare.proofs.terminal_fits.Statement.{statement}
 use Rattle.prepare.proofs.terminal_fits.Tie as tie
-use Rattle.prepare.proofs.terminal_fits.Reads as reads
-use Rattle.prepare.proofs.terminal_fits.Lts as lts
-use Rattle.prepare.proofs.any_member.Reads as any-member-reads
-use Rattle.prepare.proofs.spells.Reads as spells-reads
-use Rattle.prepare.proofs.wide.Reads as wide-reads
 
--- src/lib.rt:121:16
 mul-kind : tie.Need-mul-kind
 mul-kind c = omega (arith, c .before .before .pre .small, term-two (c .before .before .pre .here .is))
 
--- src/lib.rt:121:16
 shared-slice-read-kind : tie.Need-shared-slice-read-kind
 shared-slice-read-kind c = omega (arith, c .before .before .before .pre .small, term-two (c .before .before .before .pre .here .is))
 
--- src/lib.rt:123:30
 add-spells : tie.Need-add-spells
 add-spells c = omega (arith, c .before .before .before .before .pre .small, term-two (c .before .before .before .before .pre .here .is), term-counted (c .before .before .before .before .pre .here .is) (c .if1 .taken))
 
--- src/lib.rt:123:49
 add-wide : tie.Need-add-wide
 add-wide c = omega (arith, c .before .before .before .before .pre .small, term-two (c .before .before .before .before .pre .here .is), term-counted (c .before .before .before .before .pre .here .is) (c .if1 .taken))
 
--- src/lib.rt:123:43
 mul-wide : tie.Need-mul-wide
 mul-wide c = omega (arith, c .before .before .before .before .pre .small, term-two (c .before .before .before .before .pre .here .is), term-counted (c .before .before .before .before .pre .here .is) (c .if1 .taken))
 
--- src/lib.rt:123:43
 shared-slice-read-wide : tie.Need-shared-slice-read-wide
 shared-slice-read-wide c = omega (arith, c .before .before .before .before .before .pre .small, term-two (c .before .before .before .before .before .pre .here .is), term-counted (c .before .before .before .before .before .pre .here .is) (c .before .if1 .taken))
 
--- src/lib.rt:123:38
 wide-requires : tie.Need-wide-requires
 wide-requires c κs = search needs
 
--- src/lib.rt:123:9
 spells-requires : tie.Need-spells-requires
 spells-requires c κs = record { small = c .before .before .before .before .before .before .pre .small; inside = rw (c .wide .ensures) (term-counted (c .before .before .before .before .before .before .pre .here .is) (c .before .before .if1 .taken)); short = c .before .before .before .before .before .before .pre .short; on = c .before .before .before .before .before .before .pre .on }
 
--- src/lib.rt:123:9
 returns : tie.Need-returns
 returns c = λ x w. c .spells .ensures ∙ ap (λ (n : ℕ). begins (take n (drop (c .before .before .before .before .before .before .before .args .at + 2) (c .before .before .before .before .before .before .before .args .table .now))) (drop (c .before .before .before .before .before .before .before .args .i) (c .before .before .before .before .before .before .before .args .text .now))) (c .before .wide .ensures) ∙ fit-quoted w (drop (c .before .before .before .before .before .before .before .args .i) (c .before .before .before .before .before .before .before .args .text .now)) (c .before .before .before .if1 .taken)
 
--- src/lib.rt:126:9
 returns-2 : tie.Need-returns-2
 returns-2 c = λ x w. fit-insertion w (drop (c .before .before .before .before .before .args .i) (c .before .before .before .before .before .args .text .now)) (c .if2 .taken)
 
--- src/lib.rt:129:9
 returns-3 : tie.Need-returns-3
 returns-3 c = λ x w. fit-past w (c .before .before .if1 .left) (c .before .if2 .left) ∙ ap (fits x) (sym (drop-of-length-le (c .before .before .before .before .before .before .args .text .now) {i = c .before .before .before .before .before .before .args .i} (c .if3 .taken)))
 
--- src/lib.rt:131:13
 mul-c : tie.Need-mul-c
 mul-c c = search needs
 
--- src/lib.rt:131:13
 shared-slice-read-c : tie.Need-shared-slice-read-c
 shared-slice-read-c c = search needs
 
--- src/lib.rt:133:22
 add-result : tie.Need-add-result
 add-result c = omega (arith, c .before .before .before .before .before .before .before .before .pre .small, term-two (c .before .before .before .before .before .before .before .before .pre .here .is))
 
--- src/lib.rt:133:16
 mul-result : tie.Need-mul-result
 mul-result c = omega (arith, c .before .before .before .before .before .before .before .before .pre .small, term-two (c .before .before .before .before .before .before .before .before .pre .here .is))
 
--- src/lib.rt:133:16
 shared-slice-read-result : tie.Need-shared-slice-read-result
 shared-slice-read-result c = omega (arith, c .before .before .before .before .before .before .before .before .before .pre .small, term-two (c .before .before .before .before .before .before .before .before .before .pre .here .is))
 
--- src/lib.rt:133:9
 returns-4 : tie.Need-returns-4
 returns-4 c = λ x w. fit-coded w (c .before .before .before .before .before .if1 .left) (c .before .before .before .before .if2 .left) (getD (c .before .before .before .before .before .before .before .before .before .args .text .now) (c .before .before .before .before .before .before .before .before .before .args .i) 0) (drop (suc (c .before .before .before .before .before .before .before .before .before .args .i)) (c .before .before .before .before .before .before .before .before .before .args .text .now)) (c .before .if4 .taken) ∙ ap (fits x) (sym (drop-cons (c .before .before .before .before .before .before .before .before .before .args .text .now) (c .before .before .before .before .before .before .before .before .before .args .i) 0 (c .before .before .before .if3 .left)))
 
--- src/lib.rt:135:35
 add-any-member : tie.Need-add-any-member
 add-any-member c = omega (arith, c .before .before .before .before .before .before .before .before .pre .small, term-two (c .before .before .before .before .before .before .before .before .pre .here .is))
 
--- src/lib.rt:135:9
 any-member-requires : tie.Need-any-member-requires
 any-member-requires c κs = record { small = c .before .before .before .before .before .before .before .before .pre .small; members = membersIn (c .before .before .before .before .before .before .before .before .pre .here .terminal); are = term-members (c .before .before .before .before .before .before .before .before .pre .here .is) (c .if4 .left) (c .before .before .before .if2 .left) }
 
--- src/lib.rt:137:9
 returns-5 : tie.Need-returns-5
 returns-5 c = λ x w. fit-inclusion w (c .before .before .before .before .before .before .if1 .left) (c .before .before .before .before .before .if2 .left) (getD (c .before .before .before .before .before .before .before .before .before .before .args .text .now) (c .before .before .before .before .before .before .before .before .before .before .args .i) 0) (drop (suc (c .before .before .before .before .before .before .before .before .before .before .args .i)) (c .before .before .before .before .before .before .before .before .before .before .args .text .now)) (c .before .any-member .result) (c .before .before .if4 .left) (c .if5 .taken) (c .before .any-member .ensures (membersIn x) (term-members w (c .before .before .if4 .left) (c .before .before .before .before .before .if2 .left))) ∙ ap (fits x) (sym (drop-cons (c .before .before .before .before .before .before .before .before .before .before .args .text .now) (c .before .before .before .before .before .before .before .before .before .before .args .i) 0 (c .before .before .before .before .if3 .left)))
 
--- src/lib.rt:117:1
 returns-6 : tie.Need-returns-6
 returns-6 c = λ x w. fit-exclusion w (c .before .before .before .before .before .before .if1 .left) (c .before .before .before .before .before .if2 .left) (getD (c .before .before .before .before .before .before .before .before .before .before .args .text .now) (c .before .before .before .before .before .before .before .before .before .before .args .i) 0) (drop (suc (c .before .before .before .before .before .before .before .before .before .before .args .i)) (c .before .before .before .before .before .before .before .before .before .before .args .text .now)) (c .before .any-member .result) (c .if5 .left) (c .before .any-member .ensures (membersIn x) (term-members w (c .before .before .if4 .left) (c .before .before .before .before .before .if2 .left))) ∙ ap (fits x) (sym (drop-cons (c .before .before .before .before .before .before .before .before .before .before .args .text .now) (c .before .before .before .before .before .before .before .before .before .before .args .i) 0 (c .before .before .before .before .if3 .left)))
 

@@ -3,7 +3,6 @@ use mathlib.Core.Path.{_≡_, refl, sym}
 use native.Mathlib.Omega.{arith}
 use lib.ListN.{take}
 use denote.Ref.{now}
-use borrow.Author.Needs.{needs}
 use Rattle.statics.specs.Scan.{namesAt, fails}
 use Rattle.statics.proofs.Scans as law
 use Rattle.statics.proofs.broken.Statement.{statement}

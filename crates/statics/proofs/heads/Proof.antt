@@ -2,7 +2,6 @@ use Prim.Native.Nat.{_-_, _+_}
 use mathlib.Core.Path.{_≡_, refl, sym}
 use native.Mathlib.Omega.{arith}
 use denote.Ref.{now}
-use borrow.Author.Needs.{needs}
 use Rattle.statics.proofs.Scans as law
 use Rattle.statics.proofs.heads.Statement.{statement}
 use Rattle.statics.proofs.heads.Tie as tie

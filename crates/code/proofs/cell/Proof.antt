@@ -1,9 +1,9 @@
 use Prim.Native.Nat.{_+_}
 use native.Mathlib.Omega.{arith}
-use Rattle.engine.proofs.Cells.{square-fits, rows-small, rows-fit, before-small}
+use Rattle.code.proofs.Cells.{square-fits, rows-small, rows-fit, before-small}
 use borrow.Author.Needs.{needs}
-use Rattle.engine.proofs.cell.Statement.{statement}
-use Rattle.engine.proofs.cell.Tie as tie
+use Rattle.code.proofs.cell.Statement.{statement}
+use Rattle.code.proofs.cell.Tie as tie
 
 add-result : tie.Need-add-result
 add-result c = search needs
