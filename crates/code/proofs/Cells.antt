@@ -1,11 +1,15 @@
 -- Places of cells.
-use mathlib.Core.Path.{_≡_}
+use mathlib.Core.Path.{_≡_, _∙_}
+use mathlib.Core.List.{List}
 use Prim.Native.Nat.{ℕ, _+_, _*_, _/_, _<_, _≤_}
 use native.Mathlib.Nat.{mul-le-mul, add-mul, mul-add}
+use native.Mathlib.Decide.{ℕ-discrete}
 use native.Mathlib.Omega.{arith}
+use lib.ListN.{length, getD, set}
+use lib.Seq.{getD-set-same, getD-set-other}
 use mir.Syntax.{w64}
 use mir.Val.{Fits}
-use Rattle.code.specs.Heights.{before, stretches, cellAt}
+use Rattle.code.specs.Heights.{before, stretches, cellAt, none}
 
 -- (j + 1) (j + 2) is j (j + 1) and twice j + 1
 next-twice : (j : ℕ) → (j + 1) * (j + 2) ≡ j * (j + 1) + 2 * (j + 1)
@@ -43,3 +47,10 @@ rows-fit p n hp hn = record { fits = omega (arith, rows-small p n hp hn) }
 
 pub before-small : (j : ℕ) → j ≤ 120 → before j ≤ 7381
 before-small j h = small j (j + 1) (omega arith) (omega arith)
+
+-- one cell more holds nothing
+pub clear-next : (t : List ℕ) (x : ℕ) → x < length t → ((y : ℕ) → y < x → getD t y 0 ≡ none) → (y : ℕ) → y < x + 1 → getD (set t x none) y 0 ≡ none
+clear-next t x h a y l = elim (ℕ-discrete y x) as (λ _. getD (set t x none) y 0 ≡ none) [
+  | yes e ↦ rw e (getD-set-same t x none 0 h)
+  | no e ↦ getD-set-other t x y none 0 e ∙ a y (omega arith)
+]

@@ -24,6 +24,10 @@ cellAt n p i j = p * stretches n + before j + i
 abbrev pub none : ℕ
 none = 2 ^ 32 - 1
 
+-- the first k cells are none
+abbrev pub Clear : ℕ → List ℕ → Type 0
+Clear k t = (x : ℕ) → x < k → getD t x 0 ≡ none
+
 -- h is the least height of rows of the symbols on the stretch, or none
 pub data Says (g : Grammar) (r : Text) (ss : List Symbol) (i j : ℕ) : ℕ → Type 0 where
   says-none : ((t : Row) → Derives g r t ss i j → ⊥) → Says g r ss i j none

@@ -4,8 +4,7 @@ use mathlib.Core.List.{List}
 use Prim.Native.Nat.{ℕ, _+_, _-_, _<_, _≤_}
 use native.Mathlib.Decide.{ℕ-discrete}
 use native.Mathlib.Omega.{arith}
-use lib.ListN.{length, getD, set}
-use lib.Seq.{getD-set-same, getD-set-other}
+use lib.ListN.{getD}
 use Rattle.code.specs.Code.{kindAt, ruleAt, goesAt}
 use Rattle.code.specs.Heights.{cellAt, none}
 use Rattle.engine.specs.Table.{cellOf, valueOf, splitOf, Shape}
@@ -13,13 +12,6 @@ use Rattle.engine.specs.Sweep.{Steps, stay, Only, Ahead, EndsAt, Any, Se
 use Rattle.engine.proofs.Values.{value-gap, value-cell, up-none}
 use Rattle.engine.proofs.Lowering.{steps-join, steps-widen, steps-same, value-same, split-same}
 use Rattle.engine.proofs.Spreading.{on-kept}
-
--- one cell more holds nothing
-pub clear-next : (t : List ℕ) (x : ℕ) → x < length t → ((y : ℕ) → y < x → getD t y 0 ≡ none) → (y : ℕ) → y < x + 1 → getD (set t x none) y 0 ≡ none
-clear-next t x h a y l = elim (ℕ-discrete y x) as (λ _. getD (set t x none) y 0 ≡ none) [
-  | yes e ↦ rw e (getD-set-same t x none 0 h)
-  | no e ↦ getD-set-other t x y none 0 e ∙ a y (omega arith)
-]
 
 -- a stretch with no value so far
 pub bare-next : (n i j : ℕ) (t : List ℕ) (p x : ℕ) → x ≡ cellAt n p i j → getD t x 0 ≡ none → ((q : ℕ) → q < p → cellOf n t q i j ≡ none) → (q : ℕ) → q < p + 1 → cellOf n t q i j ≡ none

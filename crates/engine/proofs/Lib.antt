@@ -3,7 +3,6 @@ pub mod Lowering
 pub mod Values
 pub mod Relaxing
 pub mod Spreading
-pub mod Users
 pub mod Columns
 pub mod Small
 pub mod Exact

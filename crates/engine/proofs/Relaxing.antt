@@ -12,8 +12,9 @@ use Rattle.text.specs.Limits.{mostSize}
 use Rattle.text.specs.Lists.{pick}
 use Rattle.code.specs.Code.{kindAt, ruleAt, goesAt, ownerAt, fitsAt}
 use Rattle.code.specs.Heights.{cellAt, none}
+use Rattle.code.specs.Uses.{LastUse, Uses}
 use Rattle.engine.specs.Table.{cellOf, valueOf, upOf, splitOf, Shape, Place}
-use Rattle.engine.specs.Sweep.{total, Gives, by-terminal, by-split, by-owned, Steps, stay, step, Only, Settled, Lowered, lowered, kept, Closed, HandedOn, Spread, Given, Shifted, Offer, Seen, Held, AllHeld, Handed, free, above, handed, potential, Relaxed, unseenBy, Descended, LastUse, Uses, AllKept, Revisited, Rounded}
+use Rattle.engine.specs.Sweep.{total, Gives, by-terminal, by-split, by-owned, Steps, stay, step, Only, Settled, Lowered, lowered, kept, Closed, HandedOn, Spread, Given, Shifted, Offer, Seen, Held, AllHeld, Handed, free, above, handed, potential, Relaxed, unseenBy, Descended, AllKept, Revisited, Rounded}
 use Rattle.engine.proofs.Cells.{cell-inj, owner-place}
 use Rattle.engine.proofs.Lowering.{in-range, sum-set, set-le, steps-join, steps-le, steps-sum, steps-same, value-same, split-same}
 

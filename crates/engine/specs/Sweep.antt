@@ -143,17 +143,6 @@ pub record Descended (c f : List ℕ) (size n from i j all : ℕ) (t S t' S' : L
   pub kept : all ≡ 0 → (q : ℕ) → q < size → (q + 1 ≡ from → ⊥) → Held c f n i j t S q → Held c f n i j t' S' q
   pub falls : potential t' S' ≤ potential t S
 
--- x is the last use of the rule e before b and 1, or 0
-pub record LastUse (c : List ℕ) (e b x : ℕ) : Type 0 where
-  pub below : x ≤ b
-  pub last : (q : ℕ) → x ≤ q → q < b → kindAt c q ≡ 2 → ruleAt c q ≡ e → ⊥
-  pub is : (u : ℕ) → x ≡ u + 1 → (kindAt c u ≡ 2) × (ruleAt c u ≡ e)
-
--- U has for each rule its last use below p, and for each use the one before it
-pub record Uses (c : List ℕ) (size p : ℕ) (U : List ℕ) : Type 0 where
-  pub last : (e : ℕ) → e < size → LastUse c e p (getD U (2 * e) 0)
-  pub next : (u : ℕ) → u < p → kindAt c u ≡ 2 → LastUse c (ruleAt c u) u (getD U (2 * u + 1) 0)
-
 -- what held holds
 abbrev pub AllKept : List ℕ → List ℕ → ℕ → ℕ → ℕ → ℕ → List ℕ → List ℕ → List ℕ → List ℕ → Type 0
 AllKept c f size n i j t S t' S' = (q : ℕ) → q < size → Held c f n i j t S q → Held c f n i j t' S' q
@@ -181,10 +170,6 @@ pub record ColumnFrom (c f : List ℕ) (size n j i : ℕ) (t : List ℕ) : Type 
 -- all that end before j are closed
 abbrev pub Before : List ℕ → List ℕ → ℕ → ℕ → ℕ → List ℕ → Type 0
 Before c f size n j t = (k l : ℕ) → k ≤ l → l < j → Closed c f size n t k l
-
--- the first k cells are none
-abbrev pub Clear : ℕ → List ℕ → Type 0
-Clear k t = (x : ℕ) → x < k → getD t x 0 ≡ none
 
 -- the table has the least heights of every grammar and record that have this code
 abbrev pub Filled : List ℕ → List ℕ → ℕ → ℕ → List ℕ → Type 0

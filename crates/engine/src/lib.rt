@@ -6,10 +6,13 @@ ghost use mathlib.Core.List.{List};
 ghost use lib.ListN.{length, getD};
 ghost use Rattle.code.specs.Code.{kindAt, ruleAt};
 ghost use Rattle.code.specs.Heights.{cellAt};
+ghost use Rattle.code.specs.Uses.{Uses};
 ghost use Rattle.engine.specs.Table.{valueOf, upOf, splitOf, Room, Shape, Safe, Place};
-ghost use Rattle.engine.specs.Sweep.{Lowered, Handed, Shifted, Offer, Relaxed, unseenBy, Descended, Uses, Revisited, Rounded, Settled, Only, Ahead, EndsAt, Given, Closed, HandedOn, Spread, NextRest, Bare, ColumnFrom, Clear, Filled};
+ghost use Rattle.engine.specs.Sweep.{Lowered, Handed, Shifted, Offer, Relaxed, unseenBy, Descended, Revisited, Rounded, Settled, Only, Ahead, EndsAt, Given, Closed, HandedOn, Spread, NextRest, Bare, ColumnFrom, Filled};
 use code::NONE;
 use code::cell;
+use code::clear;
+use code::list_uses;
 
 // What the table has for the position q.
 fn value(code: &[u32], main: &[u32], size: usize, n: usize, q: usize, i: usize, j: usize) -> u32
@@ -486,34 +489,6 @@ fn column(
         if holds_any(main, size, n, i, j) != 0 {
             finish(code, fits, uses, main, stale, size, n, i, j);
         }
-    }
-}
-
-// The last use of each rule, and the one before each use. In the beginning all are 0.
-fn list_uses(code: &[u32], uses: &mut [u32], size: usize)
-    requires { ⌜ (size ≤ 512) × (4 * size ≤ length (now code)) × (2 * size ≤ length (now uses)) × ((p : ℕ) → p < size → kindAt (now code) p ≡ 2 → ruleAt (now code) p < size) × ((x : ℕ) → getD (now uses) x 0 ≡ 0) ⌝ }
-    ensures { λ r. ⌜ Uses (now (code .entry)) size size (now (uses .exit)) ⌝ }
-{
-    let mut p = 0;
-    while p < size {
-        if code[4 * p] == 2 {
-            let e = code[4 * p + 2] as usize;
-            uses[2 * p + 1] = uses[2 * e];
-            uses[2 * e] = p as u32 + 1;
-        }
-        p += 1;
-    }
-}
-
-// The first k cells hold nothing.
-fn clear(main: &mut [u32], k: usize)
-    requires { ⌜ k ≤ length (now main) ⌝ }
-    ensures { λ r. ⌜ Clear k (now (main .exit)) ⌝ }
-{
-    let mut x = 0;
-    while x < k {
-        main[x] = NONE;
-        x += 1;
     }
 }
 

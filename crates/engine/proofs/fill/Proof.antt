@@ -6,7 +6,7 @@ use borrow.Author.Needs.{needs}
 use Rattle.engine.specs.Sweep.{Settled, Any, Before}
 use Rattle.code.proofs.Cells.{square-fits, rows-fit}
 use Rattle.engine.proofs.Columns.{all-start, all-next}
-use Rattle.engine.proofs.Users.{all-zero}
+use Rattle.code.proofs.Users.{all-zero}
 use Rattle.engine.proofs.Exact.{filled}
 use Rattle.engine.proofs.fill.Statement.{statement}
 use Rattle.engine.proofs.fill.Tie as tie

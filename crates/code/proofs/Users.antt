@@ -6,8 +6,8 @@ use native.Mathlib.Decide.{ℕ-discrete}
 use native.Mathlib.Omega.{arith}
 use lib.ListN.{length, getD, set, replicate, length-set}
 use lib.Seq.{getD-set-same, getD-set-other}
 use Rattle.code.specs.Code.{kindAt, ruleAt}
-use Rattle.engine.specs.Sweep.{LastUse, Uses}
+use Rattle.code.specs.Uses.{LastUse, Uses}
 
 -- a fresh table
 pub all-zero : (k x : ℕ) → getD {A = ℕ} (replicate k 0) x 0 ≡ 0

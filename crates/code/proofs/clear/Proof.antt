@@ -2,10 +2,10 @@ use mathlib.Core.Path.{_≡_, refl, _∙_}
 use Prim.Native.Nat.{ℕ, _-_, _<_, _≤_}
 use native.Mathlib.Omega.{arith}
 use lib.ListN.{length, getD, length-set}
 use Rattle.code.specs.Heights.{none}
-use Rattle.engine.proofs.Columns.{clear-next}
-use Rattle.engine.proofs.clear.Statement.{statement}
-use Rattle.engine.proofs.clear.Tie as tie
+use Rattle.code.proofs.Cells.{clear-next}
+use Rattle.code.proofs.clear.Statement.{statement}
+use Rattle.code.proofs.clear.Tie as tie
 
 abbrev Inv-loop : tie.InvT-loop
 Inv-loop main₀ k x₀ main x = (x ≤ k) × (length main ≡ length main₀) × ((y : ℕ) → y < x → getD main y 0 ≡ none)

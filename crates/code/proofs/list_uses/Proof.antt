@@ -4,11 +4,11 @@ use mathlib.Core.Logic.{⊎-elim}
 use lib.ListN.{getD, length-set}
 use native.Mathlib.Omega.{arith}
 use borrow.Author.Needs.{needs}
 use Rattle.code.specs.Code.{ruleAt}
-use Rattle.engine.specs.Sweep.{Uses}
-use Rattle.engine.proofs.Users.{Listed, listed-start, listed-other, listed-next}
-use Rattle.engine.proofs.list_uses.Statement.{statement}
-use Rattle.engine.proofs.list_uses.Tie as tie
+use Rattle.code.specs.Uses.{Uses}
+use Rattle.code.proofs.Users.{Listed, listed-start, listed-other, listed-next}
+use Rattle.code.proofs.list_uses.Statement.{statement}
+use Rattle.code.proofs.list_uses.Tie as tie
 
 abbrev Inv-loop : tie.InvT-loop
 Inv-loop code uses₀ size p₀ uses p = Listed code size uses₀ p uses
