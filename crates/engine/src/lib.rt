@@ -3,8 +3,8 @@
 ghost use mathlib.Core.Path.{_≡_};
 ghost use Prim.Native.Nat.{ℕ, _+_, _*_, _<_, _≤_, max, min};
 ghost use mathlib.Core.List.{List};
-ghost use lib.ListN.{length, getD};
-ghost use Rattle.code.specs.Code.{kindAt, ruleAt};
+ghost use lib.ListN.{length};
+ghost use Rattle.code.specs.Code.{kindAt};
 ghost use Rattle.code.specs.Heights.{cellAt};
 ghost use Rattle.code.specs.Uses.{Uses};
 ghost use Rattle.engine.specs.Table.{valueOf, upOf, splitOf, Room, Shape, Safe, Place};
