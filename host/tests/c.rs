@@ -49,7 +49,7 @@ fn name(number: u32) -> String {
 }
 
 /// A program that holds the header's numbers to the wrapper's as it is
-/// compiled, and makes the two calls that every library has.
+/// compiled, and makes each call.
 fn program(assert: &str) -> String {
     let mut facts = vec![
         format!("IXML_GRAMMAR_BYTES == {}", limits::GRAMMAR_BYTES),
@@ -86,9 +86,26 @@ fn program(assert: &str) -> String {
              const ixml_answer wrong = ixml_check(grammar, 4);\n\
              const bool known = ixml_category('A') == 0;\n\
              const bool unknown = ixml_category(256) == IXML_CATEGORY_NOT_KNOWN;\n\
-             return right.number == IXML_ANSWERED && wrong.number == IXML_NOT_IXML\n\
-                 && right.length == 0 && !right.ambiguous && !right.version\n\
-                 && known && unknown ? 0 : 1;\n\
+             if (right.number != IXML_ANSWERED || wrong.number != IXML_NOT_IXML) return 1;\n\
+             if (right.length != 0 || right.ambiguous || right.version) return 2;\n\
+             if (!known || !unknown) return 3;\n\
+             static uint32_t main_table[IXML_MAIN_TABLE_LENGTH(9, 1)];\n\
+             static uint32_t grammar_table[IXML_GRAMMAR_TABLE];\n\
+             static const char twice[] = \"ixml version '2'. a: b; 'x'. b: 'x'.\";\n\
+             const uint8_t *text = (const uint8_t *)twice;\n\
+             const uint8_t record[1] = {{'x'}};\n\
+             uint32_t numbers[3] = {{7, 7, 7}};\n\
+             const ixml_answer read = ixml_read(text, sizeof twice - 1, record, 1,\n\
+                 main_table, sizeof main_table / sizeof *main_table,\n\
+                 grammar_table, IXML_GRAMMAR_TABLE, numbers, 3);\n\
+             if (read.number != IXML_ANSWERED || read.length != 1) return 4;\n\
+             if (!read.ambiguous || !read.version) return 5;\n\
+             if (numbers[0] != 1 || numbers[1] != 7 || numbers[2] != 7) return 6;\n\
+             uint8_t xml[16] = {{0}};\n\
+             const uint8_t unruled[5] = {{'a', ':', ' ', 'b', '.'}};\n\
+             const ixml_answer refused = ixml_convert(unruled, 5, record, 1, main_table, 1,\n\
+                 grammar_table, IXML_GRAMMAR_TABLE, xml, 16);\n\
+             return refused.number == IXML_UNDEFINED_NAME && xml[0] == 0 ? 0 : 7;\n\
          }}\n"
     )
 }
@@ -104,7 +121,8 @@ fn the_header_agrees_with_the_wrapper() {
         std::fs::write(&source, program(assert)).expect("a file");
         let compiled = temporary(&format!("{file}.out"));
         compile(compiler, &source, &compiled);
-        assert!(run(&mut Command::new(compiled)).status.success(), "{file}");
+        let status = run(&mut Command::new(compiled)).status;
+        assert_eq!(status.code(), Some(0), "{file}");
     }
 }
 

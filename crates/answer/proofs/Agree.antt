@@ -122,7 +122,24 @@ grammar-agrees bs ls ts a = (
             (
               refl,
               test-known bs beyond,
-              (refl, test-known bs banned, (refl, test-known bs backwards, (refl, test-known bs unclassed, (refl, tree-known bs (λ g. ltb mostSize (size g)) (λ g. mostSize < size g) (λ g. less mostSize (size g)), a)))),
+              (
+                refl,
+                test-known bs banned,
+                (
+                  refl,
+                  test-known bs backwards,
+                  (
+                    refl,
+                    test-known bs unclassed,
+                    (
+                      refl,
+                      tree-known bs (λ g. ltb mostSize (size g)) (λ g. mostSize < size g)
+                          (λ g. less mostSize (size g)),
+                      a,
+                    ),
+                  ),
+                ),
+              ),
             ),
           ),
         ),
@@ -140,7 +157,8 @@ job-known j f P h =
 reading-of : (g : Grammar) (r : Text) (t : Row) → Chosen g r t (root g ∷ []) 0 (length r) → Reading g r t (leftParse t)
 reading-of g r t c = record { chosen = c; parse = refl }
 
-pub reading-known : (j : Job) (f : Grammar → Text → Row → Bool) (P : Grammar → Text → Row → List ℕ → Type 0) → ((g : Grammar) (r : Text) (t : Row) → Tests (f g r t) (P g r t (leftParse t)))
+pub reading-known : (j : Job) (f : Grammar → Text → Row → Bool) (P : Grammar → Text → Row → List ℕ → Type 0)
+    → ((g : Grammar) (r : Text) (t : Row) → Tests (f g r t) (P g r t (leftParse t)))
     → Tests (onReading j f) (ofReading j P)
 reading-known j f P h = job-known j (λ g r. onChoice (chosenOf g r) (f g r)) (λ g r. (t : Row) × (p : List ℕ) × Reading g r t p × P g r t p) each
   where
@@ -177,7 +195,8 @@ record-agrees j ls ts a = (
       text-known (j .input) (λ cs. ltb recordChars (length cs)) (λ cs. recordChars < length cs) (λ cs. less recordChars (length cs)),
       (
         refl,
-        job-known j (λ g r. ltb (j .mainTable) (tableNeed (size g) (length r)) || ltb (j .secondTable) grammarTable) (λ g r. (j .mainTable < tableNeed (size g) (length r)) ⊎ (j .secondTable < grammarTable))
+        job-known j (λ g r. ltb (j .mainTable) (tableNeed (size g) (length r)) || ltb (j .secondTable) grammarTable)
+            (λ g r. (j .mainTable < tableNeed (size g) (length r)) ⊎ (j .secondTable < grammarTable))
             (λ g r. either (ltb (j .mainTable) (tableNeed (size g) (length r))) (ltb (j .secondTable) grammarTable) (j .mainTable < tableNeed (size g) (length r)) (j .secondTable < grammarTable)
             (less (j .mainTable) (tableNeed (size g) (length r))) (less (j .secondTable) grammarTable)),
         (

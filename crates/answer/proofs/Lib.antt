@@ -2,4 +2,5 @@ pub mod Lines
 pub mod Agree
 pub mod Settled
 pub mod Stages
+pub mod Sizes
 pub mod Demands

@@ -23,8 +23,11 @@ use Rattle.derive.specs.Another.{ambiguousOf}
 use Rattle.derive.proofs.Choose.{found-chosen, chosen-found}
 use Rattle.derive.proofs.Ambiguous.{ambiguous-second}
 use Rattle.plain.specs.Static.{mismatched}
-use Rattle.answer.specs.Answer.{Line, line, Topmost, ofTree, grammarLines, recordLines, documentLines, Job, GrammarTree, ofReading, Shown, asNumbers, asXml, ResultOf, tooLong, Answer, Answers, Checks, Reads, Converts}
-use Rattle.answer.specs.Compute.{Test, test, firstOf, onReading, grammarTests, recordTests, documentTests, isText, isTree, isFound, onText, onJob, treeOf, afterMark, Result, result, resultOf, resultBy, Outcome, outcome, mismatch, checkOf, longTest, callOf, readOf, convertOf}
+use Rattle.answer.specs.Answer.{Line, line, Topmost, ofTree, grammarLines, recordLines, documentLines, Job, GrammarTree, ofReading}
+use Rattle.answer.specs.Answer.{Shown, asNumbers, asXml, ResultOf, tooLong, Answer, Answers, Checks, Reads, Converts}
+use Rattle.answer.specs.Compute.{Test, test, firstOf, onReading, grammarTests, recordTests, documentTests, isText, isTree, isFound}
+use Rattle.answer.specs.Compute.{onText, onJob, treeOf, afterMark, Result, result, resultOf, resultBy, Outcome, outcome, mismatch}
+use Rattle.answer.specs.Compute.{checkOf, longTest, callOf, readOf, convertOf}
 use Rattle.answer.proofs.Lines.{one-topmost, Agree, first-topmost}
 use Rattle.answer.proofs.Agree.{Tests, grammar-agrees, record-agrees, document-agrees, tree-known, reading-known, same-test, less, tree-sound, tree-complete}
 
@@ -100,7 +103,8 @@ pub check-answers : (bs : List ℕ) → Checks bs (checkOf bs)
 unfolding checkOf
 check-answers bs =
     let n = firstOf (grammarTests bs []) in
-    let w = computed (grammarLines bs []) (grammarTests bs []) (λ xs m. (xs ≡ []) × (m ≡ false)) bs [] (result [] false) (mismatch bs) (grammar-agrees bs [] [] tt) (mismatch-known bs) (λ z. (refl, refl)) in
+    let w = computed (grammarLines bs []) (grammarTests bs []) (λ xs m. (xs ≡ []) × (m ≡ false)) bs [] (result [] false) (mismatch bs)
+    (grammar-agrees bs [] [] tt) (mismatch-known bs) (λ z. (refl, refl)) in
     subst (λ (new : List ℕ). Checks' bs (outcome [] (mismatch bs) n (result [] false) .answer) new) (no-buffer (mismatch bs) n) w
   where
     Checks' : List ℕ → Answer → List ℕ → Type 0
@@ -155,21 +159,26 @@ module _ (j : Job) (F : Shown) where
   one-result : (xs ys : List ℕ) (m n : Bool) → ResultOf j F xs m → ResultOf j F ys n → (xs ≡ ys) × (m ≡ n)
   one-result xs ys m n x y = let e = result-is xs m x ∙ sym (result-is ys n y) in (ap (λ (z : Result). z .cells) e, ap (λ (z : Result). z .ambiguous) e)
 
-  by-reading : (g : Grammar) (r : Text) (t : Row) → GrammarTree (j .grammar) g × Utf8 (j .input) r → Chosen g r t (root g ∷ []) 0 (length r) → ResultOf j F (resultBy F g r t .cells) (resultBy F g r t .ambiguous)
+  by-reading : (g : Grammar) (r : Text) (t : Row) → GrammarTree (j .grammar) g × Utf8 (j .input) r → Chosen g r t (root g ∷ []) 0 (length r)
+      → ResultOf j F (resultBy F g r t .cells) (resultBy F g r t .ambiguous)
   by-reading g r t v c = let w : Reading g r t (leftParse t) = record { chosen = c; parse = refl } in (g, r, v, (t, leftParse t, w, (ambiguous-second g r w, refl)))
 
   long-known : (old : List ℕ) → Tests (onReading j (λ g r t. ltb (length old) (length (resultBy F g r t .cells)))) ((xs : List ℕ) × (m : Bool) × ResultOf j F xs m × (length old < length xs))
   long-known old =
-      let w = reading-known j (λ g r t. ltb (length old) (length (resultBy F g r t .cells))) (λ g r t p. length old < length (resultBy F g r t .cells)) (λ g r t. less (length old) (length (resultBy F g r t .cells))) in (
+      let w = reading-known j (λ g r t. ltb (length old) (length (resultBy F g r t .cells)))
+      (λ g r t p. length old < length (resultBy F g r t .cells)) (λ g r t. less (length old) (length (resultBy F g r t .cells))) in (
         λ h. let x = w .0 h in (resultBy F (x .0) (x .1) (x .3 .0) .cells, resultBy F (x .0) (x .1) (x .3 .0) .ambiguous, by-reading (x .0) (x .1) (x .3 .0) (x .2) (x .3 .2 .chosen), x .3 .3),
         λ x. w .1 (x .2 .0, x .2 .1, x .2 .2, (x .2 .3 .0, x .2 .3 .1, x .2 .3 .2, longer (x .0) (x .1) (x .2) (x .3))),
       )
     where
       longer : (xs : List ℕ) (m : Bool) (x : ResultOf j F xs m) → length old < length xs → length old < length (resultBy F (x .0) (x .1) (x .3 .0) .cells)
-      longer xs m x h = subst (λ (ys : List ℕ). length old < length ys) (one-result xs (resultBy F (x .0) (x .1) (x .3 .0) .cells) m (resultBy F (x .0) (x .1) (x .3 .0) .ambiguous) x (by-reading (x .0) (x .1) (x .3 .0) (x .2) (x .3 .2 .chosen)) .0) h
+      longer xs m x h = subst (λ (ys : List ℕ). length old < length ys)
+          (one-result xs (resultBy F (x .0) (x .1) (x .3 .0) .cells) m (resultBy F (x .0) (x .1) (x .3 .0) .ambiguous) x
+          (by-reading (x .0) (x .1) (x .3 .0) (x .2) (x .3 .2 .chosen)) .0) h
 
   -- where no line applies there is a result
-  there-tree : (cs : Text) → decode (j .grammar) ≡ text cs → onText (decode (j .grammar)) (λ cs. not (isTree (parse (unmarked cs)))) ≡ false → (g : Grammar) × (treeOf (j .grammar) ≡ parsed g)
+  there-tree : (cs : Text) → decode (j .grammar) ≡ text cs → onText (decode (j .grammar)) (λ cs. not (isTree (parse (unmarked cs)))) ≡ false
+      → (g : Grammar) × (treeOf (j .grammar) ≡ parsed g)
   unfolding treeOf
   there-tree cs e f = let p = tree-there (parse (unmarked cs)) (rw e at f) in (p .0, ap afterMark e ∙ p .1)
 
@@ -177,7 +186,8 @@ module _ (j : Job) (F : Shown) where
       → ResultOf j F (resultOf j (resultBy F) .cells) (resultOf j (resultBy F) .ambiguous)
   there-result g r t et er ec = rw (et, er, ec) (by-reading g r t (tree-sound (j .grammar) g et, decode-sound (j .input) r er) (found-chosen g r ec))
 
-  there-choice : (g : Grammar) (r : Text) → treeOf (j .grammar) ≡ parsed g → decode (j .input) ≡ text r → onJob j (λ g r. not (isFound (chosenOf g r))) ≡ false → (t : Row) × (chosenOf g r ≡ found t)
+  there-choice : (g : Grammar) (r : Text) → treeOf (j .grammar) ≡ parsed g → decode (j .input) ≡ text r
+      → onJob j (λ g r. not (isFound (chosenOf g r))) ≡ false → (t : Row) × (chosenOf g r ≡ found t)
   there-choice g r et er f = choice-there (chosenOf g r) (rw (et, er) at f)
 
   there : (ts : List Test) → Fail (grammarTests (j .grammar) (recordTests j ts)) → ResultOf j F (resultOf j (resultBy F) .cells) (resultOf j (resultBy F) .ambiguous)
@@ -218,8 +228,12 @@ read-settled j old a new p = call-settled j asNumbers old (tooLong j asNumbers o
 
 pub convert-answers : (j : Job) (old : List ℕ) → Converts j old (convertOf j old .answer) (convertOf j old .buffer)
 unfolding convertOf lines made
-convert-answers j old = call-answers j asXml old (documentLines j (tooLong j asXml old ∷ [])) (documentTests j (longTest asXml j old ∷ [])) tt (document-agrees j (tooLong j asXml old ∷ []) (longTest asXml j old ∷ []) (refl, long-known j asXml old, tt))
+convert-answers j old =
+    call-answers j asXml old (documentLines j (tooLong j asXml old ∷ [])) (documentTests j (longTest asXml j old ∷ [])) tt
+    (document-agrees j (tooLong j asXml old ∷ []) (longTest asXml j old ∷ []) (refl, long-known j asXml old, tt))
 
 pub convert-settled : (j : Job) (old : List ℕ) (a : Answer) (new : List ℕ) → Converts j old a new → (a ≡ convertOf j old .answer) × (new ≡ convertOf j old .buffer)
 unfolding convertOf lines made
-convert-settled j old a new p = call-settled j asXml old (documentLines j (tooLong j asXml old ∷ [])) (documentTests j (longTest asXml j old ∷ [])) tt (document-agrees j (tooLong j asXml old ∷ []) (longTest asXml j old ∷ []) (refl, long-known j asXml old, tt)) a new p
+convert-settled j old a new p =
+    call-settled j asXml old (documentLines j (tooLong j asXml old ∷ [])) (documentTests j (longTest asXml j old ∷ [])) tt
+    (document-agrees j (tooLong j asXml old ∷ []) (longTest asXml j old ∷ []) (refl, long-known j asXml old, tt)) a new p

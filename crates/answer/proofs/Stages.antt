@@ -69,7 +69,7 @@ module _ (bs : List ℕ) (ts : List Test) where
           pub mismatch-is : mismatch bs ≡ mismatched g
           mismatch-is = rw tree-is
 
--- behind the static rules: the size, and on
+-- after the static rules: the size, and on
 module _ (g : Grammar) (ts : List Test) where
   pub stage-11 : mostSize < size g → firstOf (test 11 (λ _. ltb mostSize (size g)) ∷ ts) ≡ 11
   stage-11 l = rw (lt-ltb mostSize (size g) l)

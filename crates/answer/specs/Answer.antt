@@ -83,15 +83,22 @@ ofReading j P = ofJob j (λ g r. (t : Row) × (p : List ℕ) × Reading g r t p 
 abbrev pub tableNeed : ℕ → ℕ → ℕ
 tableNeed s n = s * ((n + 1) * (n + 2) / 2)
 
-abbrev pub recordLines : Job → List Line → List Line
-recordLines j ls =
+abbrev pub inputLines : Job → List Line → List Line
+inputLines j ls =
     line 12 (((cs : Text) × Utf8 (j .input) cs) → ⊥)
     ∷ line 13 (ofText Utf8 (j .input) (λ cs. T (not (all known cs))))
     ∷ line 14 (ofText Utf8 (j .input) (λ cs. recordChars < length cs))
     ∷ line 15 (ofJob j (λ g r. (j .mainTable < tableNeed (size g) (length r)) ⊎ (j .secondTable < grammarTable)))
-    ∷ line 16 (ofJob j (λ g r. ((t : Row) × Derivation g r t) → ⊥))
+    ∷ ls
+
+abbrev pub readingLines : Job → List Line → List Line
+readingLines j ls =
+    line 16 (ofJob j (λ g r. ((t : Row) × Derivation g r t) → ⊥))
     ∷ line 29 (ofReading j (λ g r t p. readingNumbers < length p))
     ∷ ls
+
+abbrev pub recordLines : Job → List Line → List Line
+recordLines j ls = inputLines j (readingLines j ls)
 
 abbrev pub documentLines : Job → List Line → List Line
 documentLines j ls =

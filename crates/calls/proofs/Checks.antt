@@ -1,11 +1,11 @@
 -- From a loaded grammar to the answer of checking.
-use mathlib.Core.Bool.{Bool, false, _&&_}
-use mathlib.Core.Path.{_≡_, refl, sym, subst, ap, _∙_}
+use mathlib.Core.Bool.{Bool, false}
+use mathlib.Core.Path.{_≡_, sym, subst, ap, _∙_}
 use mathlib.Core.List.{List, []}
-use Prim.Native.Nat.{ℕ, _≤_, _<_}
+use Prim.Native.Nat.{ℕ, _≤_}
 use native.Mathlib.Omega.{arith}
 use lib.Dec.{eqb}
-use borrow.Author.Tests.{eq-eqb, ne-eqb}
+use borrow.Author.Tests.{ne-eqb}
 use Rattle.answer.specs.Answer as defined
 use Rattle.answer.specs.Answer.{Checks}
 use Rattle.answer.specs.Compute.{grammarTests, mismatch, result, outcome, checkOf}
@@ -40,7 +40,8 @@ kept-is bs T p k = ap (λ (n : ℕ). outcome [] (mismatch bs) n (result [] false
 checked : (bs : List ℕ) (a : Answer) → shown a ≡ checkOf bs → Checked bs a
 checked bs a e = record { computed = e; defines = subst (Checks bs) (sym e) (check-answers bs) }
 
-pub refuses : (bs T : List ℕ) (j : Judged) (k n : ℕ) → j ≡ Refused k → n ≡ whyJudged j → Loads bs T j → Checked bs (record { number = n; length = 0; ambiguous = false; version = false })
+pub refuses : (bs T : List ℕ) (j : Judged) (k n : ℕ) → j ≡ Refused k → n ≡ whyJudged j → Loads bs T j
+    → Checked bs (record { number = n; length = 0; ambiguous = false; version = false })
 unfolding answer
 refuses bs T j k n q e l =
     let w : n ≡ k = e ∙ ap whyJudged q in

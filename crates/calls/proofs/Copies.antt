@@ -22,7 +22,8 @@ one-more (x ∷ xs) (y ∷ ys) (suc i) h l = ap (_∷_ x) (one-more xs ys i (ome
 pub copied-none : (from old : List ℕ) (count : ℕ) → Copied from old old count 0
 copied-none from old count = record { low = omega arith; is = refl; long = refl }
 
-pub copied-more : {from old now : List ℕ} {count i x : ℕ} → count ≤ length from → count ≤ length old → i < count → x ≡ getD from i 0 → Copied from old now count i → Copied from old (set now i x) count (i + 1)
+pub copied-more : {from old now : List ℕ} {count i x : ℕ} → count ≤ length from → count ≤ length old → i < count → x ≡ getD from i 0
+    → Copied from old now count i → Copied from old (set now i x) count (i + 1)
 copied-more {from} {old} {now} {count} {i} {x} h l m e w = record {
   low = omega arith;
   is = rw (e, w .is, add-one i) (one-more from old i (omega arith) (omega arith));

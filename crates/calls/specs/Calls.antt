@@ -1,5 +1,5 @@
 -- The calls' answers, as the definitions speak of them.
-use mathlib.Core.Bool.{Bool, false, _&&_}
+use mathlib.Core.Bool.{false, _&&_}
 use mathlib.Core.Path.{_≡_}
 use mathlib.Core.List.{List}
 use Prim.Native.Nat.{ℕ}
@@ -7,12 +7,9 @@ use lib.Dec.{eqb}
 use Rattle.answer.specs.Answer as defined
 use Rattle.answer.specs.Answer.{Job, Checks, Reads, Converts}
 use Rattle.answer.specs.Compute.{checkOf, readOf, convertOf}
-use Rattle.job.specs.declared.Begun.{Begun}
-use Rattle.job.specs.declared.Begun.the-variants.{At, Refused as Ended}
-use Rattle.job.specs.declared.Read.{Read}
-use Rattle.job.specs.declared.Read.the-variants.{Reading, Refused as Not-read}
+use Rattle.job.specs.declared.Refusal.{Refusal}
 use Rattle.convert.specs.declared.Converted.{Converted}
-use Rattle.convert.specs.declared.Converted.the-variants.{Xml, Refused as Not-converted}
+use Rattle.convert.specs.declared.Converted.the-variants.{Xml, Refused}
 use Rattle.calls.specs.declared.Answer.{Answer}
 
 abbrev pub shown : Answer → defined.Answer
@@ -23,21 +20,13 @@ pub record Checked (bs : List ℕ) (a : Answer) : Type 0 where
   pub computed : shown a ≡ checkOf bs
   pub defines : Checks bs (shown a)
 
-abbrev pub whyBegun : Begun → ℕ
-whyBegun (At s) = 0
-whyBegun (Ended n) = n
-
-abbrev pub whyRead : Read → ℕ
-whyRead (Reading f) = 0
-whyRead (Not-read n) = n
-
 abbrev pub whyConverted : Converted → ℕ
 whyConverted (Xml n) = 0
-whyConverted (Not-converted n) = n
+whyConverted (Refused n) = n
 
 -- "The version mark is set, for 0 and 16, exactly when …"
-abbrev pub refusalOf : ℕ → Bool → Answer
-refusalOf n mismatch = record { number = n; length = 0; ambiguous = false; version = eqb n 16 && mismatch }
+abbrev pub refusalOf : Refusal → Answer
+refusalOf r = record { number = r .number; length = 0; ambiguous = false; version = eqb (r .number) 16 && r .mismatch }
 
 -- answer and buffer are those that the definition of reading gives, of which there is exactly one
 pub record ReadAs (j : Job) (old : List ℕ) (a : Answer) (new : List ℕ) : Type 0 where

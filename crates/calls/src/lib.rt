@@ -6,11 +6,13 @@ ghost use Prim.Native.Nat.{_≤_};
 ghost use lib.Dec.{eqb};
 ghost use lib.ListN.{length, take, drop};
 ghost use Rattle.answer.specs.Answer.{job, Categorizes};
-ghost use Rattle.calls.specs.Calls.{Checked, whyBegun, whyRead, whyConverted, refusalOf, ReadAs, ConvertedAs};
+ghost use Rattle.calls.specs.Calls.{Checked, whyConverted, refusalOf, ReadAs, ConvertedAs};
 use convert::Converted;
-use job::Begun;
-use job::Read;
+use job::Parse;
+use job::Refusal;
 use load::Judged;
+use text::limits;
+use text::refusals;
 
 // What a call answers: the number of the refusal, or 0; the length of the result; the two marks.
 #[repr(C)]
@@ -26,7 +28,7 @@ pub struct Answer {
 pub extern "C" fn ixml_check(grammar: &[u8]) -> Answer
     ensures { λ r. ⌜ Checked (now (grammar .entry)) r ⌝ }
 {
-    let mut table = [0u32; 16384];
+    let mut table = [0u32; limits::GRAMMAR_TABLE];
     let judged = load::load_grammar(grammar, &mut table);
     let Judged::Grammar(kept) = judged else {
         return Answer {
@@ -37,17 +39,11 @@ pub extern "C" fn ixml_check(grammar: &[u8]) -> Answer
         };
     };
     Answer {
-        number: 0,
+        number: refusals::ANSWERED,
         length: 0,
         ambiguous: false,
         version: kept.mismatch,
     }
-}
-
-fn wide(number: u8) -> u32
-    ensures { λ r. ⌜ r ≡ number ⌝ }
-{
-    number as u32
 }
 
 // The category of a code point, by its place in the list of thirty; 30 for one that is not known here.
@@ -55,45 +51,27 @@ fn wide(number: u8) -> u32
 pub extern "C" fn ixml_category(code: u32) -> u32
     ensures { λ r. ⌜ Categorizes code r ⌝ }
 {
-    wide(category::category_of(code))
-}
-
-fn why_begun(begun: Begun) -> u32
-    ensures { λ r. ⌜ r ≡ whyBegun begun ⌝ }
-{
-    match begun {
-        Begun::At(_) => 0,
-        Begun::Refused(number) => number,
-    }
-}
-
-fn why_read(read: Read) -> u32
-    ensures { λ r. ⌜ r ≡ whyRead read ⌝ }
-{
-    match read {
-        Read::Reading(_) => 0,
-        Read::Refused(number) => number,
-    }
+    text::wide_byte(category::category_of(code))
 }
 
 // Of the refusals only 16 has the version mark.
 fn version_of(number: u32, mismatch: bool) -> bool
     ensures { λ r. ⌜ r ≡ (eqb number 16 && mismatch) ⌝ }
 {
-    if number == 16 {
+    if number == refusals::NO_READING {
         return mismatch;
     }
     false
 }
 
-fn refusal(number: u32, mismatch: bool) -> Answer
-    ensures { λ r. ⌜ r ≡ refusalOf number mismatch ⌝ }
+fn refuse(refusal: Refusal) -> Answer
+    ensures { λ r. ⌜ r ≡ refusalOf refusal ⌝ }
 {
     Answer {
-        number,
+        number: refusal.number,
         length: 0,
         ambiguous: false,
-        version: version_of(number, mismatch),
+        version: version_of(refusal.number, refusal.mismatch),
     }
 }
 
@@ -121,34 +99,33 @@ pub extern "C" fn ixml_read(
 ) -> Answer
     ensures { λ r. ⌜ ReadAs (job (now (grammar .entry)) (now («record» .entry)) (length (now (main .entry))) (length (now (second .entry)))) (now (result .entry)) r (now (result .exit)) ⌝ }
 {
-    let mut table = [0u32; 16384];
-    let mut text = [0u32; 120];
-    let mut parse = [0u32; 4096];
-    let begun = job::begin(
+    let mut table = [0u32; limits::GRAMMAR_TABLE];
+    let mut text = [0u32; limits::RECORD_CHARACTERS];
+    let mut parse = [0u32; limits::READING_NUMBERS];
+    let parsed = job::parse_record(
         grammar,
         record,
-        main.len(),
+        main,
         second.len(),
         &mut table,
         &mut text,
+        &mut parse,
     );
-    let Begun::At(start) = begun else {
-        return refusal(why_begun(begun), false);
-    };
-    let passed = start.passed;
-    let read = job::read_record(&mut table, start, &text, main, &mut parse);
-    let Read::Reading(found) = read else {
-        return refusal(why_read(read), passed.mismatch);
+    let Parse::Chosen(found) = parsed else {
+        return refuse(job::why_refused(parsed));
     };
     if result.len() < found.count {
-        return refusal(23, passed.mismatch);
+        return refuse(Refusal {
+            number: refusals::RESULT_TOO_LONG,
+            mismatch: found.mismatch,
+        });
     }
     copy(&parse, found.count, result);
     Answer {
-        number: 0,
+        number: refusals::ANSWERED,
         length: found.count,
         ambiguous: found.ambiguous,
-        version: passed.mismatch,
+        version: found.mismatch,
     }
 }
 
@@ -156,7 +133,7 @@ fn why_converted(converted: Converted) -> u32
     ensures { λ r. ⌜ r ≡ whyConverted converted ⌝ }
 {
     match converted {
-        Converted::Xml(_) => 0,
+        Converted::Xml(_) => refusals::ANSWERED,
         Converted::Refused(number) => number,
     }
 }
@@ -170,45 +147,45 @@ pub extern "C" fn ixml_convert(
     second: &[u32],
     result: &mut [u8],
 ) -> Answer
-    ensures { λ r. ⌜ ConvertedAs (job (now (grammar .entry)) (now («record» .entry)) (length (now (main .entry))) (length (now (second .entry)))) (now (result .entry)) r (now (result .exit)) ⌝ }
+    ensures { λ r. ⌜ ConvertedAs (job (now (grammar .entry)) (now («record» .entry)) (length (now (main .entry)))
+        (length (now (second .entry)))) (now (result .entry)) r (now (result .exit)) ⌝ }
 {
-    let mut table = [0u32; 16384];
-    let mut text = [0u32; 120];
-    let mut parse = [0u32; 4096];
-    let begun = job::begin(
+    let mut table = [0u32; limits::GRAMMAR_TABLE];
+    let mut text = [0u32; limits::RECORD_CHARACTERS];
+    let mut parse = [0u32; limits::READING_NUMBERS];
+    let parsed = job::parse_record(
         grammar,
         record,
-        main.len(),
+        main,
         second.len(),
         &mut table,
         &mut text,
+        &mut parse,
     );
-    let Begun::At(start) = begun else {
-        return refusal(why_begun(begun), false);
-    };
-    let passed = start.passed;
-    let read = job::read_record(&mut table, start, &text, main, &mut parse);
-    let Read::Reading(found) = read else {
-        return refusal(why_read(read), passed.mismatch);
+    let Parse::Chosen(found) = parsed else {
+        return refuse(job::why_refused(parsed));
     };
     let count = found.count;
-    let chars = start.chars;
+    let chars = found.chars;
     let converted = convert::convert(
         &table,
         found.root,
         &parse[..count],
         &text[..chars],
         found.ambiguous,
-        passed.mismatch,
+        found.mismatch,
         result,
     );
     let Converted::Xml(length) = converted else {
-        return refusal(why_converted(converted), passed.mismatch);
+        return refuse(Refusal {
+            number: why_converted(converted),
+            mismatch: found.mismatch,
+        });
     };
     Answer {
-        number: 0,
+        number: refusals::ANSWERED,
         length,
         ambiguous: found.ambiguous,
-        version: passed.mismatch,
+        version: found.mismatch,
     }
 }

@@ -32,10 +32,14 @@ same-letters-is c d x y = elim (ℕ-discrete d 0) as (λ _. same (letters c d) (
     and-true false = refl
 
 unfoldable pub firstLetters : List ℕ
-firstLetters = 76 ∷ 76 ∷ 76 ∷ 76 ∷ 76 ∷ 77 ∷ 77 ∷ 77 ∷ 78 ∷ 78 ∷ 78 ∷ 80 ∷ 80 ∷ 80 ∷ 80 ∷ 80 ∷ 80 ∷ 80 ∷ 83 ∷ 83 ∷ 83 ∷ 83 ∷ 90 ∷ 90 ∷ 90 ∷ 67 ∷ 67 ∷ 67 ∷ 67 ∷ 67 ∷ 76 ∷ 77 ∷ 78 ∷ 80 ∷ 83 ∷ 90 ∷ 67 ∷ 76 ∷ []
+firstLetters =
+    76 ∷ 76 ∷ 76 ∷ 76 ∷ 76 ∷ 77 ∷ 77 ∷ 77 ∷ 78 ∷ 78 ∷ 78 ∷ 80 ∷ 80 ∷ 80 ∷ 80 ∷ 80 ∷ 80 ∷ 80 ∷ 83 ∷ 83 ∷ 83 ∷ 83 ∷ 90 ∷ 90 ∷ 90 ∷ 67 ∷ 67 ∷
+    67 ∷ 67 ∷ 67 ∷ 76 ∷ 77 ∷ 78 ∷ 80 ∷ 83 ∷ 90 ∷ 67 ∷ 76 ∷ []
 
 unfoldable pub secondLetters : List ℕ
-secondLetters = 117 ∷ 108 ∷ 116 ∷ 109 ∷ 111 ∷ 110 ∷ 99 ∷ 101 ∷ 100 ∷ 108 ∷ 111 ∷ 99 ∷ 100 ∷ 115 ∷ 101 ∷ 105 ∷ 102 ∷ 111 ∷ 109 ∷ 99 ∷ 107 ∷ 111 ∷ 115 ∷ 108 ∷ 112 ∷ 99 ∷ 102 ∷ 115 ∷ 111 ∷ 110 ∷ 0 ∷ 0 ∷ 0 ∷ 0 ∷ 0 ∷ 0 ∷ 0 ∷ 67 ∷ []
+secondLetters =
+    117 ∷ 108 ∷ 116 ∷ 109 ∷ 111 ∷ 110 ∷ 99 ∷ 101 ∷ 100 ∷ 108 ∷ 111 ∷ 99 ∷ 100 ∷ 115 ∷ 101 ∷ 105 ∷ 102 ∷ 111 ∷ 109 ∷ 99 ∷ 107 ∷ 111 ∷ 115 ∷
+    108 ∷ 112 ∷ 99 ∷ 102 ∷ 115 ∷ 111 ∷ 110 ∷ 0 ∷ 0 ∷ 0 ∷ 0 ∷ 0 ∷ 0 ∷ 0 ∷ 67 ∷ []
 
 spelt : ℕ → ℕ → Bool
 spelt k x = same (letters x (getD secondLetters k 0)) (getD classes k [])
@@ -63,7 +67,8 @@ pub listed : length classes ≡ 38
 unfolding classes categories
 listed = refl
 
-pub class-here : (c d i a b : ℕ) (r : Bool) → i < 38 → a ≡ getD firstLetters i 0 → b ≡ getD secondLetters i 0 → r ≡ same (letters c d) (letters a b) → same (letters c d) (getD classes i []) ≡ r
+pub class-here : (c d i a b : ℕ) (r : Bool) → i < 38 → a ≡ getD firstLetters i 0 → b ≡ getD secondLetters i 0
+    → r ≡ same (letters c d) (letters a b) → same (letters c d) (getD classes i []) ≡ r
 class-here c d i a b r h p q e = sym (e ∙ rw (p, q) (ap (same (letters c d)) (class-letters i h)))
 
 -- a text of the list, at its place

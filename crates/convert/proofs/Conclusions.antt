@@ -12,14 +12,14 @@ use Rattle.tree.specs.Tree.{Grammar}
 use Rattle.derive.specs.Derive.{Row, root}
 use Rattle.xml.specs.Document.{document, markOf, twice, misnamed, unwritable, isAttribute, notOne, namespaced}
 use Rattle.xml.specs.Bytes.{bytes}
-use Rattle.ends.specs.Noted.{Noted, Parsed, Room}
+use Rattle.left_parse.specs.Noted.{Noted, Parsed, Room}
 use Rattle.writer.specs.declared.Written as writer
 use Rattle.writer.specs.declared.Written.the-variants as written
 use Rattle.writer.specs.Whole.{Job, Some, Writable, Answered}
-use Rattle.judge.specs.declared.Verdict.{Verdict}
-use Rattle.judge.specs.declared.Verdict.the-variants.{Allowed, Forbidden}
-use Rattle.judge.specs.Judgment.{topmost, judgmentOf, Judged}
-use Rattle.judge.proofs.Verdicts.{none-of, some-of}
+use Rattle.dynamic_errors.specs.declared.Verdict.{Verdict}
+use Rattle.dynamic_errors.specs.declared.Verdict.the-variants.{Allowed, Forbidden}
+use Rattle.dynamic_errors.specs.Judgment.{topmost, judgmentOf, Judged}
+use Rattle.dynamic_errors.proofs.Verdicts.{none-of, some-of}
 use Rattle.convert.specs.declared.Converted.the-variants.{Xml, Refused}
 use Rattle.convert.specs.Concluded.{Parsing, Ready, Written, NotWritten, whyOf, Concludes}
 
@@ -80,13 +80,18 @@ module _ {T : List ℕ} {root : ℕ} {P : List ℕ} {r : Text} where
 
         pub concluded : (n : ℕ) → x ≡ written.Xml n → Concludes g r t a m old new (Xml n)
         concluded n q = ⊎-elim
-            (λ (l : length old < length (bytes a m (document g r t))). absurd (let s : written.Xml n ≡ written.TooLong = sym q ∙ answered .long l .0 in let z : _≡_ {A = ℕ} 0 1 = cc in omega arith))
-            (λ (l : length (bytes a m (document g r t)) ≤ length old). (let v = answered .fits l in let s : written.Xml n ≡ written.Xml (length (bytes a m (document g r t))) = sym q ∙ v .0 in let c : n ≡ length (bytes a m (document g r t)) = cc in
+            (λ (l : length old < length (bytes a m (document g r t))). absurd
+            (let s : written.Xml n ≡ written.TooLong = sym q ∙ answered .long l .0 in let z : _≡_ {A = ℕ} 0 1 = cc in omega arith))
+            (λ (l : length (bytes a m (document g r t)) ≤ length old). (let v = answered .fits l in
+            let s : written.Xml n ≡ written.Xml (length (bytes a m (document g r t))) = sym q ∙ v .0 in
+            let c : n ≡ length (bytes a m (document g r t)) = cc in
             record { allowed = allowed; count = c; fits = l; buffer = v .1 }))
             (split (length old) (length (bytes a m (document g r t))))
 
         pub too-long : x ≡ written.TooLong → Concludes g r t a m old new (Refused 23)
         too-long q = ⊎-elim
             (λ (l : length old < length (bytes a m (document g r t))). record { why = inr (allowed, refl, l); buffer = answered .long l .1 })
-            (λ (l : length (bytes a m (document g r t)) ≤ length old). absurd (let s : written.TooLong ≡ written.Xml (length (bytes a m (document g r t))) = sym q ∙ answered .fits l .0 in let z : _≡_ {A = ℕ} 0 1 = cc in omega arith))
+            (λ (l : length (bytes a m (document g r t)) ≤ length old). absurd
+            (let s : written.TooLong ≡ written.Xml (length (bytes a m (document g r t))) = sym q ∙ answered .fits l .0 in
+            let z : _≡_ {A = ℕ} 0 1 = cc in omega arith))
             (split (length old) (length (bytes a m (document g r t))))

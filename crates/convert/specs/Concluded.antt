@@ -13,10 +13,10 @@ use Rattle.derive.specs.Derive.{Row}
 use Rattle.items.specs.Items.{Reads}
 use Rattle.xml.specs.Document.{document}
 use Rattle.xml.specs.Bytes.{bytes}
-use Rattle.ends.specs.Noted.{Parsed}
-use Rattle.judge.specs.declared.Verdict.{Verdict}
-use Rattle.judge.specs.declared.Verdict.the-variants.{Allowed, Forbidden}
-use Rattle.judge.specs.Judgment.{judgmentOf}
+use Rattle.left_parse.specs.Noted.{Parsed}
+use Rattle.dynamic_errors.specs.declared.Verdict.{Verdict}
+use Rattle.dynamic_errors.specs.declared.Verdict.the-variants.{Allowed, Forbidden}
+use Rattle.dynamic_errors.specs.Judgment.{judgmentOf}
 use Rattle.convert.specs.declared.Converted.{Converted}
 use Rattle.convert.specs.declared.Converted.the-variants.{Xml, Refused}
 

@@ -3,8 +3,13 @@ ghost use mathlib.Core.Path.{_≡_};
 ghost use Rattle.tree.specs.Tree.{Grammar};
 ghost use Rattle.derive.specs.Derive.{Row};
 ghost use Rattle.convert.specs.Concluded.{whyOf, Ready, Parsing, Concludes};
-use judge::Verdict;
+use dynamic_errors::Verdict;
+use text::limits;
+use text::refusals;
 use writer::Written;
+
+// Two numbers are noted of each entry of a left parse.
+const NOTES: usize = 2 * limits::READING_NUMBERS;
 
 // The count of the XML's bytes, or the refusal.
 pub enum Converted {
@@ -17,7 +22,7 @@ fn why(judged: Verdict) -> u32
     ensures { λ r. ⌜ r ≡ whyOf judged ⌝ }
 {
     match judged {
-        Verdict::Allowed => 0,
+        Verdict::Allowed => refusals::ANSWERED,
         Verdict::Forbidden(number) => number,
     }
 }
@@ -33,12 +38,13 @@ pub fn convert(
     out: &mut [u8],
 ) -> Converted
     requires { ⌜ Ready (now table) root (now parse) (now «record») ⌝ }
-    ensures { λ a. ⌜ ((g : Grammar) (t : Row) → Parsing (now (table .entry)) root (now (parse .entry)) (now («record» .entry)) g t → Concludes g (now («record» .entry)) t ambiguous mismatch (now (out .entry)) (now (out .exit)) a) ⌝ }
+    ensures { λ a. ⌜ ((g : Grammar) (t : Row) → Parsing (now (table .entry)) root (now (parse .entry)) (now («record» .entry)) g t
+        → Concludes g (now («record» .entry)) t ambiguous mismatch (now (out .entry)) (now (out .exit)) a) ⌝ }
 {
-    let mut scratch = [0u32; 8192];
-    let mut seen = [0u32; 4096];
-    ends::note(table, root, parse, &mut scratch);
-    let judged = judge::judge(table, root, parse, record, &mut scratch, &mut seen);
+    let mut scratch = [0u32; NOTES];
+    let mut seen = [0u32; limits::READING_NUMBERS];
+    left_parse::note(table, root, parse, &mut scratch);
+    let judged = dynamic_errors::first_error(table, root, parse, record, &mut scratch, &mut seen);
     let Verdict::Allowed = judged else {
         return Converted::Refused(why(judged));
     };
@@ -53,7 +59,7 @@ pub fn convert(
         out,
     );
     let Written::Xml(n) = written else {
-        return Converted::Refused(23);
+        return Converted::Refused(refusals::RESULT_TOO_LONG);
     };
     Converted::Xml(n)
 }

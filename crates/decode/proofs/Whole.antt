@@ -74,14 +74,14 @@ all-snoc (x ∷ cs) c = sym (and-assoc (known x) (all known cs) (known c)) ∙ a
 pub record At (bs old out : List ℕ) (i n : ℕ) (fine : Bool) : Type 0 where
   pub chars : Text
   pub count : n ≡ length chars
-  pub behind : n ≤ i
+  pub trails : n ≤ i
   pub within : i ≤ length bs
   pub split : decode bs ≡ pushes chars (decode (drop i bs))
   pub stored : out ≡ over chars old
   pub known : fine ≡ all known chars
 
 pub begin : (bs old : List ℕ) → At bs old old 0 0 true
-begin bs old = record { chars = []; count = refl; behind = omega arith; within = omega arith; split = refl; stored = over-nil old; known = refl }
+begin bs old = record { chars = []; count = refl; trails = omega arith; within = omega arith; split = refl; stored = over-nil old; known = refl }
 
 some-left : (bs : List ℕ) (i : ℕ) → i < length bs → 0 < length (drop i bs)
 some-left bs i h = simp length-drop (omega arith)
@@ -150,13 +150,13 @@ module _ (bs old out : List ℕ) (i n : ℕ) (fine : Bool) (w : At bs old out i 
       pub next : (new : List ℕ) → new ≡ set out n c → (k : Bool) → k ≡ known c → (b : Bool) → b ≡ fine && k → At bs old new (p .0) (n + 1) b
       next new g k u b v =
           let z = step in
-          let q = w .behind in
+          let q = w .trails in
           let l = z .far in
           let x = w .count in
           record {
             chars = w .chars ++ c ∷ [];
             count = simp length-append (omega arith);
-            behind = omega arith;
+            trails = omega arith;
             within = z .within;
             split = w .split ∙ ap (pushes (w .chars)) (z .on) ∙ sym (pushes-snoc (w .chars) c (decode (drop (p .0) bs)));
             stored = g ∙ rw (w .stored, x) (over-snoc (w .chars) c old);
@@ -211,7 +211,7 @@ unfolding unmarked
 unmark-push (text cs) = refl
 unmark-push not-utf8 = refl
 
--- behind the mark; where there is none, the whole
+-- after the mark; where there is none, the whole
 skips : (bs : List ℕ) → true ≡ begun bs → unmark (decode bs) ≡ decode (drop 3 bs)
 skips bs h = ap (λ (x : List ℕ). unmark (decode x)) (mark-is bs h) ∙ ap unmark (decode-mark (drop 3 bs)) ∙ unmark-push (decode (drop 3 bs))
 
@@ -227,5 +227,5 @@ keeps bs h = go (decode bs) refl
     ]
     go not-utf8 e = refl
 
-pub behind : (bs : List ℕ) → true ≡ begun bs → decode (take (length bs - 3) (drop 3 bs)) ≡ unmark (decode bs)
-behind bs h = ap decode (take-all (length bs - 3) (drop 3 bs) (simp length-drop (omega arith))) ∙ sym (skips bs h)
+pub after-mark : (bs : List ℕ) → true ≡ begun bs → decode (take (length bs - 3) (drop 3 bs)) ≡ unmark (decode bs)
+after-mark bs h = ap decode (take-all (length bs - 3) (drop 3 bs) (simp length-drop (omega arith))) ∙ sym (skips bs h)

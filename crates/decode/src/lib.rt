@@ -36,12 +36,6 @@ pub enum Decoding {
     Unknown,
 }
 
-fn wide(b: u8) -> u32
-    ensures { λ r. ⌜ r ≡ b ⌝ }
-{
-    b as u32
-}
-
 fn second_low(b: u8) -> u8
     ensures { λ r. ⌜ r ≡ secondLow b ⌝ }
 {
@@ -73,7 +67,7 @@ fn lead_with(more: usize, bits: u8, b: u8) -> Lead
         more,
         low: second_low(b),
         high: second_high(b),
-        bits: wide(bits),
+        bits: text::wide_byte(bits),
     }
 }
 
@@ -127,7 +121,7 @@ pub fn step_at(bytes: &[u8], at: BytePlace) -> Step
         if high < b {
             return Step::Malformed(at);
         }
-        v = v * 64 + wide(b - 0x80);
+        v = v * 64 + text::wide_byte(b - 0x80);
         low = 0x80;
         high = 0xbf;
         k += 1;
@@ -140,15 +134,6 @@ pub fn known(code: u32) -> bool
     ensures { λ r. ⌜ r ≡ knownChar code ⌝ }
 {
     code <= 0xff
-}
-
-fn both(a: bool, b: bool) -> bool
-    ensures { λ r. ⌜ r ≡ a && b ⌝ }
-{
-    if a {
-        return b;
-    }
-    false
 }
 
 // Stores a character where there is room.
@@ -174,7 +159,7 @@ pub fn decode_text(bytes: &[u8], out: &mut [u32]) -> Decoding
         };
         let k = n.0;
         keep(out, k, code);
-        fine = both(fine, known(code));
+        fine = text::both(fine, known(code));
         n = CharPlace(k + 1);
         at = next;
     }

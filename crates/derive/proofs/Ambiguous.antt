@@ -76,7 +76,8 @@ module _ (g : Grammar) (r : Text) where
   way-bounded : {ss : List Symbol} {i j h : ℕ} {fs : List ℕ} → Inside g ss → j ≤ length r → Way g r ss i j fs h → T (can g r (top g r) ss i j)
   way-bounded n l w = bounded-can g r n l (way-row g r w .derives)
 
-  elsewhere-complete : {ss : List Symbol} {i j h : ℕ} {fs : List ℕ} (es : List ℕ) → Inside g ss → j ≤ length r → Way g r ss i j fs h → (fs ≡ es → ⊥) → T (elsewhere (canOne g r (top g r)) ss i j es)
+  elsewhere-complete : {ss : List Symbol} {i j h : ℕ} {fs : List ℕ} (es : List ℕ) → Inside g ss → j ≤ length r → Way g r ss i j fs h
+      → (fs ≡ es → ⊥) → T (elsewhere (canOne g r (top g r)) ss i j es)
   elsewhere-complete [] n l w-end f = absurd (f refl)
   elsewhere-complete (e ∷ es) n l (w-end {i}) f = eqb-refl i
   elsewhere-complete [] n l (w-child a w) f = way-bounded n l (w-child a w)

@@ -2,7 +2,8 @@
 use mathlib.Core.Path.{_≡_, refl, sym, ap, subst}
 use mathlib.Core.Bool.{Bool, true, false}
 use mathlib.Core.Logic.{_⊎_, inl, inr, _↔_}
-use mathlib.Core.List.{List, [], _∷_, map, List·Memᴰ as In, List·Memᴰ·head as in-head, List·Memᴰ·tail as in-tail, Memᴰ·append-left as in-left, Memᴰ·append-right as in-right, Memᴰ·map as in-map}
+use mathlib.Core.List.{List, [], _∷_, map, List·Memᴰ as In, List·Memᴰ·head as in-head, List·Memᴰ·tail as in-tail}
+use mathlib.Core.List.{Memᴰ·append-left as in-left, Memᴰ·append-right as in-right, Memᴰ·map as in-map}
 use Prim.Native.Nat.{ℕ, zero, suc, _+_, _*_, _≤_}
 use native.Mathlib.Nat.{suc-mul}
 use native.Mathlib.Decide.{decLe, ℕ-discrete}
@@ -103,7 +104,14 @@ cellsOf ps s = map (λ p. (s, p)) ps
 
 cells-length : (ps : List (ℕ × ℕ)) (ss : List Symbol) → length (concatMap (cellsOf ps) ss) ≡ length ss * length ps
 cells-length ps [] = omega arith
-cells-length ps (s ∷ ss) = omega (arith, length-append (cellsOf ps s) (concatMap (cellsOf ps) ss), length-map {B = Cell} ps (λ (p : ℕ × ℕ). (s, p)), cells-length ps ss, suc-mul (length ss) (length ps))
+cells-length ps (s ∷ ss) = omega (
+  arith,
+  length-append (cellsOf ps s) (concatMap (cellsOf ps) ss),
+  length-map {B = Cell} ps
+      (λ (p : ℕ × ℕ). (s, p)),
+  cells-length ps ss,
+  suc-mul (length ss) (length ps),
+)
 
 module _ (g : Grammar) (r : Text) where
   abbrev cells : List Cell
@@ -131,7 +139,8 @@ module _ (g : Grammar) (r : Text) where
       record {
         k = w .k;
         early = w .early;
-        settled = λ s i j h l q. count-same (full (w .k)) (full (suc (w .k))) up cells (w .flat) {x = (s, (i, j))} (in-concat (cellsOf (stretches (length r))) (symbolsOf g) h (in-map (λ (p : ℕ × ℕ). (s, p)) (in-stretches i j (length r) l q)));
+        settled = λ s i j h l q. count-same (full (w .k)) (full (suc (w .k))) up cells (w .flat) {x = (s, (i, j))}
+            (in-concat (cellsOf (stretches (length r))) (symbolsOf g) h (in-map (λ (p : ℕ × ℕ). (s, p)) (in-stretches i j (length r) l q)));
       }
 
   -- from a settled level on there is nothing new

@@ -28,7 +28,8 @@ pub record SamePick (a b : ℕ) (es fs : List ℕ) : Type 0 where
   pub number : a ≡ b
   pub places : es ≡ fs
 
-first-both : {X Y : Type 0} (a b : ℕ) (es fs : List ℕ) → (X → a ≡ b → ⊥) → (Y → b ≡ a → ⊥) → (X → Y → ⊥) → X ⊎ ((a ≡ b) × NotAfter es fs) → Y ⊎ ((b ≡ a) × NotAfter fs es) → SamePick a b es fs
+first-both : {X Y : Type 0} (a b : ℕ) (es fs : List ℕ) → (X → a ≡ b → ⊥) → (Y → b ≡ a → ⊥) → (X → Y → ⊥) → X ⊎ ((a ≡ b) × NotAfter es fs)
+    → Y ⊎ ((b ≡ a) × NotAfter fs es) → SamePick a b es fs
 first-both a b es fs u v w (inl h) (inl k) = absurd (w h k)
 first-both a b es fs u v w (inl h) (inr k) = absurd (u h (sym (k .0)))
 first-both a b es fs u v w (inr h) (inl k) = absurd (v k (sym (h .0)))
@@ -47,7 +48,8 @@ module _ (g : Grammar) (r : Text) where
 
   pub picked-same : {s : Symbol} {i j a b : ℕ} {es fs : List ℕ} → Picked g r s i j a es → Picked g r s i j b fs → SamePick a b es fs
   picked-same {a = a} {b = b} {es = es} {fs = fs} p q =
-      first-both a b es fs (λ h e. omega arith) (λ h e. omega arith) (λ h k. omega arith) (p .first b (q .high) fs (q .exists) (q .way) (q .lowest)) (q .first a (p .high) es (p .exists) (p .way) (p .lowest))
+      first-both a b es fs (λ h e. omega arith) (λ h e. omega arith) (λ h k. omega arith)
+      (p .first b (q .high) fs (q .exists) (q .way) (q .lowest)) (q .first a (p .high) es (p .exists) (p .way) (p .lowest))
 
   -- of the same symbols with the same end places, one row is chosen
   pub chosen-unique : {t t' : Row} {ss : List Symbol} {i j j' : ℕ} → Chosen g r t ss i j → Chosen g r t' ss i j' → ends t ≡ ends t' → t ≡ t'

@@ -5,7 +5,8 @@ use mathlib.Core.List.{List, [], _∷_}
 use Prim.Native.Nat.{ℕ, _+_}
 use Prim.Native.String.{String}
 use Rattle.text.specs.Lists.{Text, chars}
-use Rattle.tree.specs.Tree.{unmarked, string, range, literal, inclusion, Symbol, terminal, nonterminal, group, option, repeat0, repeat1, Alternative, nil, cons, Body, one, also, Rule, no-prolog, Grammar}
+use Rattle.tree.specs.Tree.{unmarked, string, range, literal, inclusion, Symbol, terminal, nonterminal, group, option, repeat0, repeat1}
+use Rattle.tree.specs.Tree.{Alternative, nil, cons, Body, one, also, Rule, no-prolog, Grammar}
 use Rattle.plain.specs.Static.{codeOf}
 use Rattle.derive.specs.Derive.{Row, end, leaf, node, Derivation, leftParse}
 use Rattle.derive.specs.Chosen.{Reading, Second}
@@ -113,7 +114,8 @@ d = name "d"
 
 abbrev g9 : Grammar
 g9 = from (one (cons (name "lat") (cons (lit " ") (cons (name "lon") nil))))
-    (rule "lat" (one (just (repeat1 d))) ∷ rule "lon" (one (just (repeat1 d))) ∷ rule "d" (one (just (terminal (inclusion unmarked (range (string (chars "0")) (string (chars "9")) ∷ []))))) ∷ [])
+    (rule "lat" (one (just (repeat1 d))) ∷ rule "lon" (one (just (repeat1 d))) ∷ rule "d"
+    (one (just (terminal (inclusion unmarked (range (string (chars "0")) (string (chars "9")) ∷ []))))) ∷ [])
 
 abbrev digits : ℕ → ℕ → Row
 digits i j = node 0 j (node 0 j (node 0 (i + 1) (leaf (i + 1) end) (node 0 j (node 0 j (leaf j end) (node 1 j end end)) end)) end) end

@@ -126,10 +126,12 @@ module _ (g : Grammar) (r : Text) where
       let u = way-row (w .way) in
       record { tree = node (w .number) j (u .row) end; derives = d-node (w .exists) (u .derives) d-end; attained = omega (arith, u .high); least = λ t d. ways-above w d }
 
-  way-above : {s : Symbol} {i j k b h : ℕ} {fs : List ℕ} → ((u : Row) → Derives g r u (s ∷ []) i j → suc k ≤ height u) → b < length (alts g s) → Way g r (alternative g s b) i j fs h → k ≤ h
+  way-above : {s : Symbol} {i j k b h : ℕ} {fs : List ℕ} → ((u : Row) → Derives g r u (s ∷ []) i j → suc k ≤ height u)
+      → b < length (alts g s) → Way g r (alternative g s b) i j fs h → k ≤ h
   way-above {j = j} {b = b} f lb w = let u = way-row w in omega (arith, u .high, f (node b j (u .row) end) (d-node lb (u .derives) d-end))
 
-  least-ways : {t : Row} {s : Symbol} {i j k : ℕ} → Derives g r t (s ∷ []) i j → height t ≡ suc k → ((u : Row) → Derives g r u (s ∷ []) i j → suc k ≤ height u) → LowestWay s i j k
+  least-ways : {t : Row} {s : Symbol} {i j k : ℕ} → Derives g r t (s ∷ []) i j → height t ≡ suc k
+      → ((u : Row) → Derives g r u (s ∷ []) i j → suc k ≤ height u) → LowestWay s i j k
   least-ways (d-leaf l d-end) e f = absurd (omega arith)
   least-ways {k = k} (d-node {c = c} {a = a} la dc d-end) e f =
       let v = row-way dc in

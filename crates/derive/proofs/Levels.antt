@@ -91,7 +91,8 @@ module _ (g : Grammar) (r : Text) where
   spelt-low : (k : ℕ) (s : Symbol) (i j : ℕ) → Spelt r s i j → Low k (s ∷ []) i j
   spelt-low k s i j w = record {
     row = leaf (i + width (w .x)) end;
-    derives = subst (λ (z : Symbol). Derives g r (leaf (i + width (w .x)) end) (z ∷ []) i j) (sym (w .is)) (d-leaf (w .fit) (subst (λ (z : ℕ). Derives g r end [] (i + width (w .x)) z) (w .stop) d-end));
+    derives = subst (λ (z : Symbol). Derives g r (leaf (i + width (w .x)) end) (z ∷ []) i j) (sym (w .is))
+        (d-leaf (w .fit) (subst (λ (z : ℕ). Derives g r end [] (i + width (w .x)) z) (w .stop) d-end));
     low = omega arith;
   }
 

@@ -62,7 +62,8 @@ module _ (g : Grammar) (r : Text) where
     pub picked : PickedRow g r k ss place j others
     pub smallest : (m h n : ℕ) (fs : List ℕ) → Least g r s i m h → h ≤ k → Way g r ss m j fs n → n ≤ k → place ≤ m
 
-  node-by : {k high : ℕ} {s : Symbol} {ss : List Symbol} {i j : ℕ} {t : Row} → ((x : Terminal) → s ≡ terminal x → ⊥) → Chosen g r t (s ∷ ss) i j → Way g r (s ∷ ss) i j (ends t) high → high ≤ k
+  node-by : {k high : ℕ} {s : Symbol} {ss : List Symbol} {i j : ℕ} {t : Row} → ((x : Terminal) → s ≡ terminal x → ⊥)
+      → Chosen g r t (s ∷ ss) i j → Way g r (s ∷ ss) i j (ends t) high → high ≤ k
       → ((fs : List ℕ) (h : ℕ) → Way g r (s ∷ ss) i j fs h → h ≤ k → NotAfter (ends t) fs) → NodeRow k s ss i j t
   node-by n (ch-leaf {x = x} f d) w q u = absurd (n x refl)
   node-by n (ch-node {c = c} {t = t} {a = a} {m = m} p e d) (w-child {h = h} {k = h'} l w) q u = record {
@@ -98,7 +99,8 @@ module _ (g : Grammar) (r : Text) where
   }
 
   -- no alternative before it is as low
-  pub earliest : {s : Symbol} {i j a b : ℕ} {es : List ℕ} {t : Row} (p : Picked g r s i j a es) → b < length (alts g s) → Derives g r t (alternative g s b) i j → height t ≤ p .high → a ≤ b
+  pub earliest : {s : Symbol} {i j a b : ℕ} {es : List ℕ} {t : Row} (p : Picked g r s i j a es) → b < length (alts g s)
+      → Derives g r t (alternative g s b) i j → height t ≤ p .high → a ≤ b
   earliest {b = b} {t = t} p l d q =
       let w = row-way g r d in
       let e : p .high ≡ w .k = omega (arith, way-lowest p l (w .way), w .below) in

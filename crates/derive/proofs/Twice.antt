@@ -73,10 +73,11 @@ module _ (g : Grammar) (r : Text) where
   another-twice (d-node h k d) (aw-later w) = tw-later (another-twice d w)
 
   twice-another : {t : Row} {ss : List Symbol} {i j : ℕ} → Derives g r t ss i j → Twice t ss i j → AnotherWay g r t ss i j ⊎ OtherEnds t ss i j
-  twice-another (d-leaf {x} {ss} {t} {i} {j} l d) (tw-skip w) = elim (twice-another d w) as (λ _. AnotherWay g r (leaf (i + width x) t) (terminal x ∷ ss) i j ⊎ OtherEnds (leaf (i + width x) t) (terminal x ∷ ss) i j) [
-    | inl v ↦ inl (aw-skip v)
-    | inr v ↦ inr (record { row = leaf (i + width x) (v .row); derives = d-leaf l (v .derives); other = λ e. v .other (tail-eq-of-cons-eq e) })
-  ]
+  twice-another (d-leaf {x} {ss} {t} {i} {j} l d) (tw-skip w) = elim (twice-another d w) as (λ _. AnotherWay g r (leaf (i + width x) t)
+      (terminal x ∷ ss) i j ⊎ OtherEnds (leaf (i + width x) t) (terminal x ∷ ss) i j) [
+        | inl v ↦ inl (aw-skip v)
+        | inr v ↦ inr (record { row = leaf (i + width x) (v .row); derives = d-leaf l (v .derives); other = λ e. v .other (tail-eq-of-cons-eq e) })
+      ]
   twice-another (d-node h k d) (tw-place w) = inr (record {
     row = beside (w .tree) (w .row);
     derives = join g r (w .one) (w .others);
@@ -85,15 +86,21 @@ module _ (g : Grammar) (r : Text) where
   twice-another (d-node h k d) (tw-number w) =
       let v = row-way g r (w .derives) in
       inl (aw-here (record { number = w .number; places = ends (w .row); high = v .k; exists = w .exists; way = v .way; other = λ e _. w .other e }))
-  twice-another (d-node {s} {ss} {c} {t} {a} {i} {m} {j} h k d) (tw-inside w) = elim (twice-another k w) as (λ _. AnotherWay g r (node a m c t) (s ∷ ss) i j ⊎ OtherEnds (node a m c t) (s ∷ ss) i j) [
-    | inl v ↦ inl (aw-inside v)
-    | inr v ↦ (let u = row-way g r (v .derives) in inl (aw-here (record { number = a; places = ends (v .row); high = u .k; exists = h; way = u .way; other = λ _ e. v .other e })))
-  ]
-  twice-another (d-node {s} {ss} {c} {t} {a} {i} {m} {j} h k d) (tw-later w) = elim (twice-another d w) as (λ _. AnotherWay g r (node a m c t) (s ∷ ss) i j ⊎ OtherEnds (node a m c t) (s ∷ ss) i j) [
-    | inl v ↦ inl (aw-later v)
-    | inr v ↦ inr (record { row = node a m c (v .row); derives = d-node h k (v .derives); other = λ e. v .other (tail-eq-of-cons-eq e) })
-  ]
+  twice-another (d-node {s} {ss} {c} {t} {a} {i} {m} {j} h k d)
+      (tw-inside w) = elim (twice-another k w) as (λ _. AnotherWay g r (node a m c t) (s ∷ ss) i j ⊎ OtherEnds (node a m c t) (s ∷ ss) i j) [
+        | inl v ↦ inl (aw-inside v)
+        | inr v ↦ (let u = row-way g r (v .derives) in inl (aw-here (record { number = a; places = ends (v .row); high = u .k; exists = h; way = u .way; other = λ _ e. v .other e })))
+      ]
+  twice-another (d-node {s} {ss} {c} {t} {a} {i} {m} {j} h k d)
+      (tw-later w) = elim (twice-another d w) as (λ _. AnotherWay g r (node a m c t) (s ∷ ss) i j ⊎ OtherEnds (node a m c t) (s ∷ ss) i j) [
+        | inl v ↦ inl (aw-later v)
+        | inr v ↦ inr (record { row = node a m c (v .row); derives = d-node h k (v .derives); other = λ e. v .other (tail-eq-of-cons-eq e) })
+      ]
 
   -- for one symbol on a stretch, the end place of which is given
   pub twice-is : {t : Row} {s : Symbol} {i j : ℕ} → Derives g r t (s ∷ []) i j → AnotherWay g r t (s ∷ []) i j ↔ Twice t (s ∷ []) i j
-  twice-is {t} {s} {i} {j} d = (another-twice d, λ w. elim (twice-another d w) as (λ _. AnotherWay g r t (s ∷ []) i j) [ inl v ↦ v | inr v ↦ absurd (v .other (single-ends g r (v .derives) ∙ sym (single-ends g r d))) ])
+  twice-is {t} {s} {i} {j} d = (
+    another-twice d,
+    λ w. elim (twice-another d w) as (λ _. AnotherWay g r t (s ∷ []) i j)
+        [ inl v ↦ v | inr v ↦ absurd (v .other (single-ends g r (v .derives) ∙ sym (single-ends g r d))) ],
+  )

@@ -15,7 +15,8 @@ pub record Same (t t' : Row) (j j' : ℕ) (xs ys : List ℕ) : Type 0 where
   pub follows : xs ≡ ys
 
 module _ (g : Grammar) (r : Text) where
-  pub same-parse : {t t' : Row} {ss : List Symbol} {i j j' : ℕ} (xs ys : List ℕ) → Derives g r t ss i j → Derives g r t' ss i j' → leftParse t ++ xs ≡ leftParse t' ++ ys → Same t t' j j' xs ys
+  pub same-parse : {t t' : Row} {ss : List Symbol} {i j j' : ℕ} (xs ys : List ℕ) → Derives g r t ss i j → Derives g r t' ss i j'
+      → leftParse t ++ xs ≡ leftParse t' ++ ys → Same t t' j j' xs ys
   same-parse xs ys d-end d-end e = record { rows = refl; stops = refl; follows = e }
   same-parse xs ys (d-leaf {x} {i = i} l d) (d-leaf l' d') e =
       let s = same-parse xs ys d d' e in

@@ -48,7 +48,8 @@ ends (node a m c t) = m ∷ ends t
 pub data Chosen (g : Grammar) (r : Text) : Row → List Symbol → ℕ → ℕ → Type 0 where
   ch-end : {i : ℕ} → Chosen g r end [] i i
   ch-leaf : {x : Terminal} {ss : List Symbol} {t : Row} {i j : ℕ} → T (fits x (drop i r)) → Chosen g r t ss (i + width x) j → Chosen g r (leaf (i + width x) t) (terminal x ∷ ss) i j
-  ch-node : {s : Symbol} {ss : List Symbol} {c t : Row} {a i m j : ℕ} → Picked g r s i m a (ends c) → Chosen g r c (alternative g s a) i m → Chosen g r t ss m j → Chosen g r (node a m c t) (s ∷ ss) i j
+  ch-node : {s : Symbol} {ss : List Symbol} {c t : Row} {a i m j : ℕ} → Picked g r s i m a (ends c) → Chosen g r c (alternative g s a) i m
+      → Chosen g r t ss m j → Chosen g r (node a m c t) (s ∷ ss) i j
 
 -- "The chosen reading is the left parse of the derivation of the record so chosen."
 pub record Reading (g : Grammar) (r : Text) (t : Row) (p : List ℕ) : Type 0 where

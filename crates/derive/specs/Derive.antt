@@ -23,7 +23,8 @@ alternative g s a = getD (alts g s) a []
 pub data Derives (g : Grammar) (r : Text) : Row → List Symbol → ℕ → ℕ → Type 0 where
   d-end : {i : ℕ} → Derives g r end [] i i
   d-leaf : {x : Terminal} {ss : List Symbol} {t : Row} {i j : ℕ} → T (fits x (drop i r)) → Derives g r t ss (i + width x) j → Derives g r (leaf (i + width x) t) (terminal x ∷ ss) i j
-  d-node : {s : Symbol} {ss : List Symbol} {c t : Row} {a i m j : ℕ} → a < length (alts g s) → Derives g r c (alternative g s a) i m → Derives g r t ss m j → Derives g r (node a m c t) (s ∷ ss) i j
+  d-node : {s : Symbol} {ss : List Symbol} {c t : Row} {a i m j : ℕ} → a < length (alts g s) → Derives g r c (alternative g s a) i m
+      → Derives g r t ss m j → Derives g r (node a m c t) (s ∷ ss) i j
 
 -- "named by its left parse: the alternative numbers, top node first, children left to right"
 abbrev pub leftParse : Row → List ℕ

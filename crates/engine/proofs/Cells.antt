@@ -5,10 +5,10 @@ use native.Mathlib.Nat.{mul-suc, suc-mul, mul-le-mul-right, div-eq-of-eq-mul-lef
 use native.Mathlib.Decide.{decLt, ℕ-discrete}
 use native.Mathlib.Numerals.{add-one}
 use native.Mathlib.Omega.{arith}
-use Rattle.code.specs.Heights.{before, stretches, cellAt}
+use Rattle.chart.specs.Heights.{before, stretches, cellAt}
 use mathlib.Core.List.{List}
-use Rattle.code.specs.Code.{kindAt, ruleAt, ownerAt}
-use Rattle.code.proofs.Cells.{before-next}
+use Rattle.chart.specs.Code.{nextKind, ruleAt, ownerAt}
+use Rattle.chart.proofs.Cells.{before-next}
 use Rattle.engine.specs.Table.{Room, Shape, Place}
 
 -- 0 + 1 + .. + j
@@ -39,10 +39,10 @@ at-room r h e = omega (arith, in-room r h)
 
 -- what a position names, on a part of its stretch
 module _ {c : List ℕ} {size n len p i j : ℕ} (s : Shape c size n len) (h : Place size n p i j) where
-  pub next-place : (m : ℕ) → (kindAt c p ≡ 0 → ⊥) → i ≤ m → m ≤ j → Place size n (p + 1) m j
+  pub next-place : (m : ℕ) → (nextKind c p ≡ 0 → ⊥) → i ≤ m → m ≤ j → Place size n (p + 1) m j
   next-place m k a b = record { inside = s .nexts p (h .inside) k; order = b; stop = h .stop }
 
-  pub rule-place : (m : ℕ) → kindAt c p ≡ 2 → i ≤ m → m ≤ j → Place size n (ruleAt c p) i m
+  pub rule-place : (m : ℕ) → nextKind c p ≡ 2 → i ≤ m → m ≤ j → Place size n (ruleAt c p) i m
   rule-place m k a b = record { inside = s .names p (h .inside) k; order = a; stop = omega (arith, h .stop) }
 
   pub owner-place : (e : ℕ) → ownerAt c p ≡ e + 1 → Place size n e i j

@@ -5,8 +5,8 @@ use Prim.Native.Nat.{ℕ, _+_, _-_, _<_, _≤_}
 use native.Mathlib.Decide.{ℕ-discrete}
 use native.Mathlib.Omega.{arith}
 use lib.ListN.{getD}
-use Rattle.code.specs.Code.{kindAt, ruleAt, goesAt}
-use Rattle.code.specs.Heights.{cellAt, none}
+use Rattle.chart.specs.Code.{nextKind, ruleAt, goesAt}
+use Rattle.chart.specs.Heights.{cellAt, none}
 use Rattle.engine.specs.Table.{cellOf, valueOf, splitOf, Shape}
 use Rattle.engine.specs.Sweep.{Steps, stay, Only, Ahead, EndsAt, Any, Settled, Closed, Spread, Given, Bare, ColumnFrom, Before}
 use Rattle.engine.proofs.Values.{value-gap, value-cell, up-none}
@@ -14,7 +14,8 @@ use Rattle.engine.proofs.Lowering.{steps-join, steps-widen, steps-same,
 use Rattle.engine.proofs.Spreading.{on-kept}
 
 -- a stretch with no value so far
-pub bare-next : (n i j : ℕ) (t : List ℕ) (p x : ℕ) → x ≡ cellAt n p i j → getD t x 0 ≡ none → ((q : ℕ) → q < p → cellOf n t q i j ≡ none) → (q : ℕ) → q < p + 1 → cellOf n t q i j ≡ none
+pub bare-next : (n i j : ℕ) (t : List ℕ) (p x : ℕ) → x ≡ cellAt n p i j → getD t x 0 ≡ none → ((q : ℕ) → q < p → cellOf n t q i j ≡ none)
+    → (q : ℕ) → q < p + 1 → cellOf n t q i j ≡ none
 bare-next n i j t p x e z a q h = elim (ℕ-discrete q p) as (λ _. cellOf n t q i j ≡ none) [
   | yes w ↦ rw (w, sym e) z
   | no w ↦ a q (omega arith)
@@ -44,7 +45,9 @@ module _ (c f : List ℕ) (size n : ℕ) where
   spread-kept m j hm hj s a p hp = on-kept c f size n m j hm hj s p (a p hp)
 
   -- a stretch is settled and hands on
-  pub finished : {t₀ t₁ t₂ : List ℕ} (i j : ℕ) → i ≤ j → j ≤ n → Settled c f size n (Only i j) (λ t. Given c f size n i j t₀ → Closed c f size n t i j) t₀ t₁ → Settled c f size n (Ahead i j) (Spread c f size n i j) t₁ t₂
+  pub finished : {t₀ t₁ t₂ : List ℕ} (i j : ℕ) → i ≤ j → j ≤ n
+      → Settled c f size n (Only i j) (λ t. Given c f size n i j t₀ → Closed c f size n t i j) t₀ t₁
+      → Settled c f size n (Ahead i j) (Spread c f size n i j) t₁ t₂
       → Settled c f size n (Ahead (i + 1) j) (λ t. Given c f size n i j t₀ → Closed c f size n t i j × Spread c f size n i j t) t₀ t₂
   finished i j hi hj x y = record {
     steps = steps-join c f size n (steps-widen c f size n (λ k l w. (omega (arith, w .0), w .1)) (x .steps)) (steps-widen c f size n (λ k l w. (omega (arith, w .0), w .1)) (y .steps));
@@ -54,13 +57,13 @@ module _ (c f : List ℕ) (size n : ℕ) where
   -- a stretch with no value is closed by what it was given, and has nothing to hand on
   module _ {len : ℕ} (s : Shape c size n len) {t : List ℕ} {i j : ℕ} (b : Bare size n i j t) where
     bare-value : (p : ℕ) → p < size → valueOf c t n p i j ≡ none
-    bare-value p h = elim (ℕ-discrete (kindAt c p) 0) as (λ _. valueOf c t n p i j ≡ none) [
+    bare-value p h = elim (ℕ-discrete (nextKind c p) 0) as (λ _. valueOf c t n p i j ≡ none) [
       | yes k ↦ value-gap c t n p i j k (λ e. omega (arith, b .wide))
       | no k ↦ value-cell c t n p i j k ∙ b .bare p h
     ]
 
     -- the rest of p on the stretch
-    no-rest : (p : ℕ) → p < size → (kindAt c p ≡ 0 → ⊥) → valueOf c t n (p + 1) i j < none → ⊥
+    no-rest : (p : ℕ) → p < size → (nextKind c p ≡ 0 → ⊥) → valueOf c t n (p + 1) i j < none → ⊥
     no-rest p h k l = omega (arith, bare-value (p + 1) (s .nexts p h k))
 
     bare-spread : Spread c f size n i j t
@@ -92,7 +95,8 @@ module _ (c f : List ℕ) (size n : ℕ) where
   given : {t : List ℕ} {j i : ℕ} → 0 < i → ColumnFrom c f size n j i t → Given c f size n (i - 1) j t
   given hi a m h l = a .spread m (omega arith) l
 
-  column-more : {t : List ℕ} {j i : ℕ} → Closed c f size n t (i - 1) j → Spread c f size n (i - 1) j t → ((k : ℕ) → i ≤ k → k ≤ j → Closed c f size n t k j) → ((m : ℕ) → i ≤ m → m ≤ j → Spread c f size n m j t)
+  column-more : {t : List ℕ} {j i : ℕ} → Closed c f size n t (i - 1) j → Spread c f size n (i - 1) j t
+      → ((k : ℕ) → i ≤ k → k ≤ j → Closed c f size n t k j) → ((m : ℕ) → i ≤ m → m ≤ j → Spread c f size n m j t)
       → ColumnFrom c f size n j (i - 1) t
   column-more {t} {j} {i} d e ds es = record {
     closed = λ k h l. elim (ℕ-discrete (i - 1) k) as (λ _. Closed c f size n t k j) [ yes w ↦ subst (λ (z : ℕ). Closed c f size n t z j) w d | no w ↦ ds k (omega arith) l ];
@@ -100,7 +104,8 @@ module _ (c f : List ℕ) (size n : ℕ) where
   }
 
   pub column-next : {t₀ t₁ t₂ : List ℕ} (j i : ℕ) → 0 < i → j ≤ n → Settled c f size n (EndsAt j) (ColumnFrom c f size n j i) t₀ t₁
-      → Settled c f size n (Ahead (i - 1 + 1) j) (λ t. Given c f size n (i - 1) j t₁ → Closed c f size n t (i - 1) j × Spread c f size n (i - 1) j t) t₁ t₂ → Settled c f size n (EndsAt j) (ColumnFrom c f size n j (i - 1)) t₀ t₂
+      → Settled c f size n (Ahead (i - 1 + 1) j) (λ t. Given c f size n (i - 1) j t₁ → Closed c f size n t (i - 1) j
+      × Spread c f size n (i - 1) j t) t₁ t₂ → Settled c f size n (EndsAt j) (ColumnFrom c f size n j (i - 1)) t₀ t₂
   column-next j i hi hj x y =
       let w = y .closed (given hi (x .closed)) in
       record {

@@ -14,11 +14,11 @@ use Rattle.plain.specs.Plain.{alts, fits, width}
 use Rattle.derive.specs.Derive.{Row, end, leaf, node, alternative, Derives, d-end, d-leaf, d-node, height}
 use Rattle.derive.proofs.Rows.{forward}
 use Rattle.derive.proofs.Levels.{Low}
-use Rattle.code.specs.Code.{kindAt, goesAt, ruleAt, ownerAt, fitsAt, flag, behind, headOf, Stands, at-end, at-terminal, at-symbol, Chain, ch-last, ch-next, Coded}
-use Rattle.code.specs.Heights.{cellAt, stretches, none, Says, says-none, says-height, SaysRule, rule-none, rule-height, Heights}
+use Rattle.chart.specs.Code.{nextKind, goesAt, ruleAt, ownerAt, fitsAt, flag, afterDot, headOf, Stands, at-end, at-terminal, at-symbol, Chain, ch-last, ch-next, Coded}
+use Rattle.chart.specs.Heights.{cellAt, stretches, none, Says, says-none, says-height, SaysRule, rule-none, rule-height, Heights}
 use Rattle.engine.specs.Table.{cellOf, valueOf, upOf, splitOf, Shape, Safe, Place}
 use Rattle.engine.specs.Sweep.{Gives, by-terminal, by-split, by-owned, Steps, stay, step, Any, Closed, Settled, Before}
-use Rattle.code.proofs.Cells.{rows-small}
+use Rattle.chart.proofs.Cells.{rows-small}
 use Rattle.engine.proofs.Cells.{cell-inj, in-room}
 use Rattle.engine.proofs.Lowering.{in-range, steps-le, steps-length}
 use Rattle.engine.proofs.Values.{Value, v-end, v-none, v-cell, value-is, value-cell, value-end, up-is, up-low}
@@ -41,7 +41,7 @@ record Found (c : List ℕ) (dots : List (List Symbol)) (e : ℕ) (ss : List Sym
   place : ℕ
   inside : place < length dots
   owned : ownerAt c place ≡ e + 1
-  is : behind dots place ≡ ss
+  is : afterDot dots place ≡ ss
 
 find : {c : List ℕ} {dots : List (List Symbol)} {e q : ℕ} {ts : List (List Symbol)} → Chain c dots e q ts → (a : ℕ) → a < length ts → Found c dots e (getD ts a [])
 find (ch-last {q} h o b z) zero l = record { place = q; inside = h; owned = o; is = refl }
@@ -63,10 +63,10 @@ module _ (c f : List ℕ) (g : Grammar) (r : Text) (size top first : ℕ) (k : C
   dots = k .dots
 
   -- the name of a rule is an end
-  rule-end : (p : ℕ) → p < size → kindAt c p ≡ 2 → kindAt c (ruleAt c p) ≡ 0
+  rule-end : (p : ℕ) → p < size → nextKind c p ≡ 2 → nextKind c (ruleAt c p) ≡ 0
   rule-end p h z = ends (k .chains p h z)
     where
-      ends : {e q : ℕ} {ts : List (List Symbol)} → Chain c dots e q ts → kindAt c e ≡ 0
+      ends : {e q : ℕ} {ts : List (List Symbol)} → Chain c dots e q ts → nextKind c e ≡ 0
       ends (ch-last {q} h o _ _) = k .owned q _ (omega (arith, k .count)) o .last
       ends (ch-next {q} h o _ _) = k .owned q _ (omega (arith, k .count)) o .last
 
@@ -81,50 +81,50 @@ module _ (c f : List ℕ) (g : Grammar) (r : Text) (size top first : ℕ) (k : C
     owner-ends = λ p e h o. k .owned p e h o .last;
   }
     where
-      next : (p : ℕ) → p < size → (kindAt c p ≡ 0 → ⊥) → Stands c f g r dots (k .heads) p → p + 1 < size
+      next : (p : ℕ) → p < size → (nextKind c p ≡ 0 → ⊥) → Stands c f g r dots (k .heads) p → p + 1 < size
       next p h z (at-end q _) = absurd (z q)
       next p h z (at-terminal x q l _ _ _) = omega (arith, l, k .count)
       next p h z (at-symbol s q l _ _ _ _) = omega (arith, l, k .count)
 
-      name : (p : ℕ) → p < size → kindAt c p ≡ 2 → Stands c f g r dots (k .heads) p → ruleAt c p < size
+      name : (p : ℕ) → p < size → nextKind c p ≡ 2 → Stands c f g r dots (k .heads) p → ruleAt c p < size
       name p h z (at-end q _) = absurd (omega arith)
       name p h z (at-terminal x q l _ _ _) = absurd (omega arith)
       name p h z (at-symbol s q _ _ _ l _) = omega (arith, l, k .count)
 
   -- a height has a row
   record SoundAt (p i j v : ℕ) : Type 0 where
-    dot : (kindAt c p ≡ 0 → ⊥) → Low g r v (behind dots p) i j
-    rule : kindAt c p ≡ 0 → RuleLow g r v (headOf g (k .heads) p) i j
+    dot : (nextKind c p ≡ 0 → ⊥) → Low g r v (afterDot dots p) i j
+    rule : nextKind c p ≡ 0 → RuleLow g r v (headOf g (k .heads) p) i j
 
   abbrev Sound : List ℕ → Type 0
   Sound t = (p i j : ℕ) → Place size n p i j → cellOf n t p i j < none → SoundAt p i j (cellOf n t p i j)
 
-  end-behind : (p : ℕ) → kindAt c p ≡ 0 → Stands c f g r dots (k .heads) p → behind dots p ≡ []
-  end-behind p z (at-end q e) = e
-  end-behind p z (at-terminal x q l _ _ _) = absurd (omega arith)
-  end-behind p z (at-symbol s q l _ _ _ _) = absurd (omega arith)
+  end-after : (p : ℕ) → nextKind c p ≡ 0 → Stands c f g r dots (k .heads) p → afterDot dots p ≡ []
+  end-after p z (at-end q e) = e
+  end-after p z (at-terminal x q l _ _ _) = absurd (omega arith)
+  end-after p z (at-symbol s q l _ _ _ _) = absurd (omega arith)
 
   module _ (t : List ℕ) (s : Sound t) where
-    value-by : (q i j v : ℕ) → Place size n q i j → Value c t n q i j v → v < none → Low g r v (behind dots q) i j
-    value-by q i j v h (v-end z e w) l = record { row = end; derives = rw (end-behind q z (k .stands q (h .inside)), e) d-end; low = omega arith }
+    value-by : (q i j v : ℕ) → Place size n q i j → Value c t n q i j v → v < none → Low g r v (afterDot dots q) i j
+    value-by q i j v h (v-end z e w) l = record { row = end; derives = rw (end-after q z (k .stands q (h .inside)), e) d-end; low = omega arith }
     value-by q i j v h (v-none w) l = absurd (omega arith)
-    value-by q i j v h (v-cell z w) l = subst (λ (x : ℕ). Low g r x (behind dots q) i j) (sym w) (s q i j h (omega arith) .dot z)
+    value-by q i j v h (v-cell z w) l = subst (λ (x : ℕ). Low g r x (afterDot dots q) i j) (sym w) (s q i j h (omega arith) .dot z)
 
-    value-sound : (q i j v : ℕ) → Place size n q i j → v ≡ valueOf c t n q i j → v < none → Low g r v (behind dots q) i j
+    value-sound : (q i j v : ℕ) → Place size n q i j → v ≡ valueOf c t n q i j → v < none → Low g r v (afterDot dots q) i j
     value-sound q i j v h e l = value-by q i j v h (subst (Value c t n q i j) (sym e) (value-is c t n q i j)) l
 
-    shift-sound : (p i j v : ℕ) → Place size n p i j → kindAt c p ≡ 1 → fitsAt f p i ≡ 1 → i + goesAt c p ≤ j → v ≡ valueOf c t n (p + 1) (i + goesAt c p) j → v < none
-        → Stands c f g r dots (k .heads) p → Low g r v (behind dots p) i j
+    shift-sound : (p i j v : ℕ) → Place size n p i j → nextKind c p ≡ 1 → fitsAt f p i ≡ 1 → i + goesAt c p ≤ j → v ≡ valueOf c t n (p + 1) (i + goesAt c p) j → v < none
+        → Stands c f g r dots (k .heads) p → Low g r v (afterDot dots p) i j
     shift-sound p i j v h z w l e b (at-end q _) = absurd (omega arith)
     shift-sound p i j v h z w l e b (at-symbol _ q _ _ _ _ _) = absurd (omega arith)
     shift-sound p i j v h z w l e b (at-terminal x q hp be gw ff) =
         let u = value-sound (p + 1) (i + goesAt c p) j v (record { inside = omega (arith, k .count); order = l; stop = h .stop }) e b in
-        let d : Derives g r (u .row) (behind dots (p + 1)) (i + width x) j = subst (λ (w : ℕ). Derives g r (u .row) (behind dots (p + 1)) (i + w) j) gw (u .derives) in
+        let d : Derives g r (u .row) (afterDot dots (p + 1)) (i + width x) j = subst (λ (w : ℕ). Derives g r (u .row) (afterDot dots (p + 1)) (i + w) j) gw (u .derives) in
         let fit : T (fits x (drop i r)) = true-flag (fits x (drop i r)) (sym (ff i (omega (arith, h .order, h .stop))) ∙ w) in
         record { row = leaf (i + width x) (u .row); derives = rw be (d-leaf fit d); low = u .low }
 
-    split-sound : (p i j v m : ℕ) → Place size n p i j → kindAt c p ≡ 2 → i ≤ m → m ≤ j → v ≡ splitOf c t n p i j m → v < none
-        → Stands c f g r dots (k .heads) p → Low g r v (behind dots p) i j
+    split-sound : (p i j v m : ℕ) → Place size n p i j → nextKind c p ≡ 2 → i ≤ m → m ≤ j → v ≡ splitOf c t n p i j m → v < none
+        → Stands c f g r dots (k .heads) p → Low g r v (afterDot dots p) i j
     split-sound p i j v m h z hm lm e b (at-end q _) = absurd (omega arith)
     split-sound p i j v m h z hm lm e b (at-terminal x q _ _ _ _) = absurd (omega arith)
     split-sound p i j v m h z hm lm e b (at-symbol y q hp be nt hr ea) =
@@ -134,7 +134,8 @@ module _ (c f : List ℕ) (g : Grammar) (r : Text) (size top first : ℕ) (k : C
         let one = s (ruleAt c p) i m (record { inside = omega (arith, k .count); order = hm; stop = omega (arith, h .stop) }) la .rule (rule-end p (h .inside) z) in
         let u = value-sound (p + 1) m j (valueOf c t n (p + 1) m j) (record { inside = omega (arith, k .count); order = lm; stop = h .stop }) refl (omega arith) in
         let ex : one .number < length (alts g y) = rw ea at (one .exists) in
-        let d : Derives g r (one .low .row) (alternative g y (one .number)) i m = subst (λ (ts : List (List Symbol)). Derives g r (one .low .row) (getD ts (one .number) []) i m) ea (one .low .derives) in
+        let d : Derives g r (one .low .row) (alternative g y (one .number)) i m = subst
+        (λ (ts : List (List Symbol)). Derives g r (one .low .row) (getD ts (one .number) []) i m) ea (one .low .derives) in
         record { row = node (one .number) m (one .low .row) (u .row); derives = rw be (d-node ex d (u .derives)); low = omega (arith, one .low .low, u .low) }
 
     gives-sound : (p i j v : ℕ) → Place size n p i j → Gives c f size n t p i j v → v < none → SoundAt p i j v
@@ -150,7 +151,8 @@ module _ (c f : List ℕ) (g : Grammar) (r : Text) (size top first : ℕ) (k : C
         elim (ℕ-discrete (cellAt n p' i' j') (cellAt n p i j)) as (λ _. SoundAt p' i' j' (cellOf n (set t (cellAt n p i j) v) p' i' j')) [
           | no e ↦ (let o = getD-set-other t (cellAt n p i j) (cellAt n p' i' j') v 0 e in rw o (s p' i' j' h' (omega (arith, o))))
           | yes e ↦ (let w = cell-inj n p' i' j' p i j (h' .order) (h' .stop) (h .order) (h .stop) e in
-              let o : cellOf n (set t (cellAt n p i j) v) p' i' j' ≡ v = ap (λ (z : ℕ). getD (set t (cellAt n p i j) v) z 0) e ∙ getD-set-same t (cellAt n p i j) v 0 (in-range t (cellAt n p i j) v l) in
+              let o : cellOf n (set t (cellAt n p i j) v) p' i' j' ≡ v = ap (λ (z : ℕ). getD (set t (cellAt n p i j) v) z 0) e
+              ∙ getD-set-same t (cellAt n p i j) v 0 (in-range t (cellAt n p i j) v l) in
               rw (o, w .same-p, w .same-i, w .same-j) (gives-sound p i j v h d b))
         ]
 
@@ -181,23 +183,24 @@ module _ (c f : List ℕ) (g : Grammar) (r : Text) (size top first : ℕ) (k : C
 
     -- by the symbols' stands
     module _ (p i j : ℕ) (h : Place size n p i j) where
-      reach-cell : (v : ℕ) → (kindAt c p ≡ 0 → ⊥) → cellOf n t p i j ≤ v → v < none → (w : ℕ) → v ≤ w → Reached p i j w
+      reach-cell : (v : ℕ) → (nextKind c p ≡ 0 → ⊥) → cellOf n t p i j ≤ v → v < none → (w : ℕ) → v ≤ w → Reached p i j w
       reach-cell v z l b w q = record { low = omega (arith, value-cell c t n p i j z); some = omega (arith, value-cell c t n p i j z) }
 
-      reach-end : i ≡ j → behind dots p ≡ [] → Stands c f g r dots (k .heads) p → Reached p i j 0
+      reach-end : i ≡ j → afterDot dots p ≡ [] → Stands c f g r dots (k .heads) p → Reached p i j 0
       reach-end e b (at-end z _) = record { low = omega (arith, value-end c t n p i j z e); some = omega (arith, value-end c t n p i j z e) }
       reach-end e b (at-terminal x z _ w _ _) = let q : _≡_ {A = ℕ} 0 1 = cc in absurd (omega arith)
       reach-end e b (at-symbol s z _ w _ _ _) = let q : _≡_ {A = ℕ} 0 1 = cc in absurd (omega arith)
 
-    low-rule : (e i m h : ℕ) (ss : List Symbol) → i ≤ m → m ≤ n → Found c dots e ss → ((p : ℕ) → p < size → behind dots p ≡ ss → Reached p i m h) → (cellOf n t e i m ≤ h) × (cellOf n t e i m < none)
+    low-rule : (e i m h : ℕ) (ss : List Symbol) → i ≤ m → m ≤ n → Found c dots e ss
+        → ((p : ℕ) → p < size → afterDot dots p ≡ ss → Reached p i m h) → (cellOf n t e i m ≤ h) × (cellOf n t e i m < none)
     low-rule e i m h ss hi hm w d =
         let l : w .place < size = omega (arith, w .inside, k .count) in
         let u = d (w .place) l (w .is) in
         let o = closed-at i m hi hm .owner (w .place) e l (w .owned) in
         (omega (arith, u .low), omega (arith, u .some))
 
-    shifted : (p i j h : ℕ) (x : Terminal) (ss : List Symbol) → p < size → i + width x ≤ j → j ≤ n → T (fits x (drop i r)) → behind dots p ≡ terminal x ∷ ss
-        → ((q : ℕ) → q < size → behind dots q ≡ ss → Reached q (i + width x) j h) → Stands c f g r dots (k .heads) p → Reached p i j h
+    shifted : (p i j h : ℕ) (x : Terminal) (ss : List Symbol) → p < size → i + width x ≤ j → j ≤ n → T (fits x (drop i r)) → afterDot dots p ≡ terminal x ∷ ss
+        → ((q : ℕ) → q < size → afterDot dots q ≡ ss → Reached q (i + width x) j h) → Stands c f g r dots (k .heads) p → Reached p i j h
     shifted p i j h x ss hp l hj fit b d (at-end z w) = let q : _≡_ {A = ℕ} 0 1 = cc in absurd (omega arith)
     shifted p i j h x ss hp l hj fit b d (at-symbol s z _ w nt _ _) = absurd (nt x cc)
     shifted p i j h x ss hp l hj fit b d (at-terminal y z ln w gw ff) =
@@ -210,8 +213,8 @@ module _ (c f : List ℕ) (g : Grammar) (r : Text) (size top first : ℕ) (k : C
         let o = closed-at i j (omega arith) hj .terminal p hp z one (omega arith) (omega (arith, u .some)) in
         reach-cell p i j (record { inside = hp; order = omega arith; stop = hj }) v (λ q. omega arith) (omega arith) (u .some) h (u .low)
 
-    noded : (p i m j a hc hd : ℕ) (s : Symbol) (ss : List Symbol) → p < size → i ≤ m → m ≤ j → j ≤ n → a < length (alts g s) → behind dots p ≡ s ∷ ss
-        → ((q : ℕ) → q < size → behind dots q ≡ alternative g s a → Reached q i m hc) → ((q : ℕ) → q < size → behind dots q ≡ ss → Reached q m j hd)
+    noded : (p i m j a hc hd : ℕ) (s : Symbol) (ss : List Symbol) → p < size → i ≤ m → m ≤ j → j ≤ n → a < length (alts g s) → afterDot dots p ≡ s ∷ ss
+        → ((q : ℕ) → q < size → afterDot dots q ≡ alternative g s a → Reached q i m hc) → ((q : ℕ) → q < size → afterDot dots q ≡ ss → Reached q m j hd)
         → Stands c f g r dots (k .heads) p → Reached p i j (max (suc hc) hd)
     noded p i m j a hc hd s ss hp hi hm hj la b dc dd (at-end z w) = let q : _≡_ {A = ℕ} 0 1 = cc in absurd (omega arith)
     noded p i m j a hc hd s ss hp hi hm hj la b dc dd (at-terminal y z _ w _ _) =
@@ -231,14 +234,16 @@ module _ (c f : List ℕ) (g : Grammar) (r : Text) (size top first : ℕ) (k : C
         reach-cell p i j (record { inside = hp; order = omega arith; stop = hj }) (splitOf c t n p i j m) (λ q. omega arith) (closed-at i j (omega arith) hj .split p m hp z hi hm (u .some))
         (omega (arith, one .0, sm, u .some, rows-small size n (k .small) (k .short))) (max (suc hc) hd) (omega (arith, one .0, u .low))
 
-    complete : {d : Row} {ss : List Symbol} {i j : ℕ} → Derives g r d ss i j → (p : ℕ) → p < size → behind dots p ≡ ss → j ≤ n → Reached p i j (height d)
+    complete : {d : Row} {ss : List Symbol} {i j : ℕ} → Derives g r d ss i j → (p : ℕ) → p < size → afterDot dots p ≡ ss → j ≤ n → Reached p i j (height d)
     complete (d-end {i}) p hp b hj = reach-end p i i (record { inside = hp; order = omega arith; stop = hj }) refl b (k .stands p hp)
     complete (d-leaf {x} {ss} {t = d} {i = i} {j = j} fit dd) p hp b hj = shifted p i j (height d) x ss hp (forward g r dd) hj fit b (λ q hq e. complete dd q hq e hj) (k .stands p hp)
     complete (d-node {s} {ss} {c = e} {t = d} {a = a} {i = i} {m = m} {j = j} la dc dd) p hp b hj =
-        noded p i m j a (height e) (height d) s ss hp (forward g r dc) (forward g r dd) hj la b (λ q hq w. complete dc q hq w (omega (arith, forward g r dd))) (λ q hq w. complete dd q hq w hj) (k .stands p hp)
+        noded p i m j a (height e) (height d) s ss hp (forward g r dc) (forward g r dd) hj la b
+        (λ q hq w. complete dc q hq w (omega (arith, forward g r dd))) (λ q hq w. complete dd q hq w hj) (k .stands p hp)
 
     -- the same of a rule's symbol
-    complete-rule : (e q : ℕ) (s : Symbol) → Chain c dots e q (alts g s) → {d : Row} {i j : ℕ} → Derives g r d (s ∷ []) i j → j ≤ n → (suc (cellOf n t e i j) ≤ height d) × (cellOf n t e i j < none)
+    complete-rule : (e q : ℕ) (s : Symbol) → Chain c dots e q (alts g s) → {d : Row} {i j : ℕ} → Derives g r d (s ∷ []) i j → j ≤ n
+        → (suc (cellOf n t e i j) ≤ height d) × (cellOf n t e i j < none)
     complete-rule e q s w (d-leaf fit dd) hj = absurd (none-in w refl)
     complete-rule e q s w (d-node {c = o} {a = a} {i = i} {m = m} la dc d-end) hj =
         let u = low-rule e i m (height o) (alternative g s a) (forward g r dc) hj (find w a la) (λ p hp b. complete dc p hp b hj) in
@@ -249,17 +254,17 @@ module _ (c f : List ℕ) (g : Grammar) (r : Text) (size top first : ℕ) (k : C
     abbrev small-by : (p i j : ℕ) → Place size n p i j → cellOf n t p i j < none → cellOf n t p i j ≤ size * stretches n
     small-by p i j h l = height-small c f size n (length t₀) (shape (length t₀) room) (w .steps) z h l
 
-    dot-says : (p i j : ℕ) → p < size → (kindAt c p ≡ 0 → ⊥) → i ≤ j → j ≤ n → Says g r (behind dots p) i j (cellOf n t p i j)
+    dot-says : (p i j : ℕ) → p < size → (nextKind c p ≡ 0 → ⊥) → i ≤ j → j ≤ n → Says g r (afterDot dots p) i j (cellOf n t p i j)
     dot-says p i j hp kn hi hj =
         let h : Place size n p i j = record { inside = hp; order = hi; stop = hj } in
         let v = cellOf n t p i j in
         let ev : valueOf c t n p i j ≡ v = value-cell c t n p i j kn in
-        elim (decLt v none) as (λ _. Says g r (behind dots p) i j v) [
+        elim (decLt v none) as (λ _. Says g r (afterDot dots p) i j v) [
           | yes l ↦ (let u = steps-sound z (w .steps) p i j h l .dot kn in
               says-height {h = v} (u .row) (u .derives) (omega (arith, u .low, complete t (w .closed) small-by (u .derives) p hp refl hj .low))
               (λ d dd. omega (arith, complete t (w .closed) small-by dd p hp refl hj .low)) l)
           | no l ↦ (let e : v ≡ none = omega (arith, steps-most z (w .steps) h) in
-              subst (Says g r (behind dots p) i j) (sym e) (says-none (λ d dd. omega (arith, complete t (w .closed) small-by dd p hp refl hj .some))))
+              subst (Says g r (afterDot dots p) i j) (sym e) (says-none (λ d dd. omega (arith, complete t (w .closed) small-by dd p hp refl hj .some))))
         ]
 
     rule-says : (p e i j : ℕ) → p < size → ownerAt c p ≡ e + 1 → i ≤ j → j ≤ n → SaysRule g r (headOf g (k .heads) e) i j (cellOf n t e i j)
@@ -282,7 +287,8 @@ module _ (c f : List ℕ) (g : Grammar) (r : Text) (size top first : ℕ) (k : C
     heights = record { room = omega (arith, steps-length c f size n (w .steps)); dot = dot-says; rule = rule-says }
 
 -- the same with the number of characters
-pub filled : (c f : List ℕ) (size n : ℕ) (t₀ t : List ℕ) → ((x : ℕ) → x < size * stretches n → getD t₀ x 0 ≡ none) → Settled c f size n Any (Before c f size n (n + 1)) t₀ t → size * stretches n ≤ length t₀
+pub filled : (c f : List ℕ) (size n : ℕ) (t₀ t : List ℕ) → ((x : ℕ) → x < size * stretches n → getD t₀ x 0 ≡ none)
+    → Settled c f size n Any (Before c f size n (n + 1)) t₀ t → size * stretches n ≤ length t₀
     → (g : Grammar) (r : Text) (top first : ℕ) (k : Coded c f g r size top first) → length r ≡ n → Heights c f g r size top first k t
 filled c f size n t₀ t z w room g r top first k e =
     heights c f g r size top first k t₀ t (rw e z) (subst (λ (m : ℕ). Settled c f size m Any (Before c f size m (m + 1)) t₀ t) (sym e) w) (rw e room)

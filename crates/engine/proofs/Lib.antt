@@ -1,6 +1,7 @@
 pub mod Cells
 pub mod Lowering
 pub mod Values
+pub mod Kept
 pub mod Relaxing
 pub mod Spreading
 pub mod Columns

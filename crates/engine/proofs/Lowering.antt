@@ -8,8 +8,8 @@ use lib.ListN.{length, getD, set, length-set, List·getD-eq-default}
 use lib.Seq.{getD-set-same, getD-set-other}
 use lib.Dec.{eqb}
 use Rattle.text.specs.Lists.{pick}
-use Rattle.code.specs.Code.{kindAt, ruleAt}
-use Rattle.code.specs.Heights.{cellAt, none}
+use Rattle.chart.specs.Code.{nextKind, ruleAt}
+use Rattle.chart.specs.Heights.{cellAt, none}
 use Rattle.engine.specs.Table.{cellOf, valueOf, upOf, splitOf}
 use Rattle.engine.specs.Sweep.{Steps, stay, step, total}
 use Rattle.engine.proofs.Cells.{cell-inj}
@@ -54,7 +54,8 @@ module _ (c f : List ℕ) (size n : ℕ) where
   steps-sum (step {t = t} p i j v s ha hp hi hj d l) = omega (arith, steps-sum s, sum-set t (cellAt n p i j) v l)
 
   -- cells of other stretches
-  pub steps-same : {A : ℕ → ℕ → Type 0} {t₀ t : List ℕ} → Steps c f size n A t₀ t → (q k l : ℕ) → k ≤ l → l ≤ n → (A k l → ⊥) → cellOf n t q k l ≡ cellOf n t₀ q k l
+  pub steps-same : {A : ℕ → ℕ → Type 0} {t₀ t : List ℕ} → Steps c f size n A t₀ t → (q k l : ℕ) → k ≤ l → l ≤ n → (A k l → ⊥)
+      → cellOf n t q k l ≡ cellOf n t₀ q k l
   steps-same stay q k l hk hl o = refl
   steps-same {A} (step {t = t} p i j v s ha hp hi hj d lt) q k l hk hl o =
       getD-set-other t (cellAt n p i j) (cellAt n q k l) v 0 (λ e. let w = cell-inj n q k l p i j hk hl hi hj e in
@@ -63,7 +64,7 @@ module _ (c f : List ℕ) (size n : ℕ) where
 
   module _ {A : ℕ → ℕ → Type 0} {t₀ t : List ℕ} (s : Steps c f size n A t₀ t) where
     pub value-same : (q k l : ℕ) → k ≤ l → l ≤ n → (A k l → ⊥) → valueOf c t n q k l ≡ valueOf c t₀ n q k l
-    value-same q k l hk hl o = ap (λ (z : ℕ). pick (eqb (kindAt c q) 0) (pick (eqb k l) 0 none) z) (steps-same s q k l hk hl o)
+    value-same q k l hk hl o = ap (λ (z : ℕ). pick (eqb (nextKind c q) 0) (pick (eqb k l) 0 none) z) (steps-same s q k l hk hl o)
 
     pub split-same : (p i j m : ℕ) → i ≤ m → m ≤ j → j ≤ n → (A i m → ⊥) → (A m j → ⊥) → splitOf c t n p i j m ≡ splitOf c t₀ n p i j m
     split-same p i j m hi hm hj o o' =

@@ -10,202 +10,15 @@ use lib.Dec.{eqb}
 use borrow.Author.Tests.{eq-eqb, ne-eqb}
 use Rattle.text.specs.Limits.{mostSize}
 use Rattle.text.specs.Lists.{pick}
-use Rattle.code.specs.Code.{kindAt, ruleAt, goesAt, ownerAt, fitsAt}
-use Rattle.code.specs.Heights.{cellAt, none}
-use Rattle.code.specs.Uses.{LastUse, Uses}
+use Rattle.chart.specs.Code.{nextKind, ruleAt, goesAt, ownerAt, fitsAt}
+use Rattle.chart.specs.Heights.{cellAt, none}
+use Rattle.chart.specs.Uses.{LastUse, Uses}
 use Rattle.engine.specs.Table.{cellOf, valueOf, upOf, splitOf, Shape, Place}
-use Rattle.engine.specs.Sweep.{total, Gives, by-terminal, by-split, by-owned, Steps, stay, step, Only, Settled, Lowered, lowered, kept, Closed, HandedOn, Spread, Given, Shifted, Offer, Seen, Held, AllHeld, Handed, free, above, handed, potential, Relaxed, unseenBy, Descended, AllKept, Revisited, Rounded}
+use Rattle.engine.specs.Sweep.{total, Gives, by-terminal, by-split, by-owned, Steps, stay, step, Only, Settled, Lowered, lowered}
+use Rattle.engine.specs.Sweep.{kept, Closed, HandedOn, Spread, Given, Shifted, Offer, Seen, Held, AllHeld, Handed, free, above}
+use Rattle.engine.specs.Sweep.{handed, potential, Relaxed, unseenBy, Descended, AllKept, Revisited, Rounded}
 use Rattle.engine.proofs.Cells.{cell-inj, owner-place}
 use Rattle.engine.proofs.Lowering.{in-range, sum-set, set-le, steps-join, steps-le, steps-sum, steps-same, value-same, split-same}
-
--- what p is offered
-module _ (c f : List ℕ) (size n : ℕ) (t : List ℕ) (p i j : ℕ) where
-  pub offer-none : (kindAt c p ≡ 1 → ⊥) → (kindAt c p ≡ 2 → ⊥) → Offer c f size n t p i j none
-  offer-none h l = record { terminal = λ k. absurd (h k); left = λ k. absurd (l k); right = λ k. absurd (l k); dot = λ b. absurd (omega arith); some = λ b. absurd (omega arith) }
-
-  pub offer-shifted : (v : ℕ) → kindAt c p ≡ 1 → i ≤ j → Shifted c f t n p i j v → Offer c f size n t p i j v
-  offer-shifted v k l s = record {
-    terminal = λ _. s .low;
-    left = λ q. absurd (omega arith);
-    right = λ q. absurd (omega arith);
-    dot = λ _ q. omega arith;
-    some = λ b. let w = s .some b in let e : i + goesAt c p ≡ i = omega (arith, w .0) in
-        by-terminal k (w .1) (omega arith) (w .2 ∙ ap (λ (z : ℕ). valueOf c t n (p + 1) z j) (sym e));
-  }
-
-  module _ (a b : ℕ) (k : kindAt c p ≡ 2) (h : i ≤ j) (ea : a ≡ splitOf c t n p i j i) (eb : b ≡ splitOf c t n p i j j) where
-    pub offer-left : a ≤ b → Offer c f size n t p i j a
-    offer-left l = record { terminal = λ q. absurd (omega arith); left = λ _. omega arith; right = λ _. omega arith; dot = λ _ q. omega arith; some = λ _. by-split i k (omega arith) h ea }
-
-    pub offer-right : b ≤ a → Offer c f size n t p i j b
-    offer-right l = record { terminal = λ q. absurd (omega arith); left = λ _. omega arith; right = λ _. omega arith; dot = λ _ q. omega arith; some = λ _. by-split j k h (omega arith) eb }
-
--- what a sum becomes
-sum-more : (S : List ℕ) (e d : ℕ) → total (set S e d) ≤ total S + d
-sum-more [] e d = omega arith
-sum-more (x ∷ S) zero d = omega arith
-sum-more (x ∷ S) (suc e) d = omega (arith, sum-more S e d)
-
--- a cell after that of another position, or of another stretch, was set
-cell-other : (n : ℕ) (t : List ℕ) (p i j v q k l : ℕ) → i ≤ j → j ≤ n → k ≤ l → l ≤ n → (q ≡ p → ⊥) → cellOf n (set t (cellAt n p i j) v) q k l ≡ cellOf n t q k l
-cell-other n t p i j v q k l hi hj hk hl o = getD-set-other t (cellAt n p i j) (cellAt n q k l) v 0 (λ e. o (cell-inj n q k l p i j hk hl hi hj e .same-p))
-
-cell-away : (n : ℕ) (t : List ℕ) (p i j v q k l : ℕ) → i ≤ j → j ≤ n → k ≤ l → l ≤ n → (l ≡ j → ⊥) → cellOf n (set t (cellAt n p i j) v) q k l ≡ cellOf n t q k l
-cell-away n t p i j v q k l hi hj hk hl o = getD-set-other t (cellAt n p i j) (cellAt n q k l) v 0 (λ e. o (cell-inj n q k l p i j hk hl hi hj e .same-j))
-
-value-by : (c t u : List ℕ) (n q k l : ℕ) → ((kindAt c q ≡ 0 → ⊥) → cellOf n u q k l ≡ cellOf n t q k l) → valueOf c u n q k l ≡ valueOf c t n q k l
-value-by c t u n q k l e = elim (ℕ-discrete (kindAt c q) 0) as (λ _. valueOf c u n q k l ≡ valueOf c t n q k l) [
-  | yes h ↦ simp (eq-eqb (kindAt c q) 0 h)
-  | no h ↦ ap (λ (z : ℕ). pick (eqb (kindAt c q) 0) (pick (eqb k l) 0 none) z) (e h)
-]
-
-module _ (c f : List ℕ) (size n : ℕ) (i j : ℕ) (hi : i ≤ j) (hj : j ≤ n) where
-  -- what p is offered does not lower it, as far as it has been seen
-  record Under (t S : List ℕ) (p : ℕ) : Type 0 where
-    terminal : kindAt c p ≡ 1 → goesAt c p ≡ 0 → fitsAt f p i ≡ 1 → cellOf n t p i j ≤ valueOf c t n (p + 1) i j
-    left : kindAt c p ≡ 2 → i < j → cellOf n t p i j ≤ splitOf c t n p i j i
-    right : kindAt c p ≡ 2 → Seen c S p → cellOf n t p i j ≤ splitOf c t n p i j j
-
-  under-of : {t S : List ℕ} {p : ℕ} → Held c f n i j t S p → Under t S p
-  under-of h = record { terminal = h .terminal; left = h .left; right = h .right }
-
-  -- what the table u has of what q goes by is what t has
-  record Alike (t S u R : List ℕ) (q : ℕ) : Type 0 where
-    low : cellOf n u q i j ≤ cellOf n t q i j
-    rest : valueOf c u n (q + 1) i j ≡ valueOf c t n (q + 1) i j
-    none-left : valueOf c u n (q + 1) j j ≡ valueOf c t n (q + 1) j j
-    empty : kindAt c q ≡ 2 → i < j → cellOf n u (ruleAt c q) i i ≡ cellOf n t (ruleAt c q) i i
-    seen : kindAt c q ≡ 2 → Seen c R q → Seen c S q × (cellOf n u (ruleAt c q) i j ≡ cellOf n t (ruleAt c q) i j)
-
-  under-alike : {t S u R : List ℕ} {q : ℕ} → Alike t S u R q → Under t S q → Under u R q
-  under-alike {t} {S} {u} {R} {q} a h = record {
-    terminal = λ k g w. omega (arith, a .low, a .rest, h .terminal k g w);
-    left = λ k l. let e1 = a .empty k l in let e2 = a .rest in
-        let e : splitOf c u n q i j i ≡ splitOf c t n q i j i = λ ι. max (upOf (e1 ι)) (e2 ι) in
-        omega (arith, a .low, e, h .left k l);
-    right = λ k s. let w = a .seen k s in let e1 = w .1 in let e2 = a .none-left in
-        let e : splitOf c u n q i j j ≡ splitOf c t n q i j j = λ ι. max (upOf (e1 ι)) (e2 ι) in
-        omega (arith, a .low, e, h .right k (w .0));
-  }
-
-  held-by : {t S u R : List ℕ} {q : ℕ} → ((x : ℕ) → getD u x 0 ≤ getD t x 0) → valueOf c u n q i j ≡ valueOf c t n q i j → Alike t S u R q → Held c f n i j t S q → Held c f n i j u R q
-  held-by {t} {S} {u} {R} {q} less e a h =
-      let w = under-alike a (under-of h) in
-      record { terminal = w .terminal; left = w .left; right = w .right; owner = λ o k. omega (arith, less (cellAt n o i j), e, h .owner o k) }
-
-  module _ {len : ℕ} (s : Shape c size n len) (p : ℕ) (hp : p < size) where
-    -- the cell of p alone was lowered
-    module _ (t : List ℕ) (v : ℕ) (l : v < cellOf n t p i j) (d : kindAt c p ≡ 0 → ⊥) where
-      abbrev low : List ℕ
-      low = set t (cellAt n p i j) v
-
-      other : (q : ℕ) → (q ≡ p → ⊥) → (k m : ℕ) → k ≤ m → m ≤ n → cellOf n low q k m ≡ cellOf n t q k m
-      other q o k m hk hm = cell-other n t p i j v q k m hi hj hk hm o
-
-      other-value : (q : ℕ) → (q ≡ p → ⊥) → (k m : ℕ) → k ≤ m → m ≤ n → valueOf c low n q k m ≡ valueOf c t n q k m
-      other-value q o k m hk hm = value-by c t low n q k m (λ _. other q o k m hk hm)
-
-      no-rule : (q : ℕ) → q < size → kindAt c q ≡ 2 → ruleAt c q ≡ p → ⊥
-      no-rule q hq k e = d (ap (kindAt c) (sym e) ∙ s .rule-ends q hq k)
-
-      low-alike : (S : List ℕ) (q : ℕ) → q < size → (q + 1 ≡ p → ⊥) → Alike t S low S q
-      low-alike S q hq o = record {
-        low = set-le t (cellAt n p i j) (cellAt n q i j) v l;
-        rest = other-value (q + 1) o i j hi hj;
-        none-left = other-value (q + 1) o j j (omega arith) hj;
-        empty = λ k _. other (ruleAt c q) (no-rule q hq k) i i (omega arith) (omega arith);
-        seen = λ k w. (w, other (ruleAt c q) (no-rule q hq k) i j hi hj);
-      }
-
-    -- the rule that owns p was lowered
-    module _ (t S : List ℕ) (e v d : ℕ) (l : v < cellOf n t e i j) (o : ownerAt c p ≡ e + 1) (room : size ≤ length S) where
-      abbrev ruled : List ℕ
-      ruled = set t (cellAt n e i j) v
-
-      ruled-value : (q k m : ℕ) → k ≤ m → m ≤ n → valueOf c ruled n q k m ≡ valueOf c t n q k m
-      ruled-value q k m hk hm = value-by c t ruled n q k m (λ h. cell-other n t e i j v q k m hi hj hk hm (λ z. h (ap (kindAt c) z ∙ s .owner-ends p e hp o)))
-
-      ruled-seen : (q : ℕ) → mostSize ≤ q + d → Seen c (set S e d) q → Seen c S q × (cellOf n ruled (ruleAt c q) i j ≡ cellOf n t (ruleAt c q) i j)
-      ruled-seen q h w = elim (ℕ-discrete (ruleAt c q) e) as (λ _. Seen c S q × (cellOf n ruled (ruleAt c q) i j ≡ cellOf n t (ruleAt c q) i j)) [
-        | yes z ↦ (let r = getD-set-same S e d 0 (omega (arith, s .owners p e hp o)) in
-            let g : getD (set S e d) (ruleAt c q) 0 ≡ d = ap (λ (y : ℕ). getD (set S e d) y 0) z ∙ r in absurd (omega arith))
-        | no z ↦ (let g = getD-set-other S e (ruleAt c q) d 0 z in (omega arith, cell-other n t e i j v (ruleAt c q) i j hi hj hi hj z))
-      ]
-
-      ruled-alike : (q : ℕ) → mostSize ≤ q + d → Alike t S ruled (set S e d) q
-      ruled-alike q h = record {
-        low = set-le t (cellAt n e i j) (cellAt n q i j) v l;
-        rest = ruled-value (q + 1) i j hi hj;
-        none-left = ruled-value (q + 1) j j (omega arith) hj;
-        empty = λ k w. cell-away n t e i j v (ruleAt c q) i i hi hj (omega arith) (omega arith) (λ z. omega arith);
-        seen = λ _. ruled-seen q h;
-      }
-
-      ruled-falls : d ≤ mostSize → potential ruled (set S e d) ≤ potential t S
-      ruled-falls h = omega (arith, sum-set t (cellAt n e i j) v l, sum-more S e d)
-
-    -- first the cell of p itself
-    record First (t : List ℕ) (a : ℕ) (u : List ℕ) : Type 0 where
-      steps : Steps c f size n (Only i j) t u
-      under : (S : List ℕ) → Under u S p
-      kept : (S : List ℕ) (q : ℕ) → q < size → (q ≡ p → ⊥) → (q + 1 ≡ p → a ≡ 0) → Held c f n i j t S q → Held c f n i j u S q
-
-    first : {t u : List ℕ} {v a : ℕ} → Offer c f size n t p i j v → Lowered t (cellAt n p i j) v a u → First t a u
-    first {t} {v = v} o (lowered l b) =
-        let s' : Steps c f size n (Only i j) t (set t (cellAt n p i j) v) = step p i j v stay (refl, refl) hp hi hj (o .some b) l in
-        let d = o .dot b in
-        let w = low-alike t v l d in
-        let at : cellOf n (set t (cellAt n p i j) v) p i j ≡ v = getD-set-same t (cellAt n p i j) v 0 (in-range t (cellAt n p i j) v l) in
-        record {
-          steps = s';
-          under = λ S. let x = w S p hp (λ z. omega arith) in record {
-            terminal = λ k g y. omega (arith, at, x .rest, o .terminal k g y);
-            left = λ k h. let e1 = x .empty k h in let e2 = x .rest in
-                let e : splitOf c (set t (cellAt n p i j) v) n p i j i ≡ splitOf c t n p i j i = λ ι. max (upOf (e1 ι)) (e2 ι) in omega (arith, at, e, o .left k);
-            right = λ k h. let e1 = x .seen k h .1 in let e2 = x .none-left in
-                let e : splitOf c (set t (cellAt n p i j) v) n p i j j ≡ splitOf c t n p i j j = λ ι. max (upOf (e1 ι)) (e2 ι) in omega (arith, at, e, o .right k);
-          };
-          kept = λ S q hq z y. held-by (λ x. set-le t (cellAt n p i j) x v l) (other-value t v l d q z i j hi hj) (w S q hq (λ r. omega (arith, y r)));
-        }
-    first {t} {v = v} o (kept l) = record {
-      steps = stay;
-      under = λ S. record { terminal = λ k g y. omega (arith, o .terminal k g y); left = λ k h. omega (arith, o .left k); right = λ k h. omega (arith, o .right k) };
-      kept = λ S q hq z y h. h;
-    }
-
-    -- then the rule that owns it
-    record Second (t S : List ℕ) (d : ℕ) (u R : List ℕ) : Type 0 where
-      steps : Steps c f size n (Only i j) t u
-      under : (q : ℕ) → mostSize ≤ q + d → Under t S q → Under u R q
-      kept : (q : ℕ) → mostSize ≤ q + d → Held c f n i j t S q → Held c f n i j u R q
-      owner : (e : ℕ) → ownerAt c p ≡ e + 1 → cellOf n u e i j ≤ valueOf c u n p i j
-      falls : d ≤ mostSize → potential u R ≤ potential t S
-
-    second : {t S u R : List ℕ} {d : ℕ} → size ≤ length S → Handed c n t S p i j d u R → Second t S d u R
-    second room (free o) = record { steps = stay; under = λ q h w. w; kept = λ q h w. w; owner = λ e k. absurd (omega arith); falls = λ _. omega arith }
-    second {t} room (above e o l) = record { steps = stay; under = λ q h w. w; kept = λ q h w. w; owner = λ x k. let z : x ≡ e = omega arith in rw z l; falls = λ _. omega arith }
-    second {t} {S} {d = d} room (handed e o l b) =
-        let v = valueOf c t n p i j in
-        let same : (q : ℕ) → valueOf c (set t (cellAt n e i j) v) n q i j ≡ valueOf c t n q i j = λ q. ruled-value t S e v d l o room q i j hi hj in
-        record {
-          steps = step e i j v stay (refl, refl) (s .owners p e hp o) hi hj (by-owned p hp o refl) l;
-          under = λ q h. under-alike (ruled-alike t S e v d l o room q h);
-          kept = λ q h. held-by (λ x. set-le t (cellAt n e i j) x v l) (same q) (ruled-alike t S e v d l o room q h);
-          owner = λ x k. let z : x ≡ e = omega arith in
-              let at = getD-set-same t (cellAt n e i j) v 0 (in-range t (cellAt n e i j) v l) in rw z (omega (arith, at, same p));
-          falls = ruled-falls t S e v d l o room;
-        }
-
-    pub relaxed : {t u w S R : List ℕ} {v a d : ℕ} → size ≤ length S → Offer c f size n t p i j v → Lowered t (cellAt n p i j) v a u → Handed c n u S p i j d w R → Relaxed c f size n p i j d t S a w R
-    relaxed {t} {u} {w} {S} {R} room o x y =
-        let a = first o x in
-        let b = second room y in
-        record {
-          steps = steps-join c f size n (a .steps) (b .steps);
-          held = λ h. let z = b .under p h (a .under S) in record { terminal = z .terminal; left = z .left; right = z .right; owner = b .owner };
-          kept = λ q hq z r h k. b .kept q h (a .kept S q hq z r k);
-          falls = λ h. omega (arith, b .falls h, steps-sum c f size n (a .steps));
-        }
 
 -- how many have not seen it
 pub unseen-any : (all p : ℕ) → all ≡ 0 → unseenBy all p ≡ mostSize
@@ -228,7 +41,15 @@ module _ (c f : List ℕ) (size n : ℕ) (i j : ℕ) where
     pub falls : potential u R ≤ potential t S
 
   pub descend-start : (from all : ℕ) (t S : List ℕ) → Descending from all from t S t S
-  descend-start from all t S = record { low = omega arith; steps = stay; every = λ _ q h l. absurd (omega arith); top = λ _ q e l. absurd (omega arith); kept = λ _ q hq a b h. h; falls = omega arith }
+  descend-start from all t S =
+      record {
+        low = omega arith;
+        steps = stay;
+        every = λ _ q h l. absurd (omega arith);
+        top = λ _ q e l. absurd (omega arith);
+        kept = λ _ q hq a b h. h;
+        falls = omega arith;
+      }
 
   module _ {from all p a d : ℕ} {t S u R w Q : List ℕ} (small : size ≤ mostSize) (hf : from ≤ size) (hp : 0 < p) (ed : d ≡ unseenBy all (p - 1)) (x : Descending from all p t S u R)
       (y : Relaxed c f size n (p - 1) i j d u R a w Q) where
@@ -283,9 +104,9 @@ module _ (c f : List ℕ) (size n : ℕ) (i j : ℕ) where
   -- the uses of e from x on have seen it
   pub record Revisiting (e x : ℕ) (t S u R : List ℕ) : Type 0 where
     pub below : x ≤ size
-    pub is : (q : ℕ) → x ≡ q + 1 → (kindAt c q ≡ 2) × (ruleAt c q ≡ e)
+    pub is : (q : ℕ) → x ≡ q + 1 → (nextKind c q ≡ 2) × (ruleAt c q ≡ e)
     pub steps : Steps c f size n (Only i j) t u
-    pub made : (q : ℕ) → q < size → kindAt c q ≡ 2 → ruleAt c q ≡ e → x ≤ q → Held c f n i j u R q
+    pub made : (q : ℕ) → q < size → nextKind c q ≡ 2 → ruleAt c q ≡ e → x ≤ q → Held c f n i j u R q
     pub kept : AllKept c f size n i j t S u R
     pub falls : potential u R ≤ potential t S
 
@@ -346,7 +167,7 @@ module _ (c f : List ℕ) (size n : ℕ) (i j : ℕ) where
   }
 
   -- the rule e is seen
-  cleared : (R : List ℕ) (e q : ℕ) (u : List ℕ) → (kindAt c q ≡ 2 → ruleAt c q ≡ e → q + getD R e 0 < mostSize) → Held c f n i j u R q → Held c f n i j u (set R e 0) q
+  cleared : (R : List ℕ) (e q : ℕ) (u : List ℕ) → (nextKind c q ≡ 2 → ruleAt c q ≡ e → q + getD R e 0 < mostSize) → Held c f n i j u R q → Held c f n i j u (set R e 0) q
   cleared R e q u h x = record {
     terminal = x .terminal;
     left = x .left;
@@ -357,10 +178,11 @@ module _ (c f : List ℕ) (size n : ℕ) (i j : ℕ) where
     owner = x .owner;
   }
 
-  pub round-next : {found e d : ℕ} {t S u R w Q : List ℕ} → d ≡ getD R e 0 → (d ≡ 0 → ⊥) → Rounding found e t S u R → Revisited c f size n e d i j u (set R e 0) w Q → Rounding 1 (e + 1) t S w Q
+  pub round-next : {found e d : ℕ} {t S u R w Q : List ℕ} → d ≡ getD R e 0 → (d ≡ 0 → ⊥) → Rounding found e t S u R
+      → Revisited c f size n e d i j u (set R e 0) w Q → Rounding 1 (e + 1) t S w Q
   round-next {e = e} {d = d} {u = u} {R = R} {w = w} {Q = Q} ed nd x y = record {
     steps = steps-join c f size n (x .steps) (y .steps);
-    kept = λ h q hq. elim (ℕ-discrete (kindAt c q) 2) as (λ _. Held c f n i j w Q q) [
+    kept = λ h q hq. elim (ℕ-discrete (nextKind c q) 2) as (λ _. Held c f n i j w Q q) [
       | no k ↦ y .kept q hq (cleared R e q u (λ z. absurd (k z)) (x .kept h q hq))
       | yes k ↦ (elim (ℕ-discrete (ruleAt c q) e) as (λ _. Held c f n i j w Q q) [
         | no z ↦ y .kept q hq (cleared R e q u (λ _ r. absurd (z r)) (x .kept h q hq))
@@ -379,7 +201,8 @@ module _ (c f : List ℕ) (size n : ℕ) (i j : ℕ) where
   round-end h x = record { steps = x .steps; kept = x .kept; clean = λ z o l. x .clean z o (omega arith); falls = x .falls; less = x .less }
 
   -- a stretch on which all is held and seen, and that was given all
-  pub settled : {len : ℕ} {t u R : List ℕ} → Shape c size n len → i ≤ j → j ≤ n → Steps c f size n (Only i j) t u → AllHeld c f size n i j u R → ((e : ℕ) → e < size → getD R e 0 ≡ 0)
+  pub settled : {len : ℕ} {t u R : List ℕ} → Shape c size n len → i ≤ j → j ≤ n → Steps c f size n (Only i j) t u
+      → AllHeld c f size n i j u R → ((e : ℕ) → e < size → getD R e 0 ≡ 0)
       → Settled c f size n (Only i j) (λ w. Given c f size n i j t → Closed c f size n w i j) t u
   settled {t = t} {u = u} {R = R} s hi hj st h z = record {
     steps = st;
@@ -405,10 +228,10 @@ module _ (c f : List ℕ) (size n : ℕ) (i j : ℕ) where
 
 -- a rule is lowered or not
 module _ (c : List ℕ) (n : ℕ) (t S : List ℕ) (p i j d e : ℕ) (o : ownerAt c p ≡ e + 1) where
-  pub hand-low : {u : List ℕ} {v r : ℕ} → v ≡ valueOf c t n p i j → (r ≡ 0 → ⊥) → Lowered t (cellAt n e i j) v r u → Handed c n t S p i j d u (set S e d)
-  hand-low ev h (lowered l b) = subst (λ (z : ℕ). Handed c n t S p i j d (set t (cellAt n e i j) z) (set S e d)) (sym ev) (handed e o (omega arith) (omega arith))
-  hand-low ev h (kept l) = absurd (h refl)
+  pub lower-owner-low : {u : List ℕ} {v r : ℕ} → v ≡ valueOf c t n p i j → (r ≡ 0 → ⊥) → Lowered t (cellAt n e i j) v r u → Handed c n t S p i j d u (set S e d)
+  lower-owner-low ev h (lowered l b) = subst (λ (z : ℕ). Handed c n t S p i j d (set t (cellAt n e i j) z) (set S e d)) (sym ev) (handed e o (omega arith) (omega arith))
+  lower-owner-low ev h (kept l) = absurd (h refl)
 
-  pub hand-same : {u : List ℕ} {v r : ℕ} → v ≡ valueOf c t n p i j → r ≡ 0 → Lowered t (cellAt n e i j) v r u → Handed c n t S p i j d u S
-  hand-same ev h (lowered l b) = absurd (omega arith)
-  hand-same ev h (kept l) = above e o (omega arith)
+  pub lower-owner-same : {u : List ℕ} {v r : ℕ} → v ≡ valueOf c t n p i j → r ≡ 0 → Lowered t (cellAt n e i j) v r u → Handed c n t S p i j d u S
+  lower-owner-same ev h (lowered l b) = absurd (omega arith)
+  lower-owner-same ev h (kept l) = above e o (omega arith)

@@ -8,8 +8,8 @@ use lib.ListN.{getD, set}
 use lib.Seq.{getD-set-same, getD-set-other}
 use lib.Dec.{ltb}
 use borrow.Author.Tests.{lt-ltb, le-ltb}
-use Rattle.code.specs.Code.{ruleAt, flag}
-use Rattle.code.specs.Heights.{cellAt, stretches, none}
+use Rattle.chart.specs.Code.{ruleAt, flag}
+use Rattle.chart.specs.Heights.{cellAt, stretches, none}
 use Rattle.engine.specs.Table.{cellOf, valueOf, Shape, Place}
 use Rattle.engine.specs.Sweep.{Gives, by-terminal, by-split, by-owned, Steps, stay, step}
 use Rattle.engine.proofs.Cells.{in-room, next-place, rule-place}
@@ -109,5 +109,6 @@ module _ (c f : List ℕ) (size n len : ℕ) (sh : Shape c size n len) where
       small-set cells t (cellAt n p i j) v (in-cells pl) l b (gives-small t (steps-small s z) p i j v pl d b) (steps-small s z)
 
   -- a height is at most the number of cells
-  pub height-small : {A : ℕ → ℕ → Type 0} {t₀ t : List ℕ} → Steps c f size n A t₀ t → ((x : ℕ) → x < cells → getD t₀ x 0 ≡ none) → {p i j : ℕ} → Place size n p i j → cellOf n t p i j < none → cellOf n t p i j ≤ cells
+  pub height-small : {A : ℕ → ℕ → Type 0} {t₀ t : List ℕ} → Steps c f size n A t₀ t → ((x : ℕ) → x < cells → getD t₀ x 0 ≡ none)
+      → {p i j : ℕ} → Place size n p i j → cellOf n t p i j < none → cellOf n t p i j ≤ cells
   height-small {t = t} s z {p} {i} {j} h l = omega (arith, steps-small s z (cellAt n p i j) (in-cells h) l, count-le t cells)

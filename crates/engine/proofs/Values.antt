@@ -6,27 +6,27 @@ use native.Mathlib.Decide.{decLt, ℕ-discrete}
 use native.Mathlib.Omega.{arith}
 use lib.ListN.{getD}
 use borrow.Author.Tests.{lt-ltb, le-ltb, eq-eqb, ne-eqb}
-use Rattle.code.specs.Code.{kindAt, ruleAt}
-use Rattle.code.specs.Heights.{cellAt, none}
+use Rattle.chart.specs.Code.{nextKind, ruleAt}
+use Rattle.chart.specs.Heights.{cellAt, none}
 use Rattle.engine.specs.Table.{cellOf, valueOf, upOf, splitOf}
 
 pub data Value (c t : List ℕ) (n q i j v : ℕ) : Type 0 where
-  v-end : kindAt c q ≡ 0 → i ≡ j → v ≡ 0 → Value c t n q i j v
+  v-end : nextKind c q ≡ 0 → i ≡ j → v ≡ 0 → Value c t n q i j v
   v-none : none ≤ v → Value c t n q i j v
-  v-cell : (kindAt c q ≡ 0 → ⊥) → v ≡ cellOf n t q i j → Value c t n q i j v
+  v-cell : (nextKind c q ≡ 0 → ⊥) → v ≡ cellOf n t q i j → Value c t n q i j v
 
 module _ (c t : List ℕ) (n q i j : ℕ) where
-  pub value-cell : (kindAt c q ≡ 0 → ⊥) → valueOf c t n q i j ≡ cellOf n t q i j
-  value-cell h = simp (ne-eqb (kindAt c q) 0 h)
+  pub value-cell : (nextKind c q ≡ 0 → ⊥) → valueOf c t n q i j ≡ cellOf n t q i j
+  value-cell h = simp (ne-eqb (nextKind c q) 0 h)
 
-  pub value-end : kindAt c q ≡ 0 → i ≡ j → valueOf c t n q i j ≡ 0
-  value-end h e = simp (eq-eqb (kindAt c q) 0 h, eq-eqb i j e)
+  pub value-end : nextKind c q ≡ 0 → i ≡ j → valueOf c t n q i j ≡ 0
+  value-end h e = simp (eq-eqb (nextKind c q) 0 h, eq-eqb i j e)
 
-  pub value-gap : kindAt c q ≡ 0 → (i ≡ j → ⊥) → valueOf c t n q i j ≡ none
-  value-gap h e = simp (eq-eqb (kindAt c q) 0 h, ne-eqb i j e)
+  pub value-gap : nextKind c q ≡ 0 → (i ≡ j → ⊥) → valueOf c t n q i j ≡ none
+  value-gap h e = simp (eq-eqb (nextKind c q) 0 h, ne-eqb i j e)
 
   pub value-is : Value c t n q i j (valueOf c t n q i j)
-  value-is = elim (ℕ-discrete (kindAt c q) 0) as (λ _. Value c t n q i j (valueOf c t n q i j)) [
+  value-is = elim (ℕ-discrete (nextKind c q) 0) as (λ _. Value c t n q i j (valueOf c t n q i j)) [
     | no h ↦ v-cell h (value-cell h)
     | yes h ↦ (elim (ℕ-discrete i j) as (λ _. Value c t n q i j (valueOf c t n q i j)) [
       | yes e ↦ v-end h e (value-end h e)

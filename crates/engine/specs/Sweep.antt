@@ -7,8 +7,8 @@ use lib.Dec.{eqb}
 use Rattle.text.specs.Limits.{mostSize}
 use Rattle.text.specs.Lists.{Text, pick}
 use Rattle.tree.specs.Tree.{Grammar}
-use Rattle.code.specs.Code.{kindAt, goesAt, ruleAt, ownerAt, fitsAt, Coded}
-use Rattle.code.specs.Heights.{cellAt, none, Heights}
+use Rattle.chart.specs.Code.{nextKind, goesAt, ruleAt, ownerAt, fitsAt, Coded}
+use Rattle.chart.specs.Heights.{cellAt, none, Heights}
 use Rattle.engine.specs.Table.{cellOf, valueOf, splitOf}
 
 abbrev pub total : List ℕ → ℕ
@@ -17,8 +17,8 @@ total (x ∷ xs) = x + total xs
 
 -- the table t gives the cell of p on the stretch the value v
 pub data Gives (c f : List ℕ) (size n : ℕ) (t : List ℕ) (p i j v : ℕ) : Type 0 where
-  by-terminal : kindAt c p ≡ 1 → fitsAt f p i ≡ 1 → i + goesAt c p ≤ j → v ≡ valueOf c t n (p + 1) (i + goesAt c p) j → Gives c f size n t p i j v
-  by-split : (m : ℕ) → kindAt c p ≡ 2 → i ≤ m → m ≤ j → v ≡ splitOf c t n p i j m → Gives c f size n t p i j v
+  by-terminal : nextKind c p ≡ 1 → fitsAt f p i ≡ 1 → i + goesAt c p ≤ j → v ≡ valueOf c t n (p + 1) (i + goesAt c p) j → Gives c f size n t p i j v
+  by-split : (m : ℕ) → nextKind c p ≡ 2 → i ≤ m → m ≤ j → v ≡ splitOf c t n p i j m → Gives c f size n t p i j v
   by-owned : (q : ℕ) → q < size → ownerAt c q ≡ p + 1 → v ≡ valueOf c t n q i j → Gives c f size n t p i j v
 
 -- cells of the stretches in A were lowered one after the other
@@ -52,14 +52,15 @@ pub data Lowered (t : List ℕ) (x v : ℕ) : ℕ → List ℕ → Type 0 where
 
 -- nothing lowers a cell of the stretch any more
 pub record Closed (c f : List ℕ) (size n : ℕ) (t : List ℕ) (i j : ℕ) : Type 0 where
-  pub terminal : (p : ℕ) → p < size → kindAt c p ≡ 1 → fitsAt f p i ≡ 1 → i + goesAt c p ≤ j → valueOf c t n (p + 1) (i + goesAt c p) j < none → cellOf n t p i j ≤ valueOf c t n (p + 1) (i + goesAt c p) j
-  pub split : (p m : ℕ) → p < size → kindAt c p ≡ 2 → i ≤ m → m ≤ j → valueOf c t n (p + 1) m j < none → cellOf n t p i j ≤ splitOf c t n p i j m
+  pub terminal : (p : ℕ) → p < size → nextKind c p ≡ 1 → fitsAt f p i ≡ 1 → i + goesAt c p ≤ j
+      → valueOf c t n (p + 1) (i + goesAt c p) j < none → cellOf n t p i j ≤ valueOf c t n (p + 1) (i + goesAt c p) j
+  pub split : (p m : ℕ) → p < size → nextKind c p ≡ 2 → i ≤ m → m ≤ j → valueOf c t n (p + 1) m j < none → cellOf n t p i j ≤ splitOf c t n p i j m
   pub owner : (p e : ℕ) → p < size → ownerAt c p ≡ e + 1 → cellOf n t e i j ≤ valueOf c t n p i j
 
--- What one stretch hands on to longer ones: what stands behind p is derived from m to j, so the cells of p before m are not above it.
+-- What one stretch hands on to longer ones: what stands after p is derived from m to j, so the cells of p before m are not above it.
 pub record HandedOn (c f : List ℕ) (n m j : ℕ) (t : List ℕ) (p : ℕ) : Type 0 where
-  pub terminal : (i : ℕ) → kindAt c p ≡ 1 → fitsAt f p i ≡ 1 → i < m → i + goesAt c p ≡ m → valueOf c t n (p + 1) m j < none → cellOf n t p i j ≤ valueOf c t n (p + 1) m j
-  pub split : (i : ℕ) → kindAt c p ≡ 2 → i < m → m < j → valueOf c t n (p + 1) m j < none → cellOf n t p i j ≤ splitOf c t n p i j m
+  pub terminal : (i : ℕ) → nextKind c p ≡ 1 → fitsAt f p i ≡ 1 → i < m → i + goesAt c p ≡ m → valueOf c t n (p + 1) m j < none → cellOf n t p i j ≤ valueOf c t n (p + 1) m j
+  pub split : (i : ℕ) → nextKind c p ≡ 2 → i < m → m < j → valueOf c t n (p + 1) m j < none → cellOf n t p i j ≤ splitOf c t n p i j m
 
 -- the same for every position, all of them being the first size
 abbrev pub Spread : List ℕ → List ℕ → ℕ → ℕ → ℕ → ℕ → List ℕ → Type 0
@@ -69,9 +70,9 @@ Spread c f size n m j t = (p : ℕ) → p < size → HandedOn c f n m j t p
 abbrev pub Given : List ℕ → List ℕ → ℕ → ℕ → ℕ → ℕ → List ℕ → Type 0
 Given c f size n i j t = (m : ℕ) → i < m → m ≤ j → Spread c f size n m j t
 
--- nothing stands behind q from m to j that could be handed on
+-- nothing stands after q from m to j that could be handed on
 pub data Idle (c t : List ℕ) (n m j q : ℕ) : Type 0 where
-  idle-end : kindAt c q ≡ 0 → Idle c t n m j q
+  idle-end : nextKind c q ≡ 0 → Idle c t n m j q
   idle-none : valueOf c t n (q + 1) m j ≡ none → Idle c t n m j q
 
 -- all from p on and before r are idle; r is size, or no end
@@ -79,7 +80,7 @@ pub record NextRest (c t : List ℕ) (size n p m j r : ℕ) : Type 0 where
   pub from : p ≤ r
   pub below : r ≤ size
   pub idle : (q : ℕ) → p ≤ q → q < r → Idle c t n m j q
-  pub busy : r < size → (kindAt c r ≡ 0 → ⊥)
+  pub busy : r < size → (nextKind c r ≡ 0 → ⊥)
 
 -- no position has a value on the stretch, which is not empty
 pub record Bare (size n i j : ℕ) (t : List ℕ) : Type 0 where
@@ -93,10 +94,10 @@ pub record Shifted (c f t : List ℕ) (n p i j v : ℕ) : Type 0 where
 
 -- v is the least of what p is offered on its own stretch
 pub record Offer (c f : List ℕ) (size n : ℕ) (t : List ℕ) (p i j v : ℕ) : Type 0 where
-  pub terminal : kindAt c p ≡ 1 → goesAt c p ≡ 0 → fitsAt f p i ≡ 1 → v ≤ valueOf c t n (p + 1) i j
-  pub left : kindAt c p ≡ 2 → v ≤ splitOf c t n p i j i
-  pub right : kindAt c p ≡ 2 → v ≤ splitOf c t n p i j j
-  pub dot : v < none → kindAt c p ≡ 0 → ⊥
+  pub terminal : nextKind c p ≡ 1 → goesAt c p ≡ 0 → fitsAt f p i ≡ 1 → v ≤ valueOf c t n (p + 1) i j
+  pub left : nextKind c p ≡ 2 → v ≤ splitOf c t n p i j i
+  pub right : nextKind c p ≡ 2 → v ≤ splitOf c t n p i j j
+  pub dot : v < none → nextKind c p ≡ 0 → ⊥
   pub some : v < none → Gives c f size n t p i j v
 
 -- S has for each rule how many of the last of 512 positions have not seen it since it was lowered
@@ -105,9 +106,9 @@ Seen c S p = p + getD S (ruleAt c p) 0 < mostSize
 
 -- no cell of the stretch can be lowered by what p is offered, as far as it has been seen, or hands on
 pub record Held (c f : List ℕ) (n i j : ℕ) (t S : List ℕ) (p : ℕ) : Type 0 where
-  pub terminal : kindAt c p ≡ 1 → goesAt c p ≡ 0 → fitsAt f p i ≡ 1 → cellOf n t p i j ≤ valueOf c t n (p + 1) i j
-  pub left : kindAt c p ≡ 2 → i < j → cellOf n t p i j ≤ splitOf c t n p i j i
-  pub right : kindAt c p ≡ 2 → Seen c S p → cellOf n t p i j ≤ splitOf c t n p i j j
+  pub terminal : nextKind c p ≡ 1 → goesAt c p ≡ 0 → fitsAt f p i ≡ 1 → cellOf n t p i j ≤ valueOf c t n (p + 1) i j
+  pub left : nextKind c p ≡ 2 → i < j → cellOf n t p i j ≤ splitOf c t n p i j i
+  pub right : nextKind c p ≡ 2 → Seen c S p → cellOf n t p i j ≤ splitOf c t n p i j j
   pub owner : (e : ℕ) → ownerAt c p ≡ e + 1 → cellOf n t e i j ≤ valueOf c t n p i j
 
 abbrev pub AllHeld : List ℕ → List ℕ → ℕ → ℕ → ℕ → ℕ → List ℕ → List ℕ → Type 0
@@ -150,7 +151,7 @@ AllKept c f size n i j t S t' S' = (q : ℕ) → q < size → Held c f n i j t S
 -- the uses of e among the last d positions have seen it
 pub record Revisited (c f : List ℕ) (size n e d i j : ℕ) (t S t' S' : List ℕ) : Type 0 where
   pub steps : Steps c f size n (Only i j) t t'
-  pub made : (q : ℕ) → q < size → kindAt c q ≡ 2 → ruleAt c q ≡ e → mostSize ≤ q + d → Held c f n i j t' S' q
+  pub made : (q : ℕ) → q < size → nextKind c q ≡ 2 → ruleAt c q ≡ e → mostSize ≤ q + d → Held c f n i j t' S' q
   pub kept : AllKept c f size n i j t S t' S'
   pub falls : potential t' S' ≤ potential t S
 

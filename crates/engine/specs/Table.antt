@@ -6,22 +6,22 @@ use lib.ListN.{length, getD}
 use lib.Dec.{eqb, ltb}
 use Rattle.text.specs.Limits.{mostSize, recordChars}
 use Rattle.text.specs.Lists.{pick}
-use Rattle.code.specs.Code.{kindAt, ruleAt, ownerAt}
-use Rattle.code.specs.Heights.{stretches, cellAt, none}
+use Rattle.chart.specs.Code.{nextKind, ruleAt, ownerAt}
+use Rattle.chart.specs.Heights.{stretches, cellAt, none}
 
 -- what stands at the cell of p on the stretch from i to j
 abbrev pub cellOf : ℕ → List ℕ → ℕ → ℕ → ℕ → ℕ
 cellOf n t p i j = getD t (cellAt n p i j) 0
 
--- the position q on the stretch: nothing stands behind an end
+-- the position q on the stretch: nothing stands after an end
 abbrev pub valueOf : List ℕ → List ℕ → ℕ → ℕ → ℕ → ℕ → ℕ
-valueOf c t n q i j = pick (eqb (kindAt c q) 0) (pick (eqb i j) 0 none) (cellOf n t q i j)
+valueOf c t n q i j = pick (eqb (nextKind c q) 0) (pick (eqb i j) 0 none) (cellOf n t q i j)
 
 -- one higher
 abbrev pub upOf : ℕ → ℕ
 upOf h = pick (ltb h none) (h + 1) none
 
--- the symbol at p from i to m, then what stands behind it from m to j
+-- the symbol at p from i to m, then what stands after it from m to j
 abbrev pub splitOf : List ℕ → List ℕ → ℕ → ℕ → ℕ → ℕ → ℕ → ℕ
 splitOf c t n p i j m = max (upOf (cellOf n t (ruleAt c p) i m)) (valueOf c t n (p + 1) m j)
 
@@ -35,12 +35,12 @@ pub record Room (size n len : ℕ) : Type 0 where
 pub record Shape (c : List ℕ) (size n len : ℕ) : Type 0 where
   pub cells : Room size n len
   pub coded : 4 * size ≤ length c
-  pub nexts : (p : ℕ) → p < size → (kindAt c p ≡ 0 → ⊥) → p + 1 < size
-  pub names : (p : ℕ) → p < size → kindAt c p ≡ 2 → ruleAt c p < size
+  pub nexts : (p : ℕ) → p < size → (nextKind c p ≡ 0 → ⊥) → p + 1 < size
+  pub names : (p : ℕ) → p < size → nextKind c p ≡ 2 → ruleAt c p < size
   pub owners : (p e : ℕ) → p < size → ownerAt c p ≡ e + 1 → e < size
   -- a rule is named by an end
-  pub rule-ends : (p : ℕ) → p < size → kindAt c p ≡ 2 → kindAt c (ruleAt c p) ≡ 0
-  pub owner-ends : (p e : ℕ) → p < size → ownerAt c p ≡ e + 1 → kindAt c e ≡ 0
+  pub rule-ends : (p : ℕ) → p < size → nextKind c p ≡ 2 → nextKind c (ruleAt c p) ≡ 0
+  pub owner-ends : (p e : ℕ) → p < size → ownerAt c p ≡ e + 1 → nextKind c e ≡ 0
 
 pub record Safe (c f : List ℕ) (size n len : ℕ) : Type 0 where
   pub shape : Shape c size n len

@@ -36,7 +36,8 @@ move F e q = ap (kindAt F) e ∙ q
 pub data Rows (F : List ℕ) (g : Grammar) (S : Starts) : List ℕ → List (List Symbol) → Type 0 where
   r-last : {t q : ℕ} → Rows F g S (6 ∷ t ∷ q ∷ []) ([] ∷ [])
   r-more : {t q : ℕ} {xs : List ℕ} {ts : List (List Symbol)} → Rows F g S xs ts → Rows F g S (5 ∷ t ∷ q ∷ xs) ([] ∷ ts)
-  r-item : {k t q : ℕ} {s : Symbol} {xs : List ℕ} {ss : List Symbol} {ts : List (List Symbol)} → ((p : ℕ) → Placed F g S p k t q → Stands F g S p s) → Rows F g S xs (ss ∷ ts) → Rows F g S (k ∷ t ∷ q ∷ xs) ((s ∷ ss) ∷ ts)
+  r-item : {k t q : ℕ} {s : Symbol} {xs : List ℕ} {ss : List Symbol} {ts : List (List Symbol)}
+      → ((p : ℕ) → Placed F g S p k t q → Stands F g S p s) → Rows F g S xs (ss ∷ ts) → Rows F g S (k ∷ t ∷ q ∷ xs) ((s ∷ ss) ∷ ts)
 
 module _ {F : List ℕ} {g : Grammar} {S : Starts} where
   pub rows-length : {xs : List ℕ} {ts : List (List Symbol)} → Rows F g S xs ts → length xs ≡ 3 * weight ts
@@ -55,14 +56,17 @@ module _ {F : List ℕ} {g : Grammar} {S : Starts} where
   -- one more symbol in front
   in-front : {x : ℕ} {s : Symbol} {ts : List (List Symbol)} (ss : List Symbol) → Stands F g S x s → Alternatives F g S (x + 1) (ss ∷ ts) → Alternatives F g S x ((s ∷ ss) ∷ ts)
   in-front {x} ss w (al-last v k) = al-last (sp-item w v) (move F (let e : x + suc (length ss) ≡ x + 1 + length ss = omega arith in e) k)
-  in-front {x} {ts = ts} ss w (al-more v k u) = al-more (sp-item w v) (move F (let e : x + suc (length ss) ≡ x + 1 + length ss = omega arith in e) k) (subst (λ (j : ℕ). Alternatives F g S j ts) (let e : x + 1 + (length ss + 1) ≡ x + (suc (length ss) + 1) = omega arith in e) u)
+  in-front {x} {ts = ts} ss w (al-more v k u) = al-more (sp-item w v)
+      (move F (let e : x + suc (length ss) ≡ x + 1 + length ss = omega arith in
+      e) k) (subst (λ (j : ℕ). Alternatives F g S j ts) (let e : x + 1 + (length ss + 1) ≡ x + (suc (length ss) + 1) = omega arith in e) u)
 
   pub rows-alternatives : {xs : List ℕ} {ts : List (List Symbol)} (x : ℕ) → Rows F g S xs ts → PlacedAll F g S x xs → Alternatives F g S x ts
   rows-alternatives x r-last w = al-last (sp-end (inr (kind-kept (w .0) (omega arith)))) (move F (let e : x + 0 ≡ x = omega arith in e) (kind-kept (w .0) (omega arith)))
-  rows-alternatives x (r-more {ts = ts} r) w = al-more (sp-end (inl (kind-kept (w .0) (omega arith)))) (move F (let e : x + 0 ≡ x = omega arith in e) (kind-kept (w .0) (omega arith))) (rows-alternatives (x + 1) r (w .1))
+  rows-alternatives x (r-more {ts = ts} r) w = al-more (sp-end (inl (kind-kept (w .0) (omega arith))))
+      (move F (let e : x + 0 ≡ x = omega arith in e) (kind-kept (w .0) (omega arith))) (rows-alternatives (x + 1) r (w .1))
   rows-alternatives x (r-item {ss = ss} m r) w = in-front ss (m x (w .0)) (rows-alternatives (x + 1) r (w .1))
 
--- blocks one behind the other, each the alternatives of its symbol; the rules begin at the items of the list
+-- blocks one after the other, each the alternatives of its symbol; the rules begin at the items of the list
 pub data Blocks (F : List ℕ) (g : Grammar) (S : Starts) : ℕ → List ℕ → Starts → Type 0 where
   b-none : {x : ℕ} → Blocks F g S x [] []
   b-rule : {x : ℕ} {s : Symbol} {xs ys : List ℕ} {B : Starts} → Rows F g S xs (alts g s) → Blocks F g S (x + weight (alts g s)) ys B → Blocks F g S x (xs ++ ys) ((x, s) ∷ B)
@@ -99,12 +103,14 @@ cleans-lower : (F : List ℕ) (n m : ℕ) (xs : List ℕ) → n ≤ m → ((y : 
 cleans-lower F n m [] h l c = tt
 cleans-lower F n m (x ∷ xs) h l c = (clean-lower F n m x h l (c .0), cleans-lower F n m xs h l (c .1))
 
-begins-split : (x : ℕ) (s : Symbol) (rs rs' : List Rule) (xs xs' : List ℕ) → length rs ≡ length xs → RuleBegins x s (rs ++ rs') (xs ++ xs') → RuleBegins x s rs xs ⊎ RuleBegins x s rs' xs'
+begins-split : (x : ℕ) (s : Symbol) (rs rs' : List Rule) (xs xs' : List ℕ) → length rs ≡ length xs → RuleBegins x s (rs ++ rs') (xs ++ xs')
+    → RuleBegins x s rs xs ⊎ RuleBegins x s rs' xs'
 begins-split x s [] rs' [] xs' e b = inr b
 begins-split x s [] rs' (y ∷ xs) xs' e b = absurd (let z : 0 ≡ suc (length xs) = e in omega arith)
 begins-split x s (r ∷ rs) rs' [] xs' e b = absurd (let z : suc (length rs) ≡ 0 = e in omega arith)
 begins-split x s (r ∷ rs) rs' (y ∷ xs) xs' e (inl b) = inl (inl b)
-begins-split x s (r ∷ rs) rs' (y ∷ xs) xs' e (inr b) = ⊎-elim (λ c. inl (inr c)) (λ c. inr c) (begins-split x s rs rs' xs xs' (let z : suc (length rs) ≡ suc (length xs) = e in omega arith) b)
+begins-split x s (r ∷ rs) rs' (y ∷ xs) xs' e (inr b) = ⊎-elim (λ c. inl (inr c)) (λ c. inr c)
+    (begins-split x s rs rs' xs xs' (let z : suc (length rs) ≡ suc (length xs) = e in omega arith) b)
 
 begins-clean : (F : List ℕ) (n x : ℕ) (s : Symbol) (rs : List Rule) (xs : List ℕ) → Cleans F n xs → RuleBegins x s rs xs → n ≤ x
 begins-clean F n x s [] xs c b = absurd b
@@ -140,10 +146,22 @@ none-single S₁ u x s t l (inr a) b = absurd a
 
 module _ {F : List ℕ} {g : Grammar} {S : Starts} where
   pub sound-none : (n : ℕ) (S₁ : Starts) → Sound F g S n n S₁ S₁ [] []
-  sound-none n S₁ = record { grew = omega arith; rule = λ x s a. inl a; spelt = λ p h. inl h; covered = λ p h. inl h; apart = λ x s a. inl a; clean = tt; last = λ y e h. absurd (omega arith); under = none-under S₁ (omega arith); single = none-single S₁ }
+  sound-none n S₁ =
+      record {
+        grew = omega arith;
+        rule = λ x s a. inl a;
+        spelt = λ p h. inl h;
+        covered = λ p h. inl h;
+        apart = λ x s a. inl a;
+        clean = tt;
+        last = λ y e h. absurd (omega arith);
+        under = none-under S₁ (omega arith);
+        single = none-single S₁;
+      }
 
-  -- a rule of two runs that begins before the second run is one of the first; one that begins behind it is one of the second
-  module _ {n m k : ℕ} {S₁ S₂ S₃ : Starts} {rs rs' : List Rule} {xs xs' : List ℕ} (even : length rs ≡ length xs) (v : Sound F g S n m S₁ S₂ rs xs) (w : Sound F g S m k S₂ S₃ rs' xs') where
+  -- a rule of two runs that begins before the second run is one of the first; one that begins after it is one of the second
+  module _ {n m k : ℕ} {S₁ S₂ S₃ : Starts} {rs rs' : List Rule} {xs xs' : List ℕ} (even : length rs ≡ length xs)
+      (v : Sound F g S n m S₁ S₂ rs xs) (w : Sound F g S m k S₂ S₃ rs' xs') where
     begins-first : (x : ℕ) (s : Symbol) → x < m → Begins x s S₃ (rs ++ rs') (xs ++ xs') → Begins x s S₂ rs xs
     begins-first x s l (inl a) = ⊎-elim (λ b. inl b) (λ b. absurd (let z = b .0 in omega arith)) (w .apart x s a)
     begins-first x s l (inr a) = ⊎-elim (λ b. inr b) (λ b. absurd (let z = begins-clean F m x s rs' xs' (w .clean) b in omega arith)) (begins-split x s rs rs' xs xs' even a)
@@ -161,12 +179,17 @@ module _ {F : List ℕ} {g : Grammar} {S : Starts} where
         (λ (l : m ≤ x). w .single (λ y q c. v .under u y q (inl c)) x s t l (begins-second u x s l a) (begins-second u x t l b))
         (split x m)
 
-  pub sound-then : {n m k : ℕ} {S₁ S₂ S₃ : Starts} {rs rs' : List Rule} {xs xs' : List ℕ} → ((x : ℕ) (s : Symbol) → Among x s S₂ → Among x s S₃) → length rs ≡ length xs → m ≤ k → Sound F g S n m S₁ S₂ rs xs → Sound F g S m k S₂ S₃ rs' xs' → Sound F g S n k S₁ S₃ (rs ++ rs') (xs ++ xs')
+  pub sound-then : {n m k : ℕ} {S₁ S₂ S₃ : Starts} {rs rs' : List Rule} {xs xs' : List ℕ}
+      → ((x : ℕ) (s : Symbol) → Among x s S₂ → Among x s S₃) → length rs ≡ length xs → m ≤ k → Sound F g S n m S₁ S₂ rs xs
+      → Sound F g S m k S₂ S₃ rs' xs' → Sound F g S n k S₁ S₃ (rs ++ rs') (xs ++ xs')
   sound-then {n} {m} {k} {rs = rs} {rs' = rs'} {xs = xs} {xs' = xs'} later even h v w = record {
     grew = omega (arith, v .grew);
     rule = λ x s a. ⊎-elim (λ b. ⊎-elim (λ c. inl c) (λ c. inr (c .0, (let z = c .1 in omega arith))) (v .rule x s b)) (λ b. inr b) (w .rule x s a);
     spelt = λ p l. ⊎-elim (λ b. v .spelt p b) (λ b. inr b) (w .spelt p l);
-    covered = λ p l. ⊎-elim (λ b. ⊎-elim (λ c. inl c) (λ c. inr (⊎-elim (λ d. inl (cover-later later d)) (λ d. inr (cover-left rs rs' xs xs' p d)) c)) (v .covered p b)) (λ b. inr (⊎-elim (λ d. inl d) (λ d. inr (cover-right rs rs' xs xs' p even d)) b)) (w .covered p l);
+    covered =
+        λ p l. ⊎-elim (λ b. ⊎-elim (λ c. inl c) (λ c. inr
+        (⊎-elim (λ d. inl (cover-later later d)) (λ d. inr (cover-left rs rs' xs xs' p d)) c)) (v .covered p b))
+        (λ b. inr (⊎-elim (λ d. inl d) (λ d. inr (cover-right rs rs' xs xs' p even d)) b)) (w .covered p l);
     apart = λ x s a. ⊎-elim (λ b. v .apart x s b) (λ b. inr (clean-lower F n m x (v .grew) (v .last) b)) (w .apart x s a);
     clean = cleans-append F n xs xs' (v .clean) (cleans-lower F n m xs' (v .grew) (v .last) (w .clean));
     last = λ y e i. ⊎-elim (λ (b : y < m). v .last y (omega arith) i) (λ (b : m ≤ y). w .last y e b) (split y m);
@@ -192,11 +215,25 @@ module _ {F : List ℕ} {g : Grammar} {S : Starts} where
     front-single : {u : Symbol} → Under n S₁ → (x : ℕ) (s t : Symbol) → n ≤ x → Begins x s ((n, u) ∷ S₂) [] [] → Begins x t ((n, u) ∷ S₂) [] [] → s ≡ t
     front-single h x s t l a b = ⊎-elim
         (λ d. ⊎-elim (λ e. sym (d .1) ∙ e .1) (λ e. absurd (let y = d .0 in let z = e .0 in omega arith)) (front-new h x t l b))
-        (λ d. ⊎-elim (λ e. absurd (let y = d .0 in let z = e .0 in omega arith)) (λ e. w .single (λ y q c. (let z = h y q c in omega arith)) x s t (d .0) (inl (d .1)) (inl (e .1))) (front-new h x t l b))
+        (λ d. ⊎-elim (λ e. absurd (let y = d .0 in let z = e .0 in
+        omega arith)) (λ e. w .single (λ y q c. (let z = h y q c in omega arith)) x s t (d .0) (inl (d .1)) (inl (e .1)))
+        (front-new h x t l b))
         (front-new h x s l a)
 
-  pub blocks-sound : {x : ℕ} {xs : List ℕ} {B : Starts} (m : ℕ) (S₁ : Starts) → Blocks F g S x xs B → PlacedAll F g S x xs → length xs ≡ 3 * m → Sound F g S x (x + m) S₁ (B ++ S₁) [] []
-  blocks-sound {x} m S₁ b-none w e = let z : 3 * m ≡ 0 = sym e in record { grew = omega arith; rule = λ y s a. inl a; spelt = λ p h. inl (omega arith); covered = λ p h. inl (omega arith); apart = λ y s a. inl a; clean = tt; last = λ y q h. absurd (omega arith); under = none-under S₁ (omega arith); single = none-single S₁ }
+  pub blocks-sound : {x : ℕ} {xs : List ℕ} {B : Starts} (m : ℕ) (S₁ : Starts) → Blocks F g S x xs B → PlacedAll F g S x xs
+      → length xs ≡ 3 * m → Sound F g S x (x + m) S₁ (B ++ S₁) [] []
+  blocks-sound {x} m S₁ b-none w e = let z : 3 * m ≡ 0 = sym e in
+      record {
+        grew = omega arith;
+        rule = λ y s a. inl a;
+        spelt = λ p h. inl (omega arith);
+        covered = λ p h. inl (omega arith);
+        apart = λ y s a. inl a;
+        clean = tt;
+        last = λ y q h. absurd (omega arith);
+        under = none-under S₁ (omega arith);
+        single = none-single S₁;
+      }
   blocks-sound {x} m S₁ (b-rule {s = u} {xs = xs} {ys = ys} {B = B} r b) w e =
       let l : length xs ≡ 3 * weight (alts g u) = rows-length r in
       let ll : length xs + length ys ≡ 3 * m = sym (length-append xs ys) ∙ e in
@@ -216,14 +253,19 @@ module _ {F : List ℕ} {g : Grammar} {S : Starts} where
             (split p x);
         covered = λ p h. ⊎-elim
             (λ c. inl c)
-            (λ (c : x ≤ p). ⊎-elim (λ (d : p < x + weight (alts g u)). inr (inl (record { first = x; symbol = u; among = inl (refl, refl); above = c; under = d }))) (λ (d : x + weight (alts g u) ≤ p). ⊎-elim (λ c'. absurd (omega arith)) (λ c'. inr (⊎-elim (λ b'. inl (cover-later (λ y s a. inr a) b')) (λ b'. absurd b') c')) (rest .covered p (omega arith))) (split p (x + weight (alts g u))))
+            (λ (c : x ≤ p). ⊎-elim (λ (d : p < x + weight (alts g u)). inr
+            (inl (record { first = x; symbol = u; among = inl (refl, refl); above = c; under = d })))
+            (λ (d : x + weight (alts g u) ≤ p). ⊎-elim (λ c'. absurd (omega arith))
+            (λ c'. inr (⊎-elim (λ b'. inl (cover-later (λ y s a. inr a) b')) (λ b'. absurd b') c')) (rest .covered p (omega arith)))
+            (split p (x + weight (alts g u))))
             (split p x);
         apart = λ y s a. ⊎-elim
             (λ q. inr (let z = q .0 in omega arith, λ j f i. absurd (let z = q .0 in omega arith)))
             (λ a'. ⊎-elim (λ b'. inl b') (λ b'. inr (clean-lower F x (x + weight (alts g u)) y (omega arith) (λ j f i. alternatives-last al j f) b')) (rest .apart y s a'))
             a;
         clean = tt;
-        last = λ y f i. ⊎-elim (λ (d : y < x + weight (alts g u)). alternatives-last al y (omega arith)) (λ (d : x + weight (alts g u) ≤ y). rest .last y (omega arith) d) (split y (x + weight (alts g u)));
+        last = λ y f i. ⊎-elim (λ (d : y < x + weight (alts g u)). alternatives-last al y (omega arith))
+            (λ (d : x + weight (alts g u) ≤ y). rest .last y (omega arith) d) (split y (x + weight (alts g u)));
         under = λ q y s c. (let z = front-under some rest q y s c in omega arith);
         single = front-single some rest;
       }

@@ -3,9 +3,13 @@ pub mod Reps
 pub mod Uses
 pub mod Blocks
 pub mod Runs
+pub mod Entries
+pub mod Repetitions
 pub mod Trees
 pub mod Rules
 pub mod Scans
 pub mod Names
 pub mod Links
+pub mod RuleNames
 pub mod Finals
+pub mod Terminals

@@ -10,20 +10,23 @@ use Rattle.text.specs.Lists.{concatMap}
 use Rattle.tree.specs.Tree.{Symbol, Grammar}
 use Rattle.tree.specs.Tokens.{Token, numbers, encode}
 use Rattle.plain.specs.Written.{kind, made}
-use Rattle.measure.specs.Walk.{firstNumber}
+use Rattle.tokens.specs.Lengths.{firstNumber}
 use Rattle.items.specs.Items.{Starts, Among, Stands, st-made, Reads, targetAt, kindAt}
-use Rattle.items.specs.Machine.{Entry, entry, nums, Abs, pushed, Act, Fit, dutyOf}
+use Rattle.items.specs.Machine.{Entry, entry, nums, Abs, pushed, Act, Fit, actionOf}
 use Rattle.items.specs.Scanned.{At}
 use Rattle.items.specs.Final.{Placed, PlacedAll, Final}
 use Rattle.items.proofs.Blocks.{placed-append, Blocks, Sound, sound-none, sound-then, blocks-sound}
 
 pub data Trace : List Token → ℕ → Abs → Abs → Type 0 where
   t-done : {at : ℕ} {a : Abs} → Trace [] at a a
-  t-step : {t : Token} {ts : List Token} {at : ℕ} {a b z : Abs} → Act (dutyOf (firstNumber t)) at a b → Fit b → Trace ts (at + length (numbers t)) b z → Trace (t ∷ ts) at a z
+  t-step : {t : Token} {ts : List Token} {at : ℕ} {a b z : Abs} → Act (actionOf (firstNumber t)) at a b → Fit b → Trace ts (at + length (numbers t)) b z → Trace (t ∷ ts) at a z
 
 pub trace-append : {us vs : List Token} {at : ℕ} {a b c : Abs} → Trace us at a b → Trace vs (at + length (encode us)) b c → Trace (us ++ vs) at a c
 trace-append {vs = vs} {c = c} (t-done {at = at} {a = a}) w = subst (λ (k : ℕ). Trace vs k a c) (let e : at + 0 ≡ at = omega arith in e) w
-trace-append {vs = vs} {c = c} (t-step {t = t} {ts = ts} {at = at} {z = z} x f v) w = t-step x f (trace-append v (subst (λ (k : ℕ). Trace vs k z c) (let e : at + length (numbers t ++ encode ts) ≡ at + length (numbers t) + length (encode ts) = omega (arith, length-append (numbers t) (encode ts)) in e) w))
+trace-append {vs = vs} {c = c} (t-step {t = t} {ts = ts} {at = at} {z = z} x f v) w = t-step x f
+    (trace-append v (subst (λ (k : ℕ). Trace vs k z c)
+    (let e : at + length (numbers t ++ encode ts) ≡ at + length (numbers t) + length
+    (encode ts) = omega (arith, length-append (numbers t) (encode ts)) in e) w))
 
 encode-append : (us vs : List Token) → encode (us ++ vs) ≡ encode us ++ encode vs
 encode-append [] vs = refl
@@ -62,7 +65,8 @@ among-later [] S x s m = m
 among-later (y ∷ B) S x s m = inr (among-later B S x s m)
 
 module _ {g : Grammar} {K : List ℕ} where
-  pub shorter : {a : Abs} {l : List ℕ} {S S' : Starts} (more : List ℕ) → Ok K a → l ≡ a .list ++ more → ((x : ℕ) (s : Symbol) → Among x s S → Among x s S') → (F : List ℕ) (T : Starts) → Final g K l S' F T → Final g K (a .list) S F T
+  pub shorter : {a : Abs} {l : List ℕ} {S S' : Starts} (more : List ℕ) → Ok K a → l ≡ a .list ++ more
+      → ((x : ℕ) (s : Symbol) → Among x s S → Among x s S') → (F : List ℕ) (T : Starts) → Final g K l S' F T → Final g K (a .list) S F T
   shorter {a} more k e later F T f = record {
     tokens = f .tokens;
     placed = placed-append F g T (a .list) more (a .items) 0 (k .list) (subst (λ (l : List ℕ). PlacedAll F g T 0 l) e (f .placed)) .0;
@@ -70,7 +74,18 @@ module _ {g : Grammar} {K : List ℕ} where
   }
 
   pub run-none : {at : ℕ} {a : Abs} (S : Starts) → Ok K a → Run g K [] at a a S S
-  run-none {a = a} S k = record { trace = t-done; ok = k; more = []; list = sym (append-nil (a .list)); grew = omega arith; rows = refl; rules = refl; base = refl; later = λ x s m. m; sound = λ F T f. sound-none (a .items) S }
+  run-none {a = a} S k = record {
+    trace = t-done;
+    ok = k;
+    more = [];
+    list = sym (append-nil (a .list));
+    grew = omega arith;
+    rows = refl;
+    rules = refl;
+    base = refl;
+    later = λ x s m. m;
+    sound = λ F T f. sound-none (a .items) S;
+  }
 
   pub run-then : {us vs : List Token} {at : ℕ} {a b c : Abs} {S S' S'' : Starts} → Run g K us at a b S S' → Run g K vs (at + length (encode us)) b c S' S'' → Run g K (us ++ vs) at a c S S''
   run-then {a = a} v w = record {
@@ -87,7 +102,8 @@ module _ {g : Grammar} {K : List ℕ} where
   }
 
   -- a token that adds no item
-  pub run-quiet : {at : ℕ} {a b : Abs} (t : Token) (S : Starts) → Act (dutyOf (firstNumber t)) at a b → Ok K b → b .list ≡ a .list → b .items ≡ a .items → b .rows ≡ a .rows → b .rules ≡ a .rules → b .base ≡ a .base → Run g K (t ∷ []) at a b S S
+  pub run-quiet : {at : ℕ} {a b : Abs} (t : Token) (S : Starts) → Act (actionOf (firstNumber t)) at a b → Ok K b → b .list ≡ a .list
+      → b .items ≡ a .items → b .rows ≡ a .rows → b .rules ≡ a .rules → b .base ≡ a .base → Run g K (t ∷ []) at a b S S
   run-quiet {a = a} {b = b} t S x k l i r u e = record {
     trace = t-step x (k .fit) t-done;
     ok = k;
@@ -102,11 +118,18 @@ module _ {g : Grammar} {K : List ℕ} where
   }
 
   -- a block of items
-  pub sound-block : {a : Abs} (b : Abs) (S B : Starts) (xs : List ℕ) (m : ℕ) → Ok K a → b .list ≡ a .list ++ xs → length xs ≡ 3 * m → b .items ≡ a .items + m → (F : List ℕ) (T : Starts) → Final g K (b .list) (B ++ S) F T → Blocks F g T (a .items) xs B → Sound F g T (a .items) (b .items) S (B ++ S) [] []
-  sound-block {a} b S B xs m k l w i F T f bl = subst (λ (n : ℕ). Sound F g T (a .items) n S (B ++ S) [] []) (sym i) (blocks-sound m S bl (subst (λ (p : ℕ). PlacedAll F g T p xs) (let z : 0 + a .items ≡ a .items = omega arith in z) (placed-append F g T (a .list) xs (a .items) 0 (k .list) (subst (λ (l : List ℕ). PlacedAll F g T 0 l) l (f .placed)) .1)) w)
+  pub sound-block : {a : Abs} (b : Abs) (S B : Starts) (xs : List ℕ) (m : ℕ) → Ok K a → b .list ≡ a .list ++ xs → length xs ≡ 3 * m
+      → b .items ≡ a .items + m → (F : List ℕ) (T : Starts) → Final g K (b .list) (B ++ S) F T → Blocks F g T (a .items) xs B
+      → Sound F g T (a .items) (b .items) S (B ++ S) [] []
+  sound-block {a} b S B xs m k l w i F T f bl = subst (λ (n : ℕ). Sound F g T (a .items) n S (B ++ S) [] []) (sym i)
+      (blocks-sound m S bl (subst (λ (p : ℕ). PlacedAll F g T p xs) (let z : 0 + a .items ≡ a .items = omega arith in
+      z) (placed-append F g T (a .list) xs (a .items) 0 (k .list) (subst (λ (l : List ℕ). PlacedAll F g T 0 l) l (f .placed)) .1)) w)
 
   -- a token that adds a block
-  pub run-block : {at : ℕ} {a b : Abs} (t : Token) (S B : Starts) (xs : List ℕ) (m : ℕ) → Act (dutyOf (firstNumber t)) at a b → Ok K a → Ok K b → b .list ≡ a .list ++ xs → length xs ≡ 3 * m → b .items ≡ a .items + m → b .rows ≡ a .rows → b .rules ≡ a .rules → b .base ≡ a .base → ((F : List ℕ) (T : Starts) → Final g K (b .list) (B ++ S) F T → Blocks F g T (a .items) xs B) → Run g K (t ∷ []) at a b S (B ++ S)
+  pub run-block : {at : ℕ} {a b : Abs} (t : Token) (S B : Starts) (xs : List ℕ) (m : ℕ) → Act (actionOf (firstNumber t)) at a b → Ok K a
+      → Ok K b → b .list ≡ a .list ++ xs → length xs ≡ 3 * m → b .items ≡ a .items + m → b .rows ≡ a .rows → b .rules ≡ a .rules
+      → b .base ≡ a .base → ((F : List ℕ) (T : Starts) → Final g K (b .list) (B ++ S) F T → Blocks F g T (a .items) xs B)
+      → Run g K (t ∷ []) at a b S (B ++ S)
   run-block {a = a} {b = b} t S B xs m x k k' l w i r u e bl = record {
     trace = t-step x (k' .fit) t-done;
     ok = k';

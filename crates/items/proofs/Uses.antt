@@ -45,10 +45,11 @@ module _ {T : List ℕ} {g : Grammar} {S : Starts} where
   spells-next (sp-end k) h = absurd (⊎-elim (λ e. omega arith) (λ e. omega arith) k)
   spells-next (sp-item {s = s} {ss = ss} r w) h = record { symbol = s; others = ss; all = refl; stands = r; spells = w }
 
-  -- the end of an alternative is behind its symbols
+  -- the end of an alternative is after its symbols
   pub spells-last : {p : ℕ} {ss : List Symbol} → Spells T g S p ss → 5 ≤ kindAt T (p + length ss)
   spells-last {p} (sp-end k) = let e : kindAt T (p + 0) ≡ kindAt T p = ap (kindAt T) (let z : p + 0 ≡ p = omega arith in z) in ⊎-elim (λ q. omega arith) (λ q. omega arith) k
-  spells-last {p} (sp-item {ss = ss} r w) = let e : kindAt T (p + suc (length ss)) ≡ kindAt T (p + 1 + length ss) = ap (kindAt T) (let z : p + suc (length ss) ≡ p + 1 + length ss = omega arith in z) in omega (arith, spells-last w)
+  spells-last {p} (sp-item {ss = ss} r w) = let e : kindAt T (p + suc (length ss)) ≡ kindAt T (p + 1 + length ss) = ap (kindAt T)
+      (let z : p + suc (length ss) ≡ p + 1 + length ss = omega arith in z) in omega (arith, spells-last w)
 
   -- the a-th alternative begins there
   pub alternative-at : {x : ℕ} {ts : List (List Symbol)} (a : ℕ) → Alternatives T g S x ts → a < length ts → Spells T g S (firstItem x ts a) (getD ts a [])
@@ -69,4 +70,5 @@ module _ {T : List ℕ} {g : Grammar} {S : Starts} where
 
   pub rule-spelt : {x : ℕ} {ts : List (List Symbol)} → Alternatives T g S x ts → (p : ℕ) → x ≤ p → p < x + weight ts → Spelt T g S p
   rule-spelt {x} (al-last {ss = ss} w k) p h l = run-spelt w p (p - x) (omega arith) (omega arith)
-  rule-spelt {x} (al-more {ss = ss} {ts = ts} w k v) p h l = ⊎-elim (λ b. run-spelt w p (p - x) (omega arith) (omega arith)) (λ b. rule-spelt v p (omega arith) (omega arith)) (split p (x + (length ss + 1)))
+  rule-spelt {x} (al-more {ss = ss} {ts = ts} w k v) p h l = ⊎-elim (λ b. run-spelt w p (p - x) (omega arith) (omega arith))
+      (λ b. rule-spelt v p (omega arith) (omega arith)) (split p (x + (length ss + 1)))

@@ -6,7 +6,9 @@ use native.Mathlib.Numerals.{add-one, add-two}
 use native.Mathlib.Nat.{add-suc, suc-add, add-zero}
 use native.Mathlib.Omega.{arith}
 use lib.ListN.{length, getD, take, drop, set, length-append, length-take, length-drop, length-set, List·getD-append}
-use lib.Seq.{sets, length-sets, sets-eq, getD-set-other, take-set-le, drop-set-lt, drop-set-add, take-at, drop-at, getD-take, getD-drop, getD-append-add, take-append-le, take-append-seam, drop-append-seam, take-take, drop-drop, take-add, length-take-le, take-append-add, drop-cons}
+use lib.Seq.{sets, length-sets, sets-eq, getD-set-other, take-set-le, drop-set-lt, drop-set-add, take-at, drop-at, getD-take, getD-drop}
+use lib.Seq.{getD-append-add, take-append-le, take-append-seam, drop-append-seam, take-take, drop-drop, take-add, length-take-le}
+use lib.Seq.{take-append-add, drop-cons}
 use Rattle.items.specs.Machine.{Entry, entry, nums, entryAt, laid, Copied}
 
 module _ (T : List ℕ) (i : ℕ) where
@@ -31,16 +33,19 @@ drop-sets (x ∷ xs) T n i h = drop-sets xs (set T i x) n (suc i) (omega arith) 
 
 pub drop-sets-add : (xs T : List ℕ) (n i : ℕ) → drop n (sets T (n + i) xs) ≡ sets (drop n T) i xs
 drop-sets-add [] T n i = refl
-drop-sets-add (x ∷ xs) T n i = ap (λ (k : ℕ). drop n (sets (set T (n + i) x) k xs)) (sym (add-suc n i)) ∙ drop-sets-add xs (set T (n + i) x) n (suc i) ∙ ap (λ (l : List ℕ). sets l (suc i) xs) (drop-set-add n T i x)
+drop-sets-add (x ∷ xs) T n i = ap (λ (k : ℕ). drop n (sets (set T (n + i) x) k xs)) (sym (add-suc n i))
+    ∙ drop-sets-add xs (set T (n + i) x) n (suc i) ∙ ap (λ (l : List ℕ). sets l (suc i) xs) (drop-set-add n T i x)
 
 pub sets-then : (xs ys T : List ℕ) (i : ℕ) → sets (sets T i xs) (i + length xs) ys ≡ sets T i (xs ++ ys)
 sets-then [] ys T i = ap (λ (k : ℕ). sets T k ys) (add-zero i)
 sets-then (x ∷ xs) ys T i = ap (λ (k : ℕ). sets (sets (set T i x) (suc i) xs) k ys) (add-suc i (length xs) ∙ sym (suc-add i (length xs))) ∙ sets-then xs ys (set T i x) (suc i)
 
--- one block of items behind another
-pub laid-then : (T : List ℕ) {T₁ T₂ : List ℕ} (i j : ℕ) (xs ys : List ℕ) → T₁ ≡ laid T i xs → 3 * j ≡ 3 * i + length xs → T₂ ≡ laid T₁ j ys → T₂ ≡ laid T i (xs ++ ys)
+-- one block of items after another
+pub laid-then : (T : List ℕ) {T₁ T₂ : List ℕ} (i j : ℕ) (xs ys : List ℕ) → T₁ ≡ laid T i xs → 3 * j ≡ 3 * i + length xs → T₂ ≡ laid T₁ j ys
+    → T₂ ≡ laid T i (xs ++ ys)
 laid-then T i j xs ys p e q =
-    q ∙ ap (λ (l : List ℕ). laid l j ys) p ∙ ap (λ (k : ℕ). sets (laid T i xs) k ys) (let z : 12288 + 3 * j ≡ 12288 + 3 * i + length xs = omega arith in z) ∙ sets-then xs ys T (12288 + 3 * i)
+    q ∙ ap (λ (l : List ℕ). laid l j ys) p ∙ ap (λ (k : ℕ). sets (laid T i xs) k ys)
+    (let z : 12288 + 3 * j ≡ 12288 + 3 * i + length xs = omega arith in z) ∙ sets-then xs ys T (12288 + 3 * i)
 
 -- an entry above what was stored
 pub entry-kept : (T : List ℕ) {T₁ : List ℕ} (i : ℕ) (xs : List ℕ) (from : ℕ) → T₁ ≡ laid T i xs → 12288 + 3 * i + length xs ≤ from → entryAt T₁ from ≡ entryAt T from
@@ -68,10 +73,13 @@ pub win-end : (T xs : List ℕ) (a k n i : ℕ) → i ≡ a + k → n ≡ k + le
 win-end T xs a k n i e f h =
     ap (λ (j : ℕ). take n (drop a (sets T j xs))) e
     ∙ ap (take n) (drop-sets-add xs T a k ∙ sets-eq xs (drop a T) k (rw length-drop (omega arith)))
-    ∙ take-at (take k (drop a T) ++ xs) (drop (k + length xs) (drop a T)) n (length-append (take k (drop a T)) xs ∙ ap (λ (m : ℕ). m + length xs) (length-take-le k (drop a T) (rw length-drop (omega arith))) ∙ sym f)
+    ∙ take-at (take k (drop a T) ++ xs) (drop (k + length xs) (drop a T)) n
+    (length-append (take k (drop a T)) xs ∙ ap (λ (m : ℕ). m + length xs) (length-take-le k (drop a T) (rw length-drop (omega arith)))
+    ∙ sym f)
 
 -- the lower part of the stack, an entry on it, and what stands above a mark
-module _ (T : List ℕ) (d : ℕ) (under more : List ℕ) (c : ℕ) (stacked : take (3 * d) (drop 14848 T) ≡ under ++ more) (long : length under ≡ 3 * c) (low : 3 * c + length more ≡ 3 * d) where
+module _ (T : List ℕ) (d : ℕ) (under more : List ℕ) (c : ℕ) (stacked : take (3 * d) (drop 14848 T) ≡ under ++ more)
+    (long : length under ≡ 3 * c) (low : 3 * c + length more ≡ 3 * d) where
   pub stack-under : take (3 * c) (drop 14848 T) ≡ under
   stack-under = sym (take-take (3 * c) (3 * d) (drop 14848 T) (omega arith)) ∙ ap (take (3 * c)) stacked ∙ take-at under more (3 * c) long
 
@@ -95,7 +103,7 @@ module _ (T : List ℕ) (d : ℕ) (under more : List ℕ) (c : ℕ) (stacked : t
 pub three-at : (T : List ℕ) (m : ℕ) → m + 3 ≤ length T → take 3 (drop m T) ≡ nums (entryAt T m)
 three-at T m h = rw (drop-cons T m 0 (omega arith), drop-cons T (suc m) 0 (omega arith), drop-cons T (suc (suc m)) 0 (omega arith), add-one, add-two)
 
--- entries copied from the stack, one behind the other
+-- entries copied from the stack, one after the other
 pub record Copying (T₀ : List ℕ) (i j : ℕ) (T : List ℕ) (p q : ℕ) : Type 0 where
   pub count : ℕ
   pub read : q ≡ j + count
@@ -110,16 +118,22 @@ module _ {T₀ : List ℕ} {i j : ℕ} {T : List ℕ} {p q : ℕ} (w : Copying T
   copy-next {T'} h k e =
       let c = w .count in
       let xs = take (3 * w .count) (drop (14848 + 3 * j) T₀) in
-      let kept : entryAt T (14848 + 3 * q) ≡ entryAt T₀ (14848 + 3 * q) = entry-kept T₀ i (take (3 * w .count) (drop (14848 + 3 * j) T₀)) (14848 + 3 * q) (w .table) (omega (arith, copied-length, w .wrote)) in
-      let more : nums (entryAt T₀ (14848 + 3 * q)) ≡ take 3 (drop (3 * w .count) (drop (14848 + 3 * j) T₀)) = sym (ap (take 3) (drop-drop (3 * w .count) (14848 + 3 * j) T₀ ∙ ap (λ (m : ℕ). drop m T₀) (let z : 14848 + 3 * j + 3 * w .count ≡ 14848 + 3 * q = omega (arith, w .read) in z)) ∙ three-at T₀ (14848 + 3 * q) (omega arith)) in
+      let kept : entryAt T (14848 + 3 * q) ≡ entryAt T₀ (14848 + 3 * q) = entry-kept T₀ i (take (3 * w .count) (drop (14848 + 3 * j) T₀))
+      (14848 + 3 * q) (w .table) (omega (arith, copied-length, w .wrote)) in
+      let more : nums (entryAt T₀ (14848 + 3 * q)) ≡ take 3 (drop (3 * w .count) (drop (14848 + 3 * j) T₀)) = sym
+      (ap (take 3) (drop-drop (3 * w .count) (14848 + 3 * j) T₀
+      ∙ ap (λ (m : ℕ). drop m T₀) (let z : 14848 + 3 * j + 3 * w .count ≡ 14848 + 3 * q = omega (arith, w .read) in
+      z)) ∙ three-at T₀ (14848 + 3 * q) (omega arith)) in
       record {
         count = w .count + 1;
         read = omega (arith, w .read);
         wrote = omega (arith, w .wrote);
         table =
-            laid-then T₀ i p (take (3 * w .count) (drop (14848 + 3 * j) T₀)) (nums (entryAt T₀ (14848 + 3 * q))) (w .table) (omega (arith, copied-length, w .wrote)) (e ∙ ap (λ (x : Entry). laid T p (nums x)) kept)
+            laid-then T₀ i p (take (3 * w .count) (drop (14848 + 3 * j) T₀)) (nums (entryAt T₀ (14848 + 3 * q))) (w .table)
+            (omega (arith, copied-length, w .wrote)) (e ∙ ap (λ (x : Entry). laid T p (nums x)) kept)
             ∙ ap (λ (l : List ℕ). laid T₀ i (take (3 * w .count) (drop (14848 + 3 * j) T₀) ++ l)) more
-            ∙ ap (laid T₀ i) (sym (take-add (3 * w .count) 3 (drop (14848 + 3 * j) T₀)) ∙ ap (λ (m : ℕ). take m (drop (14848 + 3 * j) T₀)) (let z : 3 * w .count + 3 ≡ 3 * (w .count + 1) = omega arith in z));
+            ∙ ap (laid T₀ i) (sym (take-add (3 * w .count) 3 (drop (14848 + 3 * j) T₀))
+            ∙ ap (λ (m : ℕ). take m (drop (14848 + 3 * j) T₀)) (let z : 3 * w .count + 3 ≡ 3 * (w .count + 1) = omega arith in z));
       }
 
   pub copy-done : {T' : List ℕ} (depth r : ℕ) → q ≡ depth → T' ≡ laid T p (nums (entry 6 0 0)) → r ≡ p + 1 → Copied T₀ i j depth r T'

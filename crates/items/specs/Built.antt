@@ -1,4 +1,4 @@
--- The items of a rule stand side by side, and rules one behind the other.
+-- The items of a rule stand side by side, and rules one after the other.
 use mathlib.Core.Bool.{false}
 use mathlib.Core.List.{List}
 use mathlib.Core.Path.{_≡_}

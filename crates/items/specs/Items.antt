@@ -1,4 +1,4 @@
--- The plain rules as items in a table: an item for each place of a dot, alternatives one behind the other, so that the dot moves
+-- The plain rules as items in a table: an item for each place of a dot, alternatives one after the other, so that the dot moves
 -- from an item to the next. Item p is three numbers from 12288 + 3 * p on: its kind, its target and the place of its token.
 --   1     a terminal, by its token
 --   2 3 4 a nonterminal that is written as an element, as an attribute, or not; its target is the first item of its rule. A rule
@@ -44,7 +44,8 @@ Among x s (y ∷ S) = ((y .0 ≡ x) × (y .1 ≡ s)) ⊎ Among x s S
 -- the item stands for the symbol; a terminal is one of those that are written in g
 pub data Stands (T : List ℕ) (g : Grammar) (S : Starts) : ℕ → Symbol → Type 0 where
   st-terminal : {p : ℕ} {x : Terminal} → kindAt T p ≡ 1 → Reads T (tokenAt T p) (terminalTokens x) → In x (terminals g) → Stands T g S p (terminal x)
-  st-name : {p : ℕ} {m : Mark} {n : Text} → kindAt T p ≡ markKind (over m (ruleMark (rules g) n)) → Reads T (tokenAt T p) (name m n ∷ []) → Among (targetAt T p) (nonterminal unmarked n) S → Stands T g S p (nonterminal m n)
+  st-name : {p : ℕ} {m : Mark} {n : Text} → kindAt T p ≡ markKind (over m (ruleMark (rules g) n)) → Reads T (tokenAt T p) (name m n ∷ [])
+      → Among (targetAt T p) (nonterminal unmarked n) S → Stands T g S p (nonterminal m n)
   st-made : {p : ℕ} {s : Symbol} → kind s ≡ made → kindAt T p ≡ 4 → Among (targetAt T p) s S → Stands T g S p s
 
 -- from the item on, these symbols are left of an alternative
@@ -55,7 +56,8 @@ pub data Spells (T : List ℕ) (g : Grammar) (S : Starts) : ℕ → List Symbol 
 -- from the item on stand these alternatives, of which there is one at least
 pub data Alternatives (T : List ℕ) (g : Grammar) (S : Starts) : ℕ → List (List Symbol) → Type 0 where
   al-last : {x : ℕ} {ss : List Symbol} → Spells T g S x ss → kindAt T (x + length ss) ≡ 6 → Alternatives T g S x (ss ∷ [])
-  al-more : {x : ℕ} {ss : List Symbol} {ts : List (List Symbol)} → Spells T g S x ss → kindAt T (x + length ss) ≡ 5 → Alternatives T g S (x + (length ss + 1)) ts → Alternatives T g S x (ss ∷ ts)
+  al-more : {x : ℕ} {ss : List Symbol} {ts : List (List Symbol)} → Spells T g S x ss → kindAt T (x + length ss) ≡ 5
+      → Alternatives T g S (x + (length ss + 1)) ts → Alternatives T g S x (ss ∷ ts)
 
 pub record Spelt (T : List ℕ) (g : Grammar) (S : Starts) (p : ℕ) : Type 0 where
   pub after : List Symbol

@@ -1,4 +1,4 @@
--- A stack machine that makes the items in one pass over the tokens: an operator stands behind its operands.
+-- A stack machine that makes the items in one pass over the tokens: an operator stands after its operands.
 use mathlib.Core.Bool.{Bool, true, false}
 use mathlib.Core.List.{List, [], _∷_, _++_}
 use mathlib.Core.Path.{_≡_}
@@ -7,19 +7,19 @@ use lib.Dec.{ltb, eqb}
 use lib.ListN.{length, getD, take, drop}
 use lib.Seq.{sets}
 use Rattle.text.specs.Lists.{pick}
-use Rattle.items.specs.declared.Duty.{Duty}
-use Rattle.items.specs.declared.Duty.the-variants.{Skip, Push, Open, Operator, Close, Finish}
+use Rattle.items.specs.declared.Action.{Action}
+use Rattle.items.specs.declared.Action.the-variants.{Skip, Push, Open, Operator, Close, Finish}
 use Rattle.items.specs.declared.State.{State}
 
 -- what a token asks for, by its first number
-unfoldable pub lateDutyOf : ℕ → Duty
-lateDutyOf k = pick (eqb k 33) (Push 5) (pick (ltb k 39) (Operator k) (pick (eqb k 39) Finish Skip))
+unfoldable pub lateActionOf : ℕ → Action
+lateActionOf k = pick (eqb k 33) (Push 5) (pick (ltb k 39) (Operator k) (pick (eqb k 39) Finish Skip))
 
-unfoldable pub dutyOf : ℕ → Duty
-dutyOf k =
+unfoldable pub actionOf : ℕ → Action
+actionOf k =
     pick (ltb k 4) (Push 2)
     (pick (ltb k 20) (Push 1)
-    (pick (ltb k 24) Open (pick (ltb k 29) Skip (pick (ltb k 31) (Push 1) (pick (eqb k 31) Open (pick (eqb k 32) Close (lateDutyOf k)))))))
+    (pick (ltb k 24) Open (pick (ltb k 29) Skip (pick (ltb k 31) (Push 1) (pick (eqb k 31) Open (pick (eqb k 32) Close (lateActionOf k)))))))
 
 -- an item that has no place yet
 pub record Entry : Type 0 where
@@ -123,7 +123,16 @@ pub record One (k : ℕ) (a b : Abs) : Type 0 where
   pub stacked : a .stack ≡ under ++ nums f
   pub deep : a .depth ≡ count + 1
   pub long : length under ≡ 3 * count
-  pub result : b ≡ record { tokens = a .tokens; list = a .list ++ oneBlock k f (a .items); items = a .items + oneCount k; rows = a .rows; rules = a .rules; stack = under ++ nums (entry 4 (a .items + oneFirst k) 0); depth = count + 1; base = a .base }
+  pub result : b ≡ record {
+    tokens = a .tokens;
+    list = a .list ++ oneBlock k f (a .items);
+    items = a .items + oneCount k;
+    rows = a .rows;
+    rules = a .rules;
+    stack = under ++ nums (entry 4 (a .items + oneFirst k) 0);
+    depth = count + 1;
+    base = a .base;
+  }
 
 pub record Two (k : ℕ) (a b : Abs) : Type 0 where
   pub under : List ℕ
@@ -133,7 +142,16 @@ pub record Two (k : ℕ) (a b : Abs) : Type 0 where
   pub stacked : a .stack ≡ under ++ (nums f ++ nums sep)
   pub deep : a .depth ≡ count + 2
   pub long : length under ≡ 3 * count
-  pub result : b ≡ record { tokens = a .tokens; list = a .list ++ twoBlock k f sep (a .items); items = a .items + twoCount k; rows = a .rows; rules = a .rules; stack = under ++ nums (entry 4 (a .items + twoFirst k) 0); depth = count + 1; base = a .base }
+  pub result : b ≡ record {
+    tokens = a .tokens;
+    list = a .list ++ twoBlock k f sep (a .items);
+    items = a .items + twoCount k;
+    rows = a .rows;
+    rules = a .rules;
+    stack = under ++ nums (entry 4 (a .items + twoFirst k) 0);
+    depth = count + 1;
+    base = a .base;
+  }
 
 -- what stands above a mark becomes a block of items
 pub record Block (a : Abs) : Type 0 where
@@ -152,14 +170,32 @@ blockList a w = a .list ++ (w .body ++ nums (entry 6 0 0))
 
 pub record Closed (a b : Abs) : Type 0 where
   pub block : Block a
-  pub result : b ≡ record { tokens = a .tokens; list = blockList a block; items = a .items + (block .count + 1); rows = a .rows; rules = a .rules; stack = block .under ++ nums (entry 4 (a .items) 0); depth = a .base + 1; base = block .old }
+  pub result : b ≡ record {
+    tokens = a .tokens;
+    list = blockList a block;
+    items = a .items + (block .count + 1);
+    rows = a .rows;
+    rules = a .rules;
+    stack = block .under ++ nums (entry 4 (a .items) 0);
+    depth = a .base + 1;
+    base = block .old;
+  }
 
 pub record Finished (a b : Abs) : Type 0 where
   pub block : Block a
-  pub result : b ≡ record { tokens = a .tokens; list = blockList a block; items = a .items + (block .count + 1); rows = a .rows ++ (block .place ∷ a .items ∷ []); rules = a .rules + 1; stack = block .under; depth = a .base; base = block .old }
+  pub result : b ≡ record {
+    tokens = a .tokens;
+    list = blockList a block;
+    items = a .items + (block .count + 1);
+    rows = a .rows ++ (block .place ∷ a .items ∷ []);
+    rules = a .rules + 1;
+    stack = block .under;
+    depth = a .base;
+    base = block .old;
+  }
 
--- the machine goes from a to b, by the duty of the token at a place
-abbrev pub Act : Duty → ℕ → Abs → Abs → Type 0
+-- the machine goes from a to b, by the action of the token at a place
+abbrev pub Act : Action → ℕ → Abs → Abs → Type 0
 Act Skip at a b = b ≡ a
 Act (Push k) at a b = b ≡ pushed a (entry k 0 at) (a .base)
 Act Open at a b = b ≡ pushed a (entry 0 (a .base) at) (a .depth)
@@ -189,7 +225,7 @@ pub record Rep (T : List ℕ) (s : State) (a : Abs) : Type 0 where
   pub depth : s .depth ≡ a .depth
   pub base : s .base ≡ a .base
 
-pub record Ready (d : Duty) (at : ℕ) (T : List ℕ) (s : State) : Type 0 where
+pub record Ready (d : Action) (at : ℕ) (T : List ℕ) (s : State) : Type 0 where
   pub from : Abs
   pub to : Abs
   pub rep : Rep T s from
@@ -197,7 +233,7 @@ pub record Ready (d : Duty) (at : ℕ) (T : List ℕ) (s : State) : Type 0 where
   pub fit : Fit to
   pub place : at < 12288
 
-abbrev pub Acts : Duty → ℕ → List ℕ → State → List ℕ → State → Type 0
+abbrev pub Acts : Action → ℕ → List ℕ → State → List ℕ → State → Type 0
 Acts d at T s T' s' = (a b : Abs) → Rep T s a → Act d at a b → Fit b → Rep T' s' b
 
 -- the kind of a name's item, by the first numbers of the name and of its rule's head

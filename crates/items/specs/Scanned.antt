@@ -9,7 +9,7 @@ use Rattle.tree.specs.Tree.{unmarked, Symbol, nonterminal, Rule, Grammar, rules
 use Rattle.tree.specs.Tokens.{Token, rule-head, encode}
 use Rattle.plain.specs.Static.{undefined}
 use Rattle.plain.specs.Plain.{alts, alternatives, weight, size}
-use Rattle.measure.specs.Walk.{Holds}
+use Rattle.tokens.specs.Lengths.{Holds}
 use Rattle.items.specs.declared.State.{State}
 use Rattle.items.specs.Items.{kindAt, Starts, Among, Alternatives, Spelt}
 use Rattle.items.specs.Machine.{Abs, Rep}
@@ -24,7 +24,8 @@ pub record At (K : List ℕ) (at : ℕ) (us : List Token) : Type 0 where
 -- the rules' places and first items, two numbers for each rule
 pub data Listed (K : List ℕ) : List ℕ → List Rule → List ℕ → Type 0 where
   l-none : Listed K [] [] []
-  l-rule : {at x : ℕ} {ys : List ℕ} {r : Rule} {rs : List Rule} {xs : List ℕ} → At K at (rule-head (r .mark) (r .name) ∷ []) → Listed K ys rs xs → Listed K (at ∷ x ∷ ys) (r ∷ rs) (x ∷ xs)
+  l-rule : {at x : ℕ} {ys : List ℕ} {r : Rule} {rs : List Rule} {xs : List ℕ} → At K at (rule-head (r .mark) (r .name) ∷ [])
+      → Listed K ys rs xs → Listed K (at ∷ x ∷ ys) (r ∷ rs) (x ∷ xs)
 
 -- the item is one of a rule of the grammar
 abbrev pub RuleCover : List Rule → List ℕ → ℕ → Type 0

@@ -6,47 +6,45 @@ use mathlib.Core.List.{List, [], _∷_, _++_}
 use Prim.Native.Nat.{ℕ, _+_, _*_, _≤_, _<_}
 use native.Mathlib.Omega.{arith}
 use lib.Dec.{ltb}
-use lib.ListN.{length, take, drop, length-take, take-append-drop}
+use lib.ListN.{length, take, drop, take-append-drop}
 use lib.Seq.{take-take}
 use borrow.Author.Tests.{ltb-false}
 use denote.Enum.Declared.{tagOf}
 use types.Run.{OneOf}
-use Rattle.text.specs.Limits.{grammarTable, readingNumbers, mostSize}
+use Rattle.text.specs.Limits.{grammarTable, readingNumbers}
 use Rattle.text.specs.Lists.{Text, pick}
 use Rattle.tree.specs.Tree.{Grammar, rules}
-use Rattle.tree.specs.Tokens.{encode, grammarTokens}
+use Rattle.tree.specs.Tokens.{grammarTokens}
 use Rattle.plain.specs.Static.{undefined, duplicate, beyond, banned, backwards, unclassed}
 use Rattle.plain.specs.Plain.{size}
-use Rattle.derive.specs.Derive.{Row, leftParse, Derivation}
+use Rattle.derive.specs.Derive.{leftParse}
 use Rattle.derive.specs.Chosen.{Second}
-use Rattle.derive.specs.Pick.{found, no-choice, chosenOf}
 use Rattle.derive.specs.Another.{ambiguousOf}
 use Rattle.derive.proofs.Choose.{lacks-none, chosen-found}
 use Rattle.derive.proofs.Ambiguous.{ambiguous-second}
-use Rattle.code.specs.Heights.{stretches}
-use Rattle.measure.specs.Proper.{ProperRules}
-use Rattle.items.specs.Items.{Items, Reads}
+use Rattle.chart.specs.Heights.{stretches}
+use Rattle.tokens.specs.Proper.{ProperRules}
+use Rattle.items.specs.Items.{Reads}
 use Rattle.items.specs.Built.{Built}
 use Rattle.items.specs.Scanned as items
 use Rattle.prepare.specs.Ready.{Ready}
 use Rattle.prepare.proofs.Sounds.{ready}
-use Rattle.choose.specs.Choose.{Choosable}
-use Rattle.statics.specs.Held.{staticOf}
+use Rattle.parser.specs.Choose.{Choosable}
+use Rattle.static_errors.specs.Held.{staticOf}
 use Rattle.load.proofs.Proper.{grammar-proper}
 use Rattle.load.proofs.Stages.{to-size}
 use Rattle.answer.specs.Answer.{Job, tableNeed}
-use Rattle.answer.specs.Compute.{Test, firstOf, recordTests}
+use Rattle.answer.specs.Compute.{Test, recordTests}
 use Rattle.answer.proofs.Stages.{stage-16, stage-29, stage-read}
 use Rattle.answer.proofs.Settled.{same-mark}
 use Rattle.reading.specs.declared.Walked.{Walked}
 use Rattle.reading.specs.declared.Walked.the-variants.{Reading as A-reading, TooLong, NoReading}
 use Rattle.reading.proofs.Walked.{the-type}
-use Rattle.reading.specs.Answer.{Answers, IsReading, IsLong}
+use Rattle.reading.specs.Answer.{Answers, IsReading}
 use Rattle.job.specs.declared.Start.{Start}
-use Rattle.job.specs.declared.Found.{Found}
-use Rattle.job.specs.declared.Read.the-variants.{Reading, Refused}
-use Rattle.job.specs.Stages.{Got, Started}
-use Rattle.job.specs.Found.{whyWalked, Readable, firstTest, IsRead, NotRead, Ends}
+use Rattle.job.specs.Stages.{Started}
+use Rattle.job.proofs.Texts.{got-part}
+use Rattle.job.specs.Found.{whyWalked, firstTest, IsRead, NotRead}
 
 -- no static rule is broken
 record Lawful (g : Grammar) : Type 0 where
@@ -59,7 +57,8 @@ lawful : (g : Grammar) → staticOf g ≡ 0 → Lawful g
 unfolding staticOf
 lawful g e = go (undefined g) (duplicate g) (beyond g) (banned g) (backwards g) (unclassed g) refl refl refl refl e
   where
-    go : (a b c d f h : Bool) → undefined g ≡ a → duplicate g ≡ b → beyond g ≡ c → unclassed g ≡ h → _≡_ {A = ℕ} (pick a 5 (pick b 6 (pick c 7 (pick d 8 (pick f 9 (pick h 10 0)))))) 0 → Lawful g
+    go : (a b c d f h : Bool) → undefined g ≡ a → duplicate g ≡ b → beyond g ≡ c → unclassed g ≡ h
+        → _≡_ {A = ℕ} (pick a 5 (pick b 6 (pick c 7 (pick d 8 (pick f 9 (pick h 10 0)))))) 0 → Lawful g
     go true b c d f h p q r s e = absurd (let z : _≡_ {A = ℕ} 5 0 = e in omega arith)
     go false true c d f h p q r s e = absurd (let z : _≡_ {A = ℕ} 6 0 = e in omega arith)
     go false false true d f h p q r s e = absurd (let z : _≡_ {A = ℕ} 7 0 = e in omega arith)
@@ -97,21 +96,18 @@ module _ (j : Job) (Tab new : List ℕ) (s : Start) (w : Started j Tab new s) wh
   pub prepared : length Tab ≡ grammarTable → items.Prepared Tab (s .passed .end)
   prepared l = record { tree = g; readable = readable; size = l; inside = w .grammar .inside }
 
-  pub chars-in : s .chars ≤ length new
-  chars-in = let a = ap length (w .input .stored) in omega (arith, length-take (s .chars) new, w .input .count)
-
-  pub chars-part : s .chars ≡ length (take (s .chars) new)
-  chars-part = w .input .count ∙ sym (ap length (w .input .stored))
-
   module _ (T′ : List ℕ) (root n : ℕ) (e : n ≡ s .passed .size) (b : (take (s .passed .end) T′ ≡ take (s .passed .end) Tab) × Built T′ g root) where
     pub prepares : Ready T′ g n root
     prepares = subst (λ (k : ℕ). Ready T′ g k root) (sym (e ∙ w .grammar .sized)) (ready (b .1) proper (laws .simple) (laws .within) (laws .classed))
 
     pub choosable : (main parse : ℕ) → j .mainTable ≡ main → length T′ ≡ grammarTable → readingNumbers ≤ parse → Choosable T′ n root (take (s .chars) new) main parse
     choosable main parse m l p =
-        let short : length (take (s .chars) new) ≤ 120 = omega (arith, chars-part, w .input .count, w .input .short) in
-        let enough : tableNeed (size g) (length r) ≤ j .mainTable = ltb-false (j .mainTable) (tableNeed (size g) (length r)) (or-false (ltb (j .mainTable) (tableNeed (size g) (length r))) (ltb (j .secondTable) grammarTable) (w .enough)) in
-        let k : n * stretches (length (take (s .chars) new)) ≡ tableNeed (size g) (length r) = ap (λ (x : ℕ). x * stretches (length (take (s .chars) new))) (e ∙ w .grammar .sized) ∙ ap (λ (x : Text). size g * stretches (length x)) (w .input .stored) in
+        let short : length (take (s .chars) new) ≤ 120 = omega (arith, got-part (w .input), w .input .count, w .input .short) in
+        let enough : tableNeed (size g) (length r) ≤ j .mainTable = ltb-false (j .mainTable) (tableNeed (size g) (length r))
+        (or-false (ltb (j .mainTable) (tableNeed (size g) (length r))) (ltb (j .secondTable) grammarTable) (w .enough)) in
+        let k : n * stretches (length (take (s .chars) new)) ≡ tableNeed (size g) (length r) = ap
+        (λ (x : ℕ). x * stretches (length (take (s .chars) new))) (e ∙ w .grammar .sized) ∙ ap (λ (x : Text). size g * stretches (length x))
+        (w .input .stored) in
         record { grammar = g; ready = prepares; long = l; small = omega (arith, w .grammar .sized, w .grammar .small); short = short; room = omega arith; numbers = p }
 
     tokens-there : Reads T′ 0 (grammarTokens g)
@@ -134,7 +130,8 @@ module _ (j : Job) (Tab new : List ℕ) (s : Start) (w : Started j Tab new s) wh
           go TooLong a h ts =
               let c = chosen-found g r (a .reading .chosen) in
               w .grammar .first (recordTests j ts)
-              ∙ stage-29 j ts r (w .input .decoded) (w .input .within) (w .input .short) g (w .grammar .is) (w .enough) (a .tree) c (subst (λ (p : List ℕ). readingNumbers < length p) (a .reading .parse) (a .long))
+              ∙ stage-29 j ts r (w .input .decoded) (w .input .within) (w .input .short) g (w .grammar .is) (w .enough) (a .tree) c
+              (subst (λ (p : List ℕ). readingNumbers < length p) (a .reading .parse) (a .long))
           go NoReading a h ts =
               w .grammar .first (recordTests j ts)
               ∙ stage-16 j ts r (w .input .decoded) (w .input .within) (w .input .short) g (w .grammar .is) (w .enough) (lacks-none g r a)
@@ -149,7 +146,8 @@ module _ (j : Job) (Tab new : List ℕ) (s : Start) (w : Started j Tab new s) wh
               let n : count ≡ length (leftParse (a .tree)) = sym (a .long) ∙ ap length p in
               let amb = ambiguous-second g r (a .reading) in
               record {
-                first = λ ts. w .grammar .first (recordTests j ts) ∙ stage-read j ts r (w .input .decoded) (w .input .within) (w .input .short) g (w .grammar .is) (w .enough) (a .tree) c (omega (arith, a .short));
+                first = λ ts. w .grammar .first (recordTests j ts) ∙ stage-read j ts r (w .input .decoded) (w .input .within) (w .input .short) g
+                    (w .grammar .is) (w .enough) (a .tree) c (omega (arith, a .short));
                 row = a .tree;
                 choice = c;
                 mark = same-mark mark (ambiguousOf g r (a .tree)) (Second g r (a .parse)) (a .ambiguous) amb;

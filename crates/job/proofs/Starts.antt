@@ -1,16 +1,16 @@
 -- The first stages together.
-use mathlib.Core.Bool.{Bool, true, false, _||_, or-true}
-use mathlib.Core.Path.{_≡_, refl, sym, ap, _∙_, subst}
+use mathlib.Core.Bool.{true, false, _||_}
+use mathlib.Core.Path.{_≡_, refl, ap, _∙_, subst}
 use mathlib.Core.List.{List, []}
 use Prim.Native.Nat.{ℕ, _≤_, _<_}
 use native.Mathlib.Omega.{arith}
-use lib.Dec.{ltb, leb}
+use lib.Dec.{ltb}
 use lib.ListN.{length}
 use borrow.Author.Tests.{lt-ltb, le-ltb}
 use Rattle.text.specs.Limits.{grammarTable}
 use Rattle.plain.specs.Plain.{size}
 use Rattle.answer.specs.Answer.{Job, tableNeed}
-use Rattle.answer.specs.Compute.{Test, firstOf, grammarTests, recordTests}
+use Rattle.answer.specs.Compute.{firstOf, grammarTests, recordTests}
 use Rattle.answer.proofs.Stages.{first-below, stage-15}
 use Rattle.load.specs.declared.Passed.{Passed}
 use Rattle.load.specs.declared.Judged.{Judged}
@@ -19,7 +19,7 @@ use Rattle.load.specs.Loaded.{Turned, Kept, Loads}
 use Rattle.job.specs.declared.Taken.{Taken}
 use Rattle.job.specs.declared.Taken.the-variants.{Chars, Refused}
 use Rattle.job.specs.declared.Begun.the-variants.{At, Refused as Ended}
-use Rattle.job.specs.Stages.{whyJudged, whyTaken, Got, Stopped, Takes, Started, Begins}
+use Rattle.job.specs.Stages.{whyJudged, whyTaken, Got, Takes, Begins}
 
 fifteen-not : _≡_ {A = ℕ} 15 0 → ⊥
 fifteen-not e = omega arith
@@ -55,7 +55,13 @@ module _ (j : Job) (T new : List ℕ) where
       few = omega (arith, got .count, got .short)
 
       refused : (ltb (j .mainTable) (tableNeed (size (kept .tree)) (length (got .chars))) || ltb (j .secondTable) grammarTable) ≡ true → Begins j T new (Ended 15)
-      refused w = record { some = fifteen-not; early = omega arith; is = λ ts. kept .first (recordTests j ts) ∙ stage-15 j ts (got .chars) (got .decoded) (got .within) (got .short) (kept .tree) (kept .is) w }
+      refused w =
+          record {
+            some = fifteen-not;
+            early = omega arith;
+            is = λ ts. kept .first (recordTests j ts) ∙ stage-15 j ts (got .chars) (got .decoded) (got .within) (got .short) (kept .tree)
+                (kept .is) w;
+          }
 
       need-is : (k : ℕ) → k ≡ tableNeed (p .size) n → k ≡ tableNeed (size (kept .tree)) (length (got .chars))
       need-is k f = f ∙ ap (λ (s : ℕ). tableNeed s n) (kept .sized) ∙ ap (tableNeed (size (kept .tree))) (got .count)

@@ -4,14 +4,12 @@ use mathlib.Core.Logic.{⊎-elim}
 use mathlib.Core.List.{List, [], _∷_, _++_}
 use Prim.Native.Nat.{ℕ, _≤_, _<_}
 use native.Mathlib.Omega.{arith}
-use lib.ListN.{length, take, drop}
+use lib.ListN.{length, take, drop, length-take}
 use lib.Seq.{take-all, take-at}
 use denote.Enum.Declared.{tagOf}
 use types.Run.{OneOf}
 use Rattle.text.specs.Lists.{Text}
 use Rattle.text.specs.Decode.{text, decode}
-use Rattle.answer.specs.Answer.{Job}
-use Rattle.answer.specs.Compute.{firstOf, recordTests}
 use Rattle.answer.proofs.Stages.{stage-12, stage-13, stage-14}
 use Rattle.decode.specs.declared.Decoding.{Decoding}
 use Rattle.decode.specs.declared.Decoding.the-variants.{Of, NotUtf8, Unknown}
@@ -20,7 +18,7 @@ use Rattle.decode.proofs.Decoding.{the-type}
 use Rattle.decode.specs.Whole.{Decodes, over}
 use Rattle.decode.proofs.Answers.{Known, Tells, tells-of, tells-not, tells-unknown, told}
 use Rattle.job.specs.declared.Taken.the-variants.{Chars, Refused}
-use Rattle.job.specs.Stages.{whyText, Got, Stopped, Takes}
+use Rattle.job.specs.Stages.{whyText, Got, Takes}
 
 -- an answer that is no text has a refusal
 some-refusal : (d : Decoding) → OneOf (1 ∷ 2 ∷ []) (tagOf the-type d) → whyText d ≡ 0 → ⊥
@@ -65,3 +63,10 @@ module _ (bs old new : List ℕ) (r : Decoding) (w : Decodes (decode bs) old r n
           count = c;
           stored = ap (take (k .0)) s ∙ ap (λ (l : Text). take (k .0) (l ++ drop (length (known .chars)) old)) t ∙ take-at (known .chars) (drop (length (known .chars)) old) (k .0) (sym c);
         }
+
+-- the characters lie in the buffer
+pub got-in : {bs new : List ℕ} {n : ℕ} → Got bs new n → n ≤ length new
+got-in {bs} {new} {n} w = let a = ap length (w .stored) in omega (arith, length-take n new, w .count)
+
+pub got-part : {bs new : List ℕ} {n : ℕ} → Got bs new n → n ≡ length (take n new)
+got-part w = w .count ∙ sym (ap length (w .stored))

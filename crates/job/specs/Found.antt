@@ -1,5 +1,4 @@
 -- What reading a record answers, once none of 1 to 15 applies.
-use mathlib.Core.Bool.{Bool}
 use mathlib.Core.Path.{_≡_}
 use mathlib.Core.Logic.{_⊎_}
 use mathlib.Core.List.{List}

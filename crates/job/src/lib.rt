@@ -1,16 +1,19 @@
 // The stages of a job, from its bytes to the chosen reading. The first stage that refuses ends it.
 ghost use mathlib.Core.Path.{_≡_};
-ghost use Prim.Native.Nat.{ℕ, _≤_};
+ghost use Prim.Native.Nat.{_≤_};
 ghost use lib.ListN.{length};
 ghost use Rattle.text.specs.Limits.{grammarTable, recordChars, mostSize};
 ghost use Rattle.answer.specs.Answer.{Job, tableNeed};
 ghost use Rattle.answer.specs.Answer.{job};
 ghost use Rattle.job.specs.Stages.{whyText, whyTaken, whyJudged, Takes, Started, Begins};
 ghost use Rattle.job.specs.Found.{whyWalked, Readable, Ends};
+ghost use Rattle.job.specs.Parses.{whyBegun, whyRead, whyRefused, Lent, Parses};
 use decode::Decoding;
 use load::Judged;
 use load::Passed;
 use reading::Walked;
+use text::limits;
+use text::refusals;
 
 // How many characters a record has.
 pub enum Taken {
@@ -22,9 +25,9 @@ fn why_text(decoded: Decoding) -> u32
     ensures { λ r. ⌜ r ≡ whyText decoded ⌝ }
 {
     match decoded {
-        Decoding::Of(_) => 0,
-        Decoding::NotUtf8 => 12,
-        Decoding::Unknown => 13,
+        Decoding::Of(_) => refusals::ANSWERED,
+        Decoding::NotUtf8 => refusals::RECORD_NOT_UTF8,
+        Decoding::Unknown => refusals::RECORD_CHARACTER,
     }
 }
 
@@ -38,16 +41,10 @@ fn take_record(record: &[u8], text: &mut [u32]) -> Taken
         return Taken::Refused(why_text(decoded));
     };
     let n = count.0;
-    if 120 < n {
-        return Taken::Refused(14);
+    if limits::RECORD_CHARACTERS < n {
+        return Taken::Refused(refusals::RECORD_TOO_LONG);
     }
     Taken::Chars(n)
-}
-
-fn wide(x: u32) -> usize
-    ensures { λ r. ⌜ r ≡ x ⌝ }
-{
-    x as usize
 }
 
 // The numbers that the main table needs.
@@ -73,7 +70,7 @@ pub fn why_judged(judged: Judged) -> u32
     ensures { λ r. ⌜ r ≡ whyJudged judged ⌝ }
 {
     match judged {
-        Judged::Grammar(_) => 0,
+        Judged::Grammar(_) => refusals::ANSWERED,
         Judged::Refused(number) => number,
     }
 }
@@ -82,13 +79,13 @@ fn why_taken(taken: Taken) -> u32
     ensures { λ r. ⌜ r ≡ whyTaken taken ⌝ }
 {
     match taken {
-        Taken::Chars(_) => 0,
+        Taken::Chars(_) => refusals::ANSWERED,
         Taken::Refused(number) => number,
     }
 }
 
 // 1 to 15. The lent tables are known by their lengths.
-pub fn begin(
+fn begin(
     grammar: &[u8],
     record: &[u8],
     main: usize,
@@ -107,11 +104,11 @@ pub fn begin(
     let Taken::Chars(chars) = taken else {
         return Begun::Refused(why_taken(taken));
     };
-    if main < need(wide(passed.size), chars) {
-        return Begun::Refused(15);
+    if main < need(text::wide(passed.size), chars) {
+        return Begun::Refused(refusals::TABLE_TOO_SHORT);
     }
-    if second < 16384 {
-        return Begun::Refused(15);
+    if second < limits::GRAMMAR_TABLE {
+        return Begun::Refused(refusals::TABLE_TOO_SHORT);
     }
     Begun::At(Start { passed, chars })
 }
@@ -132,14 +129,14 @@ fn why_walked(walked: Walked) -> u32
     ensures { λ r. ⌜ r ≡ whyWalked walked ⌝ }
 {
     match walked {
-        Walked::Reading(_, _) => 0,
-        Walked::TooLong => 29,
-        Walked::NoReading => 16,
+        Walked::Reading(_, _) => refusals::ANSWERED,
+        Walked::TooLong => refusals::READING_TOO_LONG,
+        Walked::NoReading => refusals::NO_READING,
     }
 }
 
 // 16 and 29. The left parse goes to `parse`.
-pub fn read_record(
+fn read_record(
     table: &mut [u32],
     start: Start,
     text: &[u32],
@@ -147,13 +144,14 @@ pub fn read_record(
     parse: &mut [u32],
 ) -> Read
     requires { ⌜ Readable (now table) (now text) (length (now main)) (length (now parse)) start ⌝ }
-    ensures { λ r. ⌜ ((j : Job) (w : Started j (now (table .entry)) (now (text .entry)) start) → Ends j (now (table .entry)) (now (text .entry)) start w (now (table .exit)) (now (parse .exit)) r) ⌝ }
+    ensures { λ r. ⌜ ((j : Job) (w : Started j (now (table .entry)) (now (text .entry)) start)
+        → Ends j (now (table .entry)) (now (text .entry)) start w (now (table .exit)) (now (parse .exit)) r) ⌝ }
 {
     let passed = start.passed;
-    let size = wide(passed.size);
+    let size = text::wide(passed.size);
     let root = items::build_items(table, passed.end);
     let n = start.chars;
-    let walked = choose::choose(table, size, root, &text[..n], main, parse);
+    let walked = parser::choose(table, size, root, &text[..n], main, parse);
     let Walked::Reading(count, ambiguous) = walked else {
         return Read::Refused(why_walked(walked));
     };
@@ -161,5 +159,94 @@ pub fn read_record(
         root,
         count,
         ambiguous,
+    })
+}
+
+fn why_begun(begun: Begun) -> u32
+    ensures { λ r. ⌜ r ≡ whyBegun begun ⌝ }
+{
+    match begun {
+        Begun::At(_) => refusals::ANSWERED,
+        Begun::Refused(number) => number,
+    }
+}
+
+fn why_read(read: Read) -> u32
+    ensures { λ r. ⌜ r ≡ whyRead read ⌝ }
+{
+    match read {
+        Read::Reading(_) => refusals::ANSWERED,
+        Read::Refused(number) => number,
+    }
+}
+
+// What a result is made from: where the root's rule begins, how many numbers the left parse has, how many characters the record,
+// and the two marks.
+pub struct LeftParse {
+    pub root: usize,
+    pub count: usize,
+    pub chars: usize,
+    pub ambiguous: bool,
+    pub mismatch: bool,
+}
+
+// The number of a refusal, and whether the grammar's version is another one, as far as that is known.
+pub struct Refusal {
+    pub number: u32,
+    pub mismatch: bool,
+}
+
+pub enum Parse {
+    Chosen(LeftParse),
+    Refused(Refusal),
+}
+
+pub fn why_refused(parsed: Parse) -> Refusal
+    ensures { λ r. ⌜ r ≡ whyRefused parsed ⌝ }
+{
+    match parsed {
+        Parse::Chosen(_) => Refusal {
+            number: 0,
+            mismatch: false,
+        },
+        Parse::Refused(refusal) => refusal,
+    }
+}
+
+// All stages: 1 to 16 and 29. The table takes the grammar's tokens and plain rules, `text` the record's characters, `parse` the
+// left parse of the chosen reading.
+pub fn parse_record(
+    grammar: &[u8],
+    record: &[u8],
+    main: &mut [u32],
+    second: usize,
+    table: &mut [u32],
+    text: &mut [u32],
+    parse: &mut [u32],
+) -> Parse
+    requires { ⌜ Lent (now table) (now text) (now parse) ⌝ }
+    ensures { λ r. ⌜ Parses (job (now (grammar .entry)) (now («record» .entry)) (length (now (main .entry))) second) (now (table .exit)) (now (text .exit)) (now (parse .exit)) r ⌝ }
+{
+    let begun = begin(grammar, record, main.len(), second, table, text);
+    let Begun::At(start) = begun else {
+        return Parse::Refused(Refusal {
+            number: why_begun(begun),
+            mismatch: false,
+        });
+    };
+    let mismatch = start.passed.mismatch;
+    let read = read_record(table, start, text, main, parse);
+    let Read::Reading(found) = read else {
+        return Parse::Refused(Refusal {
+            number: why_read(read),
+            mismatch,
+        });
+    };
+    Parse::Chosen(LeftParse {
+        root: found.root,
+        count: found.count,
+        chars: start.chars,
+        ambiguous: found.ambiguous,
+        mismatch,
     })
 }

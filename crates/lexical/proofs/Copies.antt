@@ -13,9 +13,10 @@ use Rattle.tree.specs.Tokens.{capped}
 use Rattle.syntax.specs.Syntax.{ch, plain, digit, digitValue, namefollower, quote}
 use Rattle.syntax.specs.Result.{Result, ok, fail, hd, tl, map, when, guard}
 use Rattle.syntax.specs.Lexical.{run, quoted, digits}
-use Rattle.lexical.specs.Answers.{Onward, Space, Copied, Hexed}
-use Rattle.lexical.proofs.Places.{at-char, at-end, hd-char, hd-end, tl-at, in-char}
-use Rattle.lexical.proofs.Table.{one-more}
+use Rattle.spacing.specs.Answers.{Onward}
+use Rattle.lexical.specs.Answers.{Space, Copied, Hexed}
+use Rattle.spacing.proofs.Places.{at-char, at-end, tl-at, in-char}
+use Rattle.spacing.proofs.Table.{one-more}
 
 abbrev pub prepend : Text → Result Text → Result Text
 prepend cs (ok ds u) = ok (cs ++ ds) u
@@ -177,3 +178,8 @@ module _ (s : Text) (p i v : ℕ) (w : Counting s p i v) where
       onward = record { on = omega arith; within = omega arith };
       held = f ∙ rw (w .held) (capped-next (w .value) (digitValue (getD s i 0)));
     }
+
+-- the same characters, by another definition
+pub recopy : (E F : Result Text → Type 0) → ((x : Result Text) → E x → F x)
+    → {s : Text} {p n : ℕ} {o : List ℕ} {at : ℕ} {m : List ℕ} {q b : ℕ} → Copied E s p n o at m q b → Copied F s p n o at m q b
+recopy E F f {s = s} {q = q} c = record { chars = c .chars; same = f (ok (c .chars) (drop q s)) (c .same); onward = c .onward; wrote = c .wrote; cells = c .cells; count = c .count }

@@ -1,11 +1,3 @@
-pub mod Tests
-pub mod Ascii
-pub mod Places
-pub mod Spacing
-pub mod Table
 pub mod Copies
-pub mod Parts
 pub mod Words
 pub mod Uses
-pub mod Sets
-pub mod Listing

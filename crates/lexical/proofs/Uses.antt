@@ -1,8 +1,8 @@
 -- A name in a rule's body, and the full stop that may end it.
 use mathlib.Core.Bool.{Bool, true, false, _&&_}
 use mathlib.Core.Path.{_≡_, refl, sym, ap, _∙_}
-use mathlib.Core.List.{List, [], _∷_, _++_, append-assoc, append-nil}
-use Prim.Native.Nat.{ℕ, zero, suc, _+_, _*_, _-_, _<_, _≤_}
+use mathlib.Core.List.{List, [], _∷_, _++_, append-assoc}
+use Prim.Native.Nat.{ℕ, zero, suc, _+_, _-_, _<_, _≤_}
 use native.Mathlib.Omega.{arith}
 use lib.ListN.{length, getD, drop, take, length-append, length-drop}
 use lib.Seq.{getD-drop, take-take, take-at, length-take-le}
@@ -10,11 +10,12 @@ use borrow.Author.Tests.{eq-eqb, ne-eqb, eqb-true}
 use Rattle.text.specs.Lists.{Text}
 use Rattle.syntax.specs.Syntax.{ch, namestart, namefollower}
 use Rattle.syntax.proofs.Classes.{namestart-end, clash, and-left}
-use Rattle.syntax.specs.Result.{Result, ok, fail, hd, tl, map, when, guard}
+use Rattle.syntax.specs.Result.{Result, ok, fail, hd, map, when, guard}
 use Rattle.syntax.specs.Spacing.{skip}
 use Rattle.syntax.specs.Lexical.{run, ended, ending, last-dot, but-last, less-dot, read-use}
-use Rattle.lexical.specs.Answers.{Onward, Skipped, Copied, Stops}
-use Rattle.lexical.proofs.Places.{at-char, hd-char, tl-at, in-text}
+use Rattle.spacing.specs.Answers.{Skipped}
+use Rattle.lexical.specs.Answers.{Copied, Stops}
+use Rattle.spacing.proofs.Places.{at-char, hd-char, tl-at, in-text}
 
 -- a run stands in the text
 run-splits : (t cs u : Text) → run t ≡ ok cs u → t ≡ cs ++ u
@@ -80,11 +81,11 @@ pub no-use : (s : Text) (p : ℕ) → namestart (hd (drop p s)) ≡ false → re
 unfolding read-use guard
 no-use s p e = rw e
 
--- a run that begins a name: its first character, and the run behind that
+-- a run that begins a name: its first character, and the run after that
 pub record First (s : Text) (p q : ℕ) (cs : Text) : Type 0 where
   pub others : Text
   pub whole : cs ≡ hd (drop p s) ∷ others
-  pub behind : run (drop (p + 1) s) ≡ ok others (drop q s)
+  pub following : run (drop (p + 1) s) ≡ ok others (drop q s)
 
 first-of : (c : ℕ) (t cs u : Text) → namestart c ≡ true → run (c ∷ t) ≡ ok cs u → (x : Result Text) → run t ≡ x → map (_∷_ c) x ≡ ok cs u
 unfolding run when namefollower
@@ -100,17 +101,17 @@ first s p q cs e f = go (run (drop (p + 1) s)) refl (first-of (getD s p 0) (drop
     go : (x : Result Text) → run (drop (p + 1) s) ≡ x → map (_∷_ (getD s p 0)) x ≡ ok cs (drop q s) → First s p q cs
     go (ok ds w) g h =
         let a : cs ≡ getD s p 0 ∷ ds = cc in let b : w ≡ drop q s = cc in
-        record { others = ds; whole = a ∙ ap (λ (k : ℕ). k ∷ ds) (sym (hd-char s p i)); behind = g ∙ ap (λ (z : Text). ok ds z) b }
+        record { others = ds; whole = a ∙ ap (λ (k : ℕ). k ∷ ds) (sym (hd-char s p i)); following = g ∙ ap (λ (z : Text). ok ds z) b }
     go fail g h = let z : _≡_ {A = ℕ} 0 1 = cc in absurd (omega arith)
 
 module _ (s : Text) (p q : ℕ) (cs : Text) (e : namestart (hd (drop p s)) ≡ true) (v : First s p q cs) where
   pub use-whole : last-dot (v .others) && ending (skip (drop q s)) ≡ false → read-use (drop p s) ≡ ok cs (drop q s)
   unfolding read-use guard less-dot map when
-  use-whole f = rw (e, tl-at s p, v .behind, f, v .whole)
+  use-whole f = rw (e, tl-at s p, v .following, f, v .whole)
 
   pub use-stopped : last-dot (v .others) && ending (skip (drop q s)) ≡ true → read-use (drop p s) ≡ ok (hd (drop p s) ∷ but-last (v .others)) (0x2e ∷ drop q s)
   unfolding read-use guard less-dot map when
-  use-stopped f = rw (e, tl-at s p, v .behind, f)
+  use-stopped f = rw (e, tl-at s p, v .following, f)
 
 run-length : (s : Text) (p q : ℕ) (cs : Text) → p ≤ length s → q ≤ length s → run (drop p s) ≡ ok cs (drop q s) → q ≡ p + length cs
 run-length s p q cs h l f = omega (arith, simp (length-append, length-drop) at (ap length (run-splits (drop p s) cs (drop q s) f)))
@@ -137,7 +138,8 @@ push-but-last c (d ∷ cs) e = refl
 both-left : (a b : Bool) → a && b ≡ true → a ≡ true
 both-left a b e = and-left a b e
 
-module _ (s : Text) (p : ℕ) (o : List ℕ) (at : ℕ) (m : List ℕ) (q b : ℕ) (e : namestart (hd (drop p s)) ≡ true) (v : Copied (λ x. run (drop p s) ≡ x) s p 0 o at m q b) (r : Bool) (w : Stops s p q r) where
+module _ (s : Text) (p : ℕ) (o : List ℕ) (at : ℕ) (m : List ℕ) (q b : ℕ) (e : namestart (hd (drop p s)) ≡ true)
+    (v : Copied (λ x. run (drop p s) ≡ x) s p 0 o at m q b) (r : Bool) (w : Stops s p q r) where
   begun : First s p q (v .chars)
   begun = first s p q (v .chars) e (v .same)
 
@@ -147,7 +149,7 @@ module _ (s : Text) (p : ℕ) (o : List ℕ) (at : ℕ) (m : List ℕ) (q b : �
   pub use-run : r ≡ false → Copied (λ x. read-use (drop p s) ≡ x) s p 0 o at m q b
   use-run f = record {
     chars = v .chars;
-    same = use-whole s p q (v .chars) e begun (sym (w (begun .others) (begun .behind) ends-at) ∙ f);
+    same = use-whole s p q (v .chars) e begun (sym (w (begun .others) (begun .following) ends-at) ∙ f);
     onward = v .onward;
     wrote = v .wrote;
     cells = v .cells;
@@ -156,7 +158,7 @@ module _ (s : Text) (p : ℕ) (o : List ℕ) (at : ℕ) (m : List ℕ) (q b : �
 
   module _ (f : r ≡ true) where
     stopped : last-dot (begun .others) && ending (skip (drop q s)) ≡ true
-    stopped = sym (w (begun .others) (begun .behind) ends-at) ∙ f
+    stopped = sym (w (begun .others) (begun .following) ends-at) ∙ f
 
     others-some : length (begun .others) ≡ 0 → ⊥
     others-some = dotted (begun .others) (both-left _ _ stopped)
@@ -168,7 +170,7 @@ module _ (s : Text) (p : ℕ) (o : List ℕ) (at : ℕ) (m : List ℕ) (q b : �
     unfolding ch
     stop-here =
         let k = v .onward in let h = ends-at in let n : q ≡ p + 1 → ⊥ = λ z. others-some (omega arith) in
-        let d : getD s (q - 1) 0 ≡ 0x2e = eqb-true _ _ (sym (last-here s p q (omega (arith, n)) (k .within) (begun .others) (begun .behind) ends-at n) ∙ both-left _ _ stopped) in
+        let d : getD s (q - 1) 0 ≡ 0x2e = eqb-true _ _ (sym (last-here s p q (omega (arith, n)) (k .within) (begun .others) (begun .following) ends-at n) ∙ both-left _ _ stopped) in
         let i : q - 1 + 1 ≡ q = omega (arith, n) in
         at-char s (q - 1) (omega (arith, n)) ∙ rw (d, i)
 
@@ -182,9 +184,13 @@ module _ (s : Text) (p : ℕ) (o : List ℕ) (at : ℕ) (m : List ℕ) (q b : �
         let l : length (v .chars) ≡ length (but-last (v .chars)) + 1 = omega (arith, simp length-append at (ap length z)) in
         record {
           chars = but-last (v .chars);
-          same = use-stopped s p q (v .chars) e begun stopped ∙ ap (λ (x : Text). ok x (0x2e ∷ drop q s)) (sym (ap but-last (begun .whole) ∙ push-but-last _ (begun .others) others-some)) ∙ ap (λ (x : Text). ok (but-last (v .chars)) x) (sym stop-here);
+          same = use-stopped s p q (v .chars) e begun stopped ∙ ap (λ (x : Text). ok x (0x2e ∷ drop q s))
+              (sym (ap but-last (begun .whole) ∙ push-but-last _ (begun .others) others-some)) ∙ ap (λ (x : Text). ok (but-last (v .chars)) x)
+              (sym stop-here);
           onward = record { on = omega arith; within = omega arith };
-          wrote = sym (take-take (b - 1) b m (omega arith)) ∙ ap (take (b - 1)) (v .wrote ∙ ap (λ (x : List ℕ). take at o ++ x) z ∙ sym (append-assoc (take at o) (but-last (v .chars)) _)) ∙ take-at (take at o ++ but-last (v .chars)) _ (b - 1) (simp (length-append, length-take-le at o (omega arith)) (omega arith));
+          wrote = sym (take-take (b - 1) b m (omega arith)) ∙ ap (take (b - 1))
+              (v .wrote ∙ ap (λ (x : List ℕ). take at o ++ x) z ∙ sym (append-assoc (take at o) (but-last (v .chars)) _)) ∙ take-at
+              (take at o ++ but-last (v .chars)) _ (b - 1) (simp (length-append, length-take-le at o (omega arith)) (omega arith));
           cells = omega arith;
           count = omega arith;
         }

@@ -1,27 +1,28 @@
 -- Strings, hex numbers, names and marks: each answer from the answers of what it calls.
-use mathlib.Core.Bool.{Bool, true, false, _||_}
-use mathlib.Core.Path.{_≡_, refl, sym, ap, _∙_}
-use mathlib.Core.List.{List, [], _∷_, _++_, append-assoc, append-nil}
-use Prim.Native.Nat.{ℕ, _+_, _*_, _-_, _<_, _≤_}
+use mathlib.Core.Bool.{true, false}
+use mathlib.Core.Path.{_≡_, refl, ap, _∙_}
+use mathlib.Core.List.{List, [], _∷_, _++_}
+use Prim.Native.Nat.{ℕ, _+_, _-_, _<_, _≤_}
 use native.Mathlib.Omega.{arith}
 use lib.ListN.{length, drop, take, set}
 use Rattle.text.specs.Lists.{Text}
-use Rattle.tree.specs.Tree.{Chars, string, hex, unmarked}
-use Rattle.tree.specs.Tokens.{capped, markNumber}
+use Rattle.tree.specs.Tree.{string, hex, unmarked}
+use Rattle.tree.specs.Tokens.{markNumber}
 use Rattle.syntax.specs.Syntax.{ch, quote, digit, isMark, markOf, namestart, namefollower}
 use Rattle.syntax.specs.Result.{Result, ok, fail, hd, tl, map, when, guard, expect}
 use Rattle.syntax.specs.Spacing.{skip, spaced}
 use Rattle.syntax.specs.Lexical.{quoted, nonempty, read-string, digits, read-hex, read-chars, run, read-name, read-mark}
 use Rattle.syntax.proofs.Classes.{clash, quote-end, mark-end, namestart-end}
-use Rattle.lexical.specs.declared.Step.{Step}
-use Rattle.lexical.specs.declared.Step.the-variants.{At, No}
+use Rattle.spacing.specs.declared.Step.{Step}
+use Rattle.spacing.specs.declared.Step.the-variants.{At, No}
 use Rattle.lexical.specs.declared.Number.{Number}
 use Rattle.lexical.specs.declared.Number.the-variants.{Value, No as Number-no}
 use Rattle.lexical.specs.declared.Characters.{Characters}
 use Rattle.lexical.specs.declared.Characters.the-variants.{Quoted, Coded, No as Characters-no}
-use Rattle.lexical.specs.Answers.{Onward, Skipped, Room, Space, Read, After, Copied, Hexed, After-number, Coding, After-chars, charsCode, headed, Headable, Tokenable, Chars-token, countedCode, After-chars-token, Mark-read}
-use Rattle.lexical.proofs.Places.{tl-at, in-text, tested}
-use Rattle.lexical.proofs.Table.{two-numbers, head-before}
+use Rattle.spacing.specs.Answers.{Skipped, Room, Read, headed}
+use Rattle.lexical.specs.Answers.{Space, Copied, Hexed, After-number, Coding, After-chars, charsCode, Headable, Tokenable, Chars-token, countedCode, After-chars-token, Mark-read}
+use Rattle.spacing.proofs.Places.{tl-at, in-text, tested}
+use Rattle.spacing.proofs.Table.{two-numbers, head-before}
 
 -- a hex number
 module _ (s : Text) (p : ℕ) (h : ch 0x23 (hd (drop p s)) ≡ true) where
@@ -29,7 +30,8 @@ module _ (s : Text) (p : ℕ) (h : ch 0x23 (hd (drop p s)) ≡ true) where
   unfolding read-hex expect guard
   hex-none e = rw (h, tl-at s p, e)
 
-  pub hex-some : (e : digit (hd (drop (p + 1) s)) ≡ true) (r : Number) → After-number (λ x. digits 0 (drop (p + 1) s) ≡ x) s (p + 1) r → After-number (λ x. read-hex (drop p s) ≡ x) s (p + 1) r
+  pub hex-some : (e : digit (hd (drop (p + 1) s)) ≡ true) (r : Number) → After-number (λ x. digits 0 (drop (p + 1) s) ≡ x) s (p + 1) r
+      → After-number (λ x. read-hex (drop p s) ≡ x) s (p + 1) r
   unfolding read-hex expect guard
   hex-some e (Value q v) a = record { value = a .value; same = rw (h, tl-at s p, e) (a .same); onward = a .onward; held = a .held }
   hex-some e Number-no a = rw (h, tl-at s p, e) a
@@ -98,7 +100,7 @@ chars-no-string s p e f = chars-string s p e fail f
 pub coding : (s : Text) (p q v : ℕ) (o : List ℕ) → ch 0x23 (hd (drop p s)) ≡ true → Hexed (λ x. read-hex (drop p s) ≡ x) s (p + 1) q v → Coding s p q v o o
 coding s p q v o e h = record { number = record { value = h .value; same = chars-hex s p e (ok (h .value) (drop q s)) (h .same); onward = h .onward; held = h .held }; same = refl }
 
--- room for what is written behind a token's head
+-- room for what is written after a token's head
 pub chars-space : (s : Text) (p : ℕ) (o : List ℕ) (at : ℕ) → Room s p o at → Space s p 1 o (at + 2)
 chars-space s p o at r = let c = r .cells in record { place = r .place; cells = λ h. omega arith }
 
@@ -106,8 +108,9 @@ module _ (s : Text) (p : ℕ) (o : List ℕ) (at : ℕ) (r : Room s p o at) (m :
   pub headable : (E : Result Text → Type 0) (n q b : ℕ) → Copied E s p n o (at + 2) m q b → p < q → Headable m at b
   headable E n q b v h = let c = v .cells in let k = v .onward in let d = v .count in let i = r .cells in let f = r .few in record { low = omega arith; high = omega arith; few = omega arith }
 
-  -- the token of characters that are written behind its head
-  pub counted-token : (E : Result Text → Type 0) (n q b k : ℕ) (o' : List ℕ) → Copied E s p n o (at + 2) m q b → p < q → o' ≡ headed m at k b → Read E (countedCode k) s p (p + 1) o at o' q b
+  -- the token of characters that are written after its head
+  pub counted-token : (E : Result Text → Type 0) (n q b k : ℕ) (o' : List ℕ) → Copied E s p n o (at + 2) m q b → p < q
+      → o' ≡ headed m at k b → Read E (countedCode k) s p (p + 1) o at o' q b
   counted-token E n q b k o' v h e =
       let c = v .cells in let j = v .onward in let d = v .count in let i = r .cells in
       let z : b - (at + 2) ≡ length (v .chars) = omega arith in record {
@@ -129,12 +132,14 @@ module _ (s : Text) (p : ℕ) (o : List ℕ) (at : ℕ) (r : Room s p o at) (m :
   tokenable (Coded q v) a = coded-room (q .0) v a
   tokenable Characters-no a = tt
 
-  quoted-token : (q b k l : ℕ) (o' : List ℕ) → Copied (λ x. read-chars (drop p s) ≡ map string x) s p 2 o (at + 2) m q b → o' ≡ headed m at k b → Read (λ x. read-chars (drop p s) ≡ x) (charsCode k l) s p (p + 1) o at o' q b
+  quoted-token : (q b k l : ℕ) (o' : List ℕ) → Copied (λ x. read-chars (drop p s) ≡ map string x) s p 2 o (at + 2) m q b → o' ≡ headed m at k b
+      → Read (λ x. read-chars (drop p s) ≡ x) (charsCode k l) s p (p + 1) o at o' q b
   unfolding map
   quoted-token q b k l o' a e = let t = counted-token (λ x. read-chars (drop p s) ≡ map string x) 2 q b k o' a (quoted-on (λ x. read-chars (drop p s) ≡ map string x) q b a) e in
       record { value = string (t .value); same = t .same; onward = t .onward; wrote = t .wrote; cells = t .cells }
 
-  coded-token : (q v k l : ℕ) (o' : List ℕ) → Coding s p q v o m → o' ≡ set (set m at l) (at + 1) v → Read (λ x. read-chars (drop p s) ≡ x) (charsCode k l) s p (p + 1) o at o' q (at + 2)
+  coded-token : (q v k l : ℕ) (o' : List ℕ) → Coding s p q v o m → o' ≡ set (set m at l) (at + 1) v
+      → Read (λ x. read-chars (drop p s) ≡ x) (charsCode k l) s p (p + 1) o at o' q (at + 2)
   unfolding map
   coded-token q v k l o' a e = let j = a .number .onward in let h = coded-room q v a in record {
     value = hex (a .number .value);

@@ -10,7 +10,7 @@ use Rattle.text.specs.Lists.{Text}
 use Rattle.tree.specs.Tree.{Grammar}
 use Rattle.syntax.specs.Parser.{Parsed, parsed, no-parse, parse}
 use Rattle.syntax.proofs.Sound.{sound}
-use Rattle.lexical.specs.declared.Cell.{Cell}
+use Rattle.spacing.specs.declared.Cell.{Cell}
 use Rattle.reader.specs.declared.Reading.{Reading}
 use Rattle.reader.specs.declared.Reading.the-variants.{Grammar as A-grammar, NoGrammar}
 use Rattle.reader.specs.Answers.{Readable, Held, Read-as}
@@ -44,7 +44,13 @@ judged s T x b e h l (Accepted p) j =
     let q = j (w .tree) (stands s T (b .0) w) in
     let k = w .cells in
     let t = q .tokens in
-    reads-grammar {p = p} (record { tree = w .tree; parse = w .same; stands = subst (λ (n : ℕ). Stands T n (w .tree)) (sym t) (stands s T (b .0) w); inside = omega arith; passes = subst (λ (n : ℕ). Passes (w .tree) n p) (sym t) q })
+    reads-grammar {p = p} (record {
+      tree = w .tree;
+      parse = w .same;
+      stands = subst (λ (n : ℕ). Stands T n (w .tree)) (sym t) (stands s T (b .0) w);
+      inside = omega arith;
+      passes = subst (λ (n : ℕ). Passes (w .tree) n p) (sym t) q;
+    })
 judged s T x b e h l (Refused n) j =
     let w = held s T x b e h in
     reads-refused (record { tree = w .tree; parse = w .same; refuses = j (w .tree) (stands s T (b .0) w) })

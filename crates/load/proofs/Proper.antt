@@ -5,10 +5,12 @@ use Prim.Native.Nat.{ℕ}
 use lib.ListN.{length}
 use Rattle.text.specs.Lists.{Text}
 use Rattle.tree.specs.Tree.{Chars, Member, Terminal, Symbol, Alternative, Body, Rule, Grammar, rules}
-use Rattle.syntax.specs.Syntax.{Character, one-char, one-hex, MemberOf, m-chars, m-range, m-class, Members, m-last, m-next, SetOf, set-none, set-some, TerminalOf, t-literal, t-inclusion, t-exclusion, t-insertion}
-use Rattle.syntax.specs.Syntax.{Alts, alts-one, alts-also, Alt, alt-none, alt-some, Terms, terms-one, terms-more, Term, t-factor, t-option, t-repeat0, t-repeat0sep, t-repeat1, t-repeat1sep, Factor, f-terminal, f-nonterminal, f-group}
+use Rattle.syntax.specs.Syntax.{Character, one-char, one-hex, MemberOf, m-chars, m-range, m-class, Members, m-last, m-next, SetOf}
+use Rattle.syntax.specs.Syntax.{set-none, set-some, TerminalOf, t-literal, t-inclusion, t-exclusion, t-insertion}
+use Rattle.syntax.specs.Syntax.{Alts, alts-one, alts-also, Alt, alt-none, alt-some, Terms, terms-one, terms-more, Term, t-factor, t-option}
+use Rattle.syntax.specs.Syntax.{t-repeat0, t-repeat0sep, t-repeat1, t-repeat1sep, Factor, f-terminal, f-nonterminal, f-group}
 use Rattle.syntax.specs.Syntax.{RuleOf, a-rule, Rules, rules-none, rules-next, Ixml, ixml}
-use Rattle.measure.specs.Proper.{ProperEnd, ProperMember, ProperMembers, ProperTerminal, Proper, ProperAlternative, ProperBody, ProperRules}
+use Rattle.tokens.specs.Proper.{ProperEnd, ProperMember, ProperMembers, ProperTerminal, Proper, ProperAlternative, ProperBody, ProperRules}
 
 end-proper : {t u : Text} {k : Chars} → Character t u k → ProperEnd k
 end-proper (one-char s) = refl

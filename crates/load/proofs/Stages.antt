@@ -13,12 +13,13 @@ use Rattle.tree.specs.Tree.{Grammar}
 use Rattle.plain.specs.Static.{undefined, duplicate, beyond, banned, backwards, unclassed, mismatched}
 use Rattle.plain.specs.Plain.{size}
 use Rattle.answer.specs.Compute.{Test, test, firstOf}
-use Rattle.statics.specs.declared.Ruling.{Ruling}
-use Rattle.statics.specs.declared.Ruling.the-variants.{Kept, Broken}
-use Rattle.statics.specs.Held.{staticOf, rulingOf}
-use Rattle.statics.proofs.Rulings.{none-of, some-of}
-use Rattle.statics.specs.Held as static
-use Rattle.measure.specs.Walk as sizes
+use Rattle.static_errors.specs.declared.Ruling.{Ruling}
+use Rattle.static_errors.specs.declared.Ruling.the-variants.{Kept, Broken}
+use Rattle.static_errors.specs.Held.{staticOf, rulingOf}
+use Rattle.static_errors.proofs.Rulings.{none-of, some-of}
+use Rattle.static_errors.specs.Held as static
+use Rattle.tokens.specs.Lengths as tokens
+use Rattle.measure.specs.Costs as sizes
 use Rattle.load.specs.declared.Passed.{Passed}
 use Rattle.load.specs.Judged.{Stands, Standing, judgeTests, Refuses, Passes, whyBroken}
 use Rattle.load.proofs.Proper.{grammar-proper}
@@ -92,7 +93,7 @@ passes g end s m z e l v =
 pub to-static : (T : List ℕ) (end : ℕ) (g : Grammar) → end ≤ length T → Stands T end g → static.Holds T end g
 to-static T end g w s = record { within = w; held = s .held; proper = written-proper (s .derived) }
 
-pub to-size : (T : List ℕ) (end : ℕ) (g : Grammar) → Stands T end g → sizes.Holds T end g
+pub to-size : (T : List ℕ) (end : ℕ) (g : Grammar) → Stands T end g → tokens.Holds T end g
 to-size T end g s = record { proper = grammar-proper (s .derived); stands = s .held }
 
 pub static-asks : (T : List ℕ) (end : ℕ) → Standing T end → static.Held T end

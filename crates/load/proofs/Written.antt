@@ -9,10 +9,13 @@ use Rattle.text.specs.Lists.{Text, all, concatMap}
 use Rattle.text.proofs.Tests.{and-left, and-right, both-and, clash}
 use Rattle.tree.specs.Tree.{Chars, Member, Terminal, Symbol, Alternative, Body, Rule, Grammar, rules}
 use Rattle.plain.specs.Written.{within, withinAlternative, withinBody, written, membersIn}
-use Rattle.syntax.specs.Syntax.{letter, capital, Chr, chr, Class, c-one, c-two, Character, one-char, one-hex, MemberOf, m-chars, m-range, m-class, Members, m-last, m-next, SetOf, set-none, set-some, TerminalOf, t-literal, t-inclusion, t-exclusion, t-insertion}
-use Rattle.syntax.specs.Syntax.{Alts, alts-one, alts-also, Alt, alt-none, alt-some, Terms, terms-one, terms-more, Term, t-factor, t-option, t-repeat0, t-repeat0sep, t-repeat1, t-repeat1sep, Factor, f-terminal, f-nonterminal, f-group}
+use Rattle.syntax.specs.Syntax.{letter, capital, Chr, chr, Class, c-one, c-two, Character, one-char, one-hex, MemberOf, m-chars, m-range}
+use Rattle.syntax.specs.Syntax.{m-class, Members, m-last, m-next, SetOf, set-none, set-some, TerminalOf, t-literal, t-inclusion}
+use Rattle.syntax.specs.Syntax.{t-exclusion, t-insertion}
+use Rattle.syntax.specs.Syntax.{Alts, alts-one, alts-also, Alt, alt-none, alt-some, Terms, terms-one, terms-more, Term, t-factor, t-option}
+use Rattle.syntax.specs.Syntax.{t-repeat0, t-repeat0sep, t-repeat1, t-repeat1sep, Factor, f-terminal, f-nonterminal, f-group}
 use Rattle.syntax.specs.Syntax.{RuleOf, a-rule, Rules, rules-none, rules-next, Ixml, ixml}
-use Rattle.statics.specs.Held.{single, lettered, properMember, properSymbol, proper}
+use Rattle.static_errors.specs.Held.{single, lettered, properMember, properSymbol, proper}
 
 all-append : {A : Type 0} (p : A → Bool) (xs ys : List A) → T (all p xs) → T (all p ys) → T (all p (xs ++ ys))
 all-append p [] ys h k = k

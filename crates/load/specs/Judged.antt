@@ -13,9 +13,9 @@ use Rattle.syntax.specs.Syntax.{Ixml}
 use Rattle.plain.specs.Static.{undefined, duplicate, beyond, banned, backwards, unclassed, mismatched}
 use Rattle.plain.specs.Plain.{size}
 use Rattle.answer.specs.Compute.{Test, test, firstOf}
-use Rattle.statics.specs.declared.Ruling.{Ruling}
-use Rattle.statics.specs.declared.Ruling.the-variants.{Kept, Broken}
-use Rattle.statics.specs.Held.{staticOf}
+use Rattle.static_errors.specs.declared.Ruling.{Ruling}
+use Rattle.static_errors.specs.declared.Ruling.the-variants.{Kept, Broken}
+use Rattle.static_errors.specs.Held.{staticOf}
 use Rattle.load.specs.declared.Passed.{Passed}
 use Rattle.load.specs.declared.Judged.{Judged}
 use Rattle.load.specs.declared.Judged.the-variants.{Grammar as Accepted, Refused}

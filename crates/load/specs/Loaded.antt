@@ -11,7 +11,7 @@ use Rattle.syntax.specs.Parser.{Parsed, parsed, no-parse, parse}
 use Rattle.plain.specs.Plain.{size}
 use Rattle.plain.specs.Static.{mismatched}
 use Rattle.answer.specs.Compute.{Test, firstOf, treeOf, grammarTests, mismatch}
-use Rattle.statics.specs.Held.{staticOf}
+use Rattle.static_errors.specs.Held.{staticOf}
 use Rattle.decode.specs.declared.Decoding.{Decoding}
 use Rattle.decode.specs.declared.Decoding.the-variants.{Of, NotUtf8, Unknown}
 use Rattle.load.specs.declared.Passed.{Passed}
@@ -32,7 +32,7 @@ pub record Parses (s : Text) (T : List ℕ) (p : Passed) : Type 0 where
   pub inside : p .end ≤ 12288
   pub passes : Passes tree (p .end) p
 
--- refused behind the tree
+-- refused after the tree
 pub record Fails (s : Text) (n : ℕ) : Type 0 where
   pub tree : Grammar
   pub parse : parse s ≡ parsed tree

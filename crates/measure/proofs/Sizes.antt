@@ -6,14 +6,16 @@ use native.Mathlib.Omega.{arith}
 use lib.ListN.{length, getD, drop}
 use Rattle.text.specs.Lists.{concatMap}
 use Rattle.tree.specs.Tree.{Mark, Chars, string, hex, Member, chars, range, class, Terminal, literal, inclusion, exclusion, insertion}
-use Rattle.tree.specs.Tree.{Symbol, terminal, nonterminal, group, option, repeat0, repeat1, repeat0sep, repeat1sep, rest, Alternative, nil, cons, Body, one, also, Rule, Prolog, no-prolog, version, Grammar, rules}
+use Rattle.tree.specs.Tree.{Symbol, terminal, nonterminal, group, option, repeat0, repeat1, repeat0sep, repeat1sep, rest, Alternative, nil}
+use Rattle.tree.specs.Tree.{cons, Body, one, also, Rule, Prolog, no-prolog, version, Grammar, rules}
 use Rattle.tree.specs.Tokens.{Token, close-group, next-alternative, to-option, to-repeat0, to-repeat1, to-repeat0sep, to-repeat1sep, rule-end}
 use Rattle.tree.specs.Tokens.{memberTokens, terminalTokens, symbolTokens, alternativeTokens, bodyTokens, ruleTokens, prologTokens, grammarTokens, numbers}
 use Rattle.plain.specs.Written.{within, withinAlternative, withinBody, written}
 use Rattle.plain.specs.Plain.{symbols, alternatives, alts, makes, sumOf, weight, size}
-use Rattle.measure.specs.Proper.{ProperMembers, ProperTerminal, Proper, ProperAlternative, ProperBody, ProperRules}
-use Rattle.measure.specs.Walk.{costOf, repeatCostOf, cost, costs, widthOf, Here, Holds}
-use Rattle.measure.proofs.Walk.{by-mark, some-number, Left, left-empty, left-here, left-width, left-first, left-within, left-next, left-start}
+use Rattle.tokens.specs.Proper.{ProperMembers, ProperTerminal, Proper, ProperAlternative, ProperBody, ProperRules}
+use Rattle.tokens.specs.Lengths.{lengthAt, Holds, Left}
+use Rattle.measure.specs.Costs.{costOf, repeatCostOf, cost, costs}
+use Rattle.tokens.proofs.Walk.{by-mark, some-number, left-empty, left-inside, left-length, left-first, left-within, left-next, left-start}
 
 pub costs-append : (ts us : List Token) → costs (ts ++ us) ≡ costs ts + costs us
 costs-append [] us = omega arith
@@ -68,17 +70,44 @@ module _ (g : Grammar) where
     symbol-costs (option f) p = omega (arith, one-more (symbolTokens f) to-option (1 + inner (within f)) 3 (symbol-costs f p) refl)
     symbol-costs (repeat0 f) p = omega (arith, one-more (symbolTokens f) to-repeat0 (1 + inner (within f)) 4 (symbol-costs f p) refl)
     symbol-costs (repeat1 f) p = omega (arith, one-more (symbolTokens f) to-repeat1 (1 + inner (within f)) 7 (symbol-costs f p) refl)
-    symbol-costs (repeat0sep f sep) p = omega (arith, two-more (symbolTokens f) (symbolTokens sep) to-repeat0sep (1 + inner (within f)) (1 + inner (within sep)) 10 (symbol-costs f (p .0)) (symbol-costs sep (p .1)) refl, inner-append (within f) (within sep))
-    symbol-costs (repeat1sep f sep) p = omega (arith, two-more (symbolTokens f) (symbolTokens sep) to-repeat1sep (1 + inner (within f)) (1 + inner (within sep)) 7 (symbol-costs f (p .0)) (symbol-costs sep (p .1)) refl, inner-append (within f) (within sep))
+    symbol-costs (repeat0sep f sep) p =
+        omega (
+          arith,
+          two-more (symbolTokens f) (symbolTokens sep) to-repeat0sep (1 + inner (within f)) (1 + inner (within sep)) 10
+              (symbol-costs f (p .0)) (symbol-costs sep (p .1)) refl,
+          inner-append (within f) (within sep),
+        )
+    symbol-costs (repeat1sep f sep) p =
+        omega (
+          arith,
+          two-more (symbolTokens f) (symbolTokens sep) to-repeat1sep (1 + inner (within f)) (1 + inner (within sep)) 7
+              (symbol-costs f (p .0)) (symbol-costs sep (p .1)) refl,
+          inner-append (within f) (within sep),
+        )
     symbol-costs (rest f sep) p = absurd p
 
     alternative-costs : (a : Alternative) → ProperAlternative a → costs (alternativeTokens a) ≡ length (symbols a) + inner (withinAlternative a)
     alternative-costs nil p = refl
-    alternative-costs (cons f a) p = omega (arith, costs-append (symbolTokens f) (alternativeTokens a), symbol-costs f (p .0), alternative-costs a (p .1), inner-append (within f) (withinAlternative a))
+    alternative-costs (cons f a) p =
+        omega (
+          arith,
+          costs-append (symbolTokens f) (alternativeTokens a),
+          symbol-costs f (p .0),
+          alternative-costs a (p .1),
+          inner-append
+              (within f) (withinAlternative a),
+        )
 
     body-costs : (b : Body) → ProperBody b → 1 + costs (bodyTokens b) ≡ weight (alternatives b) + inner (withinBody b)
     body-costs (one a) p = omega (arith, alternative-costs a p)
-    body-costs (also a b) p = omega (arith, costs-append (alternativeTokens a) (next-alternative ∷ bodyTokens b), alternative-costs a (p .0), body-costs b (p .1), inner-append (withinAlternative a) (withinBody b))
+    body-costs (also a b) p =
+        omega (
+          arith,
+          costs-append (alternativeTokens a) (next-alternative ∷ bodyTokens b),
+          alternative-costs a (p .0),
+          body-costs b (p .1),
+          inner-append (withinAlternative a) (withinBody b),
+        )
 
   rule-costs : (r : Rule) → ProperBody (r .body) → costs (ruleTokens r) ≡ weight (alternatives (r .body)) + inner (withinBody (r .body))
   unfolding costOf repeatCostOf
@@ -87,7 +116,15 @@ module _ (g : Grammar) where
   rules-costs : (rs : List Rule) → ProperRules rs → costs (concatMap ruleTokens rs) ≡ sumOf (λ r. weight (alternatives (r .body))) rs + inner (concatMap (λ r. withinBody (r .body)) rs)
   unfolding inner
   rules-costs [] p = refl
-  rules-costs (r ∷ rs) p = omega (arith, costs-append (ruleTokens r) (concatMap ruleTokens rs), rule-costs r (p .0), rules-costs rs (p .1), inner-append (withinBody (r .body)) (concatMap (λ r. withinBody (r .body)) rs))
+  rules-costs (r ∷ rs) p =
+      omega (
+        arith,
+        costs-append (ruleTokens r) (concatMap ruleTokens rs),
+        rule-costs r (p .0),
+        rules-costs rs (p .1),
+        inner-append
+            (withinBody (r .body)) (concatMap (λ r. withinBody (r .body)) rs),
+      )
 
   prolog-costs : (p : Prolog) → costs (prologTokens p) ≡ 0
   unfolding costOf repeatCostOf
@@ -105,38 +142,35 @@ pub record Summing (T : List ℕ) (end at sum : ℕ) (g : Grammar) : Type 0 wher
   pub total : sum + costs tokens ≡ size g
 
 pub sum-start : {T : List ℕ} {end : ℕ} {g : Grammar} → Holds T end g → Summing T end 0 0 g
-sum-start {T} {end} {g} h = record { tokens = grammarTokens g; left = left-start h; total = let e : 0 + costs (grammarTokens g) ≡ costs (grammarTokens g) = omega arith in e ∙ size-costs g (h .proper) }
+sum-start {T} {end} {g} h = record {
+  tokens = grammarTokens g;
+  left = left-start h;
+  total = let e : 0 + costs (grammarTokens g) ≡ costs (grammarTokens g) = omega arith in e ∙ size-costs g (h .proper);
+}
 
 pub record Steps (T : List ℕ) (end at : ℕ) : Type 0 where
-  pub forward : at < at + widthOf (drop at T)
-  pub within : at + widthOf (drop at T) ≤ end
+  pub forward : at < at + lengthAt T at
+  pub within : at + lengthAt T at ≤ end
 
 module _ {T : List ℕ} {end at : ℕ} (h : at < end) (i : end ≤ length T) where
-  here-of : (ts : List Token) → Left T end at ts → length T < 0x100000 → Here T at
-  here-of [] w s = absurd (let z : end ≤ at = left-empty w i in omega arith)
-  here-of (t ∷ ts) w s = left-here w h i s
-
-  pub sum-here : {sum : ℕ} {g : Grammar} → Summing T end at sum g → length T < 0x100000 → Here T at
-  sum-here w s = here-of (w .tokens) (w .left) s
-
   steps-of : (ts : List Token) → Left T end at ts → Steps T end at
   steps-of [] w = absurd (let z : end ≤ at = left-empty w i in omega arith)
   steps-of (t ∷ ts) w =
-      let e : widthOf (drop at T) ≡ length (numbers t) = left-width w h i in
+      let e : lengthAt T at ≡ length (numbers t) = left-length w i in
       record { forward = omega (arith, some-number t); within = omega (arith, left-within w i) }
 
   pub sum-steps : {sum : ℕ} {g : Grammar} → Summing T end at sum g → Steps T end at
   sum-steps w = steps-of (w .tokens) (w .left)
 
-  next-of : (sum : ℕ) (g : Grammar) (ts : List Token) → Left T end at ts → sum + costs ts ≡ size g → Summing T end (at + widthOf (drop at T)) (sum + costOf (getD T at 0)) g
+  next-of : (sum : ℕ) (g : Grammar) (ts : List Token) → Left T end at ts → sum + costs ts ≡ size g → Summing T end (at + lengthAt T at) (sum + costOf (getD T at 0)) g
   next-of sum g [] w e = absurd (let z : end ≤ at = left-empty w i in omega arith)
   next-of sum g (t ∷ ts) w e = record {
     tokens = ts;
-    left = rw (left-width w h i) (left-next w);
-    total = let c : costOf (getD T at 0) ≡ cost t = ap costOf (left-first w h i) in omega arith;
+    left = rw (left-length w i) (left-next w);
+    total = let c : costOf (getD T at 0) ≡ cost t = ap costOf (left-first w i) in omega arith;
   }
 
-  pub sum-next : {sum : ℕ} {g : Grammar} → Summing T end at sum g → Summing T end (at + widthOf (drop at T)) (sum + costOf (getD T at 0)) g
+  pub sum-next : {sum : ℕ} {g : Grammar} → Summing T end at sum g → Summing T end (at + lengthAt T at) (sum + costOf (getD T at 0)) g
   sum-next {sum} {g} w = next-of sum g (w .tokens) (w .left) (w .total)
 
 done-of : {T : List ℕ} {end at : ℕ} (sum : ℕ) (g : Grammar) (ts : List Token) → end ≤ at → end ≤ length T → Left T end at ts → sum + costs ts ≡ size g → sum ≡ size g

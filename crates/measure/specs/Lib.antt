@@ -1,2 +1,1 @@
-pub mod Proper
-pub mod Walk
+pub mod Costs

@@ -1,102 +1,50 @@
-// Steps over the tokens of a grammar, and the grammar's size.
+// The size of a grammar, by one scan over its tokens.
 ghost use mathlib.Core.Path.{_≡_};
-ghost use Prim.Native.Nat.{ℕ, _+_, _≤_};
-ghost use lib.ListN.{drop};
+ghost use Prim.Native.Nat.{_≤_};
 ghost use Rattle.tree.specs.Tree.{Grammar};
 ghost use Rattle.plain.specs.Plain.{size};
-ghost use Rattle.measure.specs.Walk.{hasCount, fixedWidth, widthOf, costOf, repeatCostOf, Here, Holds, Tree};
-
-// Whether characters behind their count follow a token's first number.
-fn has_count(k: u32) -> bool
-    ensures { λ r. ⌜ r ≡ hasCount k ⌝ }
-{
-    if k < 8 {
-        return true;
-    }
-    if k < 20 {
-        return false;
-    }
-    if k < 25 {
-        return true;
-    }
-    if k == 29 {
-        return true;
-    }
-    k == 40
-}
-
-// The numbers of a token with no count.
-fn fixed_width(k: u32) -> usize
-    ensures { λ r. ⌜ (r ≡ fixedWidth k) × (r ≤ 5) ⌝ }
-{
-    if k < 12 {
-        return 2;
-    }
-    if k == 25 {
-        return 2;
-    }
-    if k == 26 {
-        return 5;
-    }
-    if k == 27 {
-        return 3;
-    }
-    if k == 30 {
-        return 2;
-    }
-    1
-}
-
-// The place behind the token at `at`.
-pub fn token_end(table: &[u32], at: usize) -> usize
-    requires { ⌜ Here (now table) at ⌝ }
-    ensures { λ r. ⌜ r ≡ at + widthOf (drop at (now (table .entry))) ⌝ }
-{
-    let k = table[at];
-    if has_count(k) {
-        return at + (table[at + 1] as usize + 2);
-    }
-    at + fixed_width(k)
-}
+ghost use Rattle.tokens.specs.Lengths.{Holds};
+ghost use Rattle.measure.specs.Costs.{costOf, repeatCostOf, Tree};
 
 // What a token adds to the size.
 fn token_cost(k: u32) -> u32
     ensures { λ r. ⌜ (r ≡ costOf k) × (r ≤ 10) ⌝ }
 {
-    if k < 24 {
+    if k < tokens::MEMBER_QUOTED {
         return 1;
     }
-    if k < 29 {
+    if k < tokens::INSERT_QUOTED {
         return 0;
     }
-    if k < 31 {
+    if k < tokens::OPEN_GROUP {
         return 1;
     }
-    if k == 31 {
+    if k == tokens::OPEN_GROUP {
         return 2;
     }
-    if k == 33 {
+    if k == tokens::NEXT_ALTERNATIVE {
         return 1;
     }
     repeat_cost(k)
 }
 
+// The same of an operator.
 fn repeat_cost(k: u32) -> u32
     ensures { λ r. ⌜ (r ≡ repeatCostOf k) × (r ≤ 10) ⌝ }
 {
-    if k == 34 {
+    if k == tokens::TO_OPTION {
         return 3;
     }
-    if k == 35 {
+    if k == tokens::TO_REPEAT0 {
         return 4;
     }
-    if k == 36 {
+    if k == tokens::TO_REPEAT1 {
         return 7;
     }
-    if k == 37 {
+    if k == tokens::TO_REPEAT0SEP {
         return 10;
     }
-    if k == 38 {
+    if k == tokens::TO_REPEAT1SEP {
         return 7;
     }
     0
@@ -111,7 +59,7 @@ pub fn grammar_size(table: &[u32], end: usize) -> u32
     let mut at = 0;
     while at < end {
         sum += token_cost(table[at]);
-        at = token_end(table, at);
+        at = tokens::token_end(table, at);
     }
     sum
 }

@@ -10,9 +10,9 @@ use lib.Seq.{getD-set-same, getD-set-other}
 use borrow.Author.Tests.{eq-eqb, ne-eqb, lt-ltb, le-ltb}
 use Rattle.text.proofs.Tests.{split}
 use Rattle.items.specs.Items.{kindAt, targetAt, tokenAt}
-use Rattle.prepare.specs.Places.{widthBy}
-use Rattle.code.specs.Code.{ownerAt}
-use Rattle.prepare.specs.Ready.{Last, lastOf, ownerOf, Owners, Put, kindOf, goesOf, ruleOf, Codes}
+use Rattle.tokens.specs.Lengths.{widthAt}
+use Rattle.chart.specs.Code.{ownerAt}
+use Rattle.prepare.specs.Ready.{Last, lastOf, ownerOf, Owners, Put, nextKindOf, goesOf, ruleOf, Codes}
 
 -- three stores side by side
 module _ (c : List ℕ) (a x y z : ℕ) where
@@ -78,12 +78,13 @@ last-small T p last h l = elim (ℕ-discrete (kindAt T p) 6) as (λ _. lastOf T 
   | no k ↦ rw (ne-eqb (kindAt T p) 6 k) l
 ]
 
-module _ {T : List ℕ} {size : ℕ} {c₀ c : List ℕ} {last : ℕ} (p q : ℕ) (w : Owning T size c₀ c q last) (behind : q ≡ p + 1) (small : size ≤ 512) (room : 4 * size ≤ length c₀) where
+module _ {T : List ℕ} {size : ℕ} {c₀ c : List ℕ} {last : ℕ} (p q : ℕ) (w : Owning T size c₀ c q last) (afterDot : q ≡ p + 1)
+    (small : size ≤ 512) (room : 4 * size ≤ length c₀) where
   pub own-small : lastOf T p last < 512
   own-small = last-small T p last (omega (arith, w .low)) (w .small)
 
   last-next : (e : ℕ) → Last T (p + 1) e → e < size → last ≡ e
-  last-next e v h = w .last-is e (subst (λ (n : ℕ). Last T n e) (sym behind) v) h
+  last-next e v h = w .last-is e (subst (λ (n : ℕ). Last T n e) (sym afterDot) v) h
 
   pub own-next : Owning T size c₀ (set c (4 * p + 3) (ownerOf T p (lastOf T p last))) p (lastOf T p last)
   own-next = record {
@@ -108,7 +109,7 @@ own-end w h = record { long = w .long; owner = λ q e l v k. w .owner q e (omega
 pub record Coding (T : List ℕ) (size : ℕ) (c₀ c : List ℕ) (p : ℕ) : Type 0 where
   pub low : p ≤ size
   pub long : length c ≡ length c₀
-  pub kind-is : (q : ℕ) → q < p → getD c (4 * q) 0 ≡ kindOf (kindAt T q)
+  pub kind-is : (q : ℕ) → q < p → getD c (4 * q) 0 ≡ nextKindOf (kindAt T q)
   pub goes-is : (q : ℕ) → q < p → getD c (4 * q + 1) 0 ≡ goesOf T q (kindAt T q)
   pub rule-is : (q : ℕ) → q < p → getD c (4 * q + 2) 0 ≡ ruleOf T c₀ q (kindAt T q)
   pub owner-is : (q : ℕ) → ownerAt c q ≡ ownerAt c₀ q
@@ -123,7 +124,8 @@ code-start T size c = record {
   owner-is = λ q. refl;
 }
 
-module _ {T : List ℕ} {size : ℕ} {c₀ c c' : List ℕ} {p : ℕ} (w : Coding T size c₀ c p) (h : p < size) (u : Put c c' p (kindOf (kindAt T p)) (goesOf T p (kindAt T p)) (ruleOf T c p (kindAt T p))) where
+module _ {T : List ℕ} {size : ℕ} {c₀ c c' : List ℕ} {p : ℕ} (w : Coding T size c₀ c p) (h : p < size)
+    (u : Put c c' p (nextKindOf (kindAt T p)) (goesOf T p (kindAt T p)) (ruleOf T c p (kindAt T p))) where
   rule-same : ruleOf T c p (kindAt T p) ≡ ruleOf T c₀ p (kindAt T p)
   unfolding ruleOf
   rule-same = rw (w .owner-is (targetAt T p))
@@ -132,9 +134,15 @@ module _ {T : List ℕ} {size : ℕ} {c₀ c c' : List ℕ} {p : ℕ} (w : Codin
   code-next = record {
     low = omega arith;
     long = u .long ∙ w .long;
-    kind-is = λ q l. elim (ℕ-discrete q p) as (λ _. getD c' (4 * q) 0 ≡ kindOf (kindAt T q)) [ yes d ↦ rw d (u .kind-is) | no d ↦ u .kept (4 * q) (inl (omega arith)) ∙ w .kind-is q (omega arith) ];
-    goes-is = λ q l. elim (ℕ-discrete q p) as (λ _. getD c' (4 * q + 1) 0 ≡ goesOf T q (kindAt T q)) [ yes d ↦ rw d (u .goes-is) | no d ↦ u .kept (4 * q + 1) (inl (omega arith)) ∙ w .goes-is q (omega arith) ];
-    rule-is = λ q l. elim (ℕ-discrete q p) as (λ _. getD c' (4 * q + 2) 0 ≡ ruleOf T c₀ q (kindAt T q)) [ yes d ↦ rw d (u .rule-is ∙ rule-same) | no d ↦ u .kept (4 * q + 2) (inl (omega arith)) ∙ w .rule-is q (omega arith) ];
+    kind-is =
+        λ q l. elim (ℕ-discrete q p) as (λ _. getD c' (4 * q) 0 ≡ nextKindOf (kindAt T q))
+        [ yes d ↦ rw d (u .kind-is) | no d ↦ u .kept (4 * q) (inl (omega arith)) ∙ w .kind-is q (omega arith) ];
+    goes-is =
+        λ q l. elim (ℕ-discrete q p) as (λ _. getD c' (4 * q + 1) 0 ≡ goesOf T q (kindAt T q))
+        [ yes d ↦ rw d (u .goes-is) | no d ↦ u .kept (4 * q + 1) (inl (omega arith)) ∙ w .goes-is q (omega arith) ];
+    rule-is =
+        λ q l. elim (ℕ-discrete q p) as (λ _. getD c' (4 * q + 2) 0 ≡ ruleOf T c₀ q (kindAt T q))
+        [ yes d ↦ rw d (u .rule-is ∙ rule-same) | no d ↦ u .kept (4 * q + 2) (inl (omega arith)) ∙ w .rule-is q (omega arith) ];
     owner-is = λ q. u .kept (4 * q + 3) (elim (ℕ-discrete q p) as (λ _. (4 * q + 3 < 4 * p) ⊎ (4 * p + 2 < 4 * q + 3)) [ yes d ↦ inr (omega arith) | no d ↦ side q d ]) ∙ w .owner-is q;
   }
     where
@@ -155,21 +163,29 @@ put-as : {c c' : List ℕ} {p a b d a' b' d' : ℕ} → Put c c' p a b d → a �
 put-as u x y z = record { long = u .long; kind-is = u .kind-is ∙ x; goes-is = u .goes-is ∙ y; rule-is = u .rule-is ∙ z; kept = u .kept }
 
 abbrev pub PutItem : List ℕ → List ℕ → List ℕ → ℕ → Type 0
-PutItem T c c' p = Put c c' p (kindOf (kindAt T p)) (goesOf T p (kindAt T p)) (ruleOf T c p (kindAt T p))
+PutItem T c c' p = Put c c' p (nextKindOf (kindAt T p)) (goesOf T p (kindAt T p)) (ruleOf T c p (kindAt T p))
 
 module _ (T : List ℕ) {c c' : List ℕ} {p : ℕ} where
-  pub item-terminal : {w : ℕ} → Put c c' p 1 w 0 → kindAt T p ≡ 1 → w ≡ widthBy (drop (tokenAt T p) T) → PutItem T c c' p
-  unfolding kindOf goesOf ruleOf
+  pub item-terminal : {w : ℕ} → Put c c' p 1 w 0 → kindAt T p ≡ 1 → w ≡ widthAt T (tokenAt T p) → PutItem T c c' p
+  unfolding nextKindOf goesOf ruleOf
   item-terminal u e h = put-as u (rw (eq-eqb (kindAt T p) 1 e)) (rw (eq-eqb (kindAt T p) 1 e) h) (rw (eq-eqb (kindAt T p) 1 e))
 
   pub item-symbol : {x r : ℕ} → Put c c' p 2 x r → (kindAt T p ≡ 1 → ⊥) → kindAt T p < 5 → x ≡ targetAt T p → r ≡ ownerAt c (targetAt T p) - 1 → PutItem T c c' p
-  unfolding kindOf goesOf ruleOf
-  item-symbol u e l x r = put-as u (rw (ne-eqb (kindAt T p) 1 e, lt-ltb (kindAt T p) 5 l)) (rw (ne-eqb (kindAt T p) 1 e, lt-ltb (kindAt T p) 5 l) x) (rw (ne-eqb (kindAt T p) 1 e, lt-ltb (kindAt T p) 5 l) r)
+  unfolding nextKindOf goesOf ruleOf
+  item-symbol u e l x r =
+      put-as u (rw (ne-eqb (kindAt T p) 1 e, lt-ltb (kindAt T p) 5 l)) (rw (ne-eqb (kindAt T p) 1 e, lt-ltb (kindAt T p) 5 l) x)
+      (rw (ne-eqb (kindAt T p) 1 e, lt-ltb (kindAt T p) 5 l) r)
 
   pub item-end : Put c c' p 0 (p + 2) 0 → (kindAt T p ≡ 1 → ⊥) → 5 ≤ kindAt T p → kindAt T p ≡ 5 → PutItem T c c' p
-  unfolding kindOf goesOf ruleOf
-  item-end u e l k = put-as u (rw (ne-eqb (kindAt T p) 1 e, le-ltb (kindAt T p) 5 l)) (rw (ne-eqb (kindAt T p) 1 e, le-ltb (kindAt T p) 5 l, eq-eqb (kindAt T p) 5 k)) (rw (ne-eqb (kindAt T p) 1 e, le-ltb (kindAt T p) 5 l))
+  unfolding nextKindOf goesOf ruleOf
+  item-end u e l k =
+      put-as u (rw (ne-eqb (kindAt T p) 1 e, le-ltb (kindAt T p) 5 l))
+      (rw (ne-eqb (kindAt T p) 1 e, le-ltb (kindAt T p) 5 l, eq-eqb (kindAt T p) 5 k))
+      (rw (ne-eqb (kindAt T p) 1 e, le-ltb (kindAt T p) 5 l))
 
   pub item-last : Put c c' p 0 0 0 → (kindAt T p ≡ 1 → ⊥) → 5 ≤ kindAt T p → (kindAt T p ≡ 5 → ⊥) → PutItem T c c' p
-  unfolding kindOf goesOf ruleOf
-  item-last u e l k = put-as u (rw (ne-eqb (kindAt T p) 1 e, le-ltb (kindAt T p) 5 l)) (rw (ne-eqb (kindAt T p) 1 e, le-ltb (kindAt T p) 5 l, ne-eqb (kindAt T p) 5 k)) (rw (ne-eqb (kindAt T p) 1 e, le-ltb (kindAt T p) 5 l))
+  unfolding nextKindOf goesOf ruleOf
+  item-last u e l k =
+      put-as u (rw (ne-eqb (kindAt T p) 1 e, le-ltb (kindAt T p) 5 l))
+      (rw (ne-eqb (kindAt T p) 1 e, le-ltb (kindAt T p) 5 l, ne-eqb (kindAt T p) 5 k))
+      (rw (ne-eqb (kindAt T p) 1 e, le-ltb (kindAt T p) 5 l))

@@ -1,4 +1,4 @@
--- The items of a block: what is behind each dot, where alternatives begin, and the chain of a rule's alternatives.
+-- The items of a block: what is after each dot, where alternatives begin, and the chain of a rule's alternatives.
 use mathlib.Core.List.{List, [], _∷_, _++_}
 use mathlib.Core.Logic.{_⊎_, inl, inr, ⊎-elim}
 use mathlib.Core.Path.{_≡_, refl, sym, ap, _∙_, subst}
@@ -12,9 +12,9 @@ use Rattle.text.proofs.Tests.{split}
 use Rattle.tree.specs.Tree.{Mark, unmarked, included, attribute, deleted, Symbol, Grammar, rules}
 use Rattle.plain.specs.Plain.{alts, weight, ruleMark, over}
 use Rattle.items.specs.Items.{kindAt, Starts, Stands, st-terminal, st-name, st-made, Spells, sp-end, sp-item, Alternatives, al-last, al-more, markKind}
-use Rattle.code.specs.Code.{behind, Chain, ch-last, ch-next, ownerAt, goesAt}
+use Rattle.chart.specs.Code.{afterDot, Chain, ch-last, ch-next, ownerAt, goesAt}
 
--- what is behind each dot of an alternative; of alternatives one behind the other
+-- what is after each dot of an alternative; of alternatives one after the other
 abbrev pub suffixes : List Symbol → List (List Symbol)
 suffixes [] = [] ∷ []
 suffixes (s ∷ ss) = (s ∷ ss) ∷ suffixes ss
@@ -41,7 +41,7 @@ mark-kind included = omega arith
 mark-kind attribute = omega arith
 mark-kind deleted = omega arith
 
--- what stands at the item p, with the k-th of the lists behind it
+-- what stands at the item p, with the k-th of the lists after it
 pub data Place (T : List ℕ) (g : Grammar) (S : Starts) (L : List (List Symbol)) (p k : ℕ) : Type 0 where
   pl-end : getD L k [] ≡ [] → 4 < kindAt T p → Place T g S L p k
   pl-item : (s : Symbol) → getD L k [] ≡ s ∷ getD L (suc k) [] → Stands T g S p s → suc k < length L → Place T g S L p k
@@ -59,7 +59,11 @@ numbered-first : (ss : List Symbol) (ts : List (List Symbol)) (k : ℕ) → k �
 numbered-first ss ts k e = record { number = 0; exists = omega arith; is = ap (λ (n : ℕ). getD (layout (ss ∷ ts)) n []) e ∙ suffix-head ss (layout ts) }
 
 numbered-next : (ss : List Symbol) (ts : List (List Symbol)) (k j : ℕ) → k ≡ length (suffixes ss) + j → Numbered ts j → Numbered (ss ∷ ts) k
-numbered-next ss ts k j e w = record { number = suc (w .number); exists = omega (arith, w .exists); is = ap (λ (n : ℕ). getD (layout (ss ∷ ts)) n []) e ∙ getD-append-add (suffixes ss) (layout ts) j [] ∙ w .is }
+numbered-next ss ts k j e w = record {
+  number = suc (w .number);
+  exists = omega (arith, w .exists);
+  is = ap (λ (n : ℕ). getD (layout (ss ∷ ts)) n []) e ∙ getD-append-add (suffixes ss) (layout ts) j [] ∙ w .is;
+}
 
 begins-on : (T : List ℕ) (x y k j : ℕ) → x + k ≡ y + j → (j ≡ 0 → ⊥) → 4 < kindAt T (x + (k - 1)) → 0 < k → 4 < kindAt T (y + (j - 1))
 begins-on T x y k j e d l h = subst (λ (n : ℕ). 4 < kindAt T n) (let q : x + (k - 1) ≡ y + (j - 1) = omega arith in q) l
@@ -80,19 +84,20 @@ module _ {T : List ℕ} {g : Grammar} {S : Starts} where
   spells-place : {x : ℕ} {ss : List Symbol} → Spells T g S x ss → (more : List (List Symbol)) (k : ℕ) → k ≤ length ss → Place T g S (suffixes ss ++ more) (x + k) k
   spells-place {x} (sp-end o) more zero h = place-on (omega arith) (pl-end refl (ends-above T x o))
   spells-place {x} (sp-end o) more (suc k) h = absurd (not-suc-le-zero h)
-  spells-place {x} (sp-item {s = s} {ss = ss} a w) more zero h = place-on (omega arith) (pl-item s (ap (_∷_ s) (sym (suffix-head ss more))) a (omega (arith, length-append (suffixes ss) more, suffix-count ss)))
+  spells-place {x} (sp-item {s = s} {ss = ss} a w) more zero h = place-on (omega arith)
+      (pl-item s (ap (_∷_ s) (sym (suffix-head ss more))) a (omega (arith, length-append (suffixes ss) more, suffix-count ss)))
   spells-place {x} (sp-item {s = s} {ss = ss} a w) more (suc k) h = place-on (omega arith) (place-cons (s ∷ ss) (spells-place w more k (omega arith)))
 
-  place-behind : (K L : List (List Symbol)) {p k : ℕ} → Place T g S L p k → Place T g S (K ++ L) p (length K + k)
-  place-behind [] L {p} {k} w = subst (λ (n : ℕ). Place T g S L p n) (let e : k ≡ 0 + k = omega arith in e) w
-  place-behind (l ∷ K) L {p} {k} w = subst (λ (n : ℕ). Place T g S (l ∷ (K ++ L)) p n) (let e : suc (length K + k) ≡ suc (length K) + k = omega arith in e) (place-cons l (place-behind K L w))
+  place-after : (K L : List (List Symbol)) {p k : ℕ} → Place T g S L p k → Place T g S (K ++ L) p (length K + k)
+  place-after [] L {p} {k} w = subst (λ (n : ℕ). Place T g S L p n) (let e : k ≡ 0 + k = omega arith in e) w
+  place-after (l ∷ K) L {p} {k} w = subst (λ (n : ℕ). Place T g S (l ∷ (K ++ L)) p n) (let e : suc (length K + k) ≡ suc (length K) + k = omega arith in e) (place-cons l (place-after K L w))
 
   pub alts-place : {x : ℕ} {ts : List (List Symbol)} → Alternatives T g S x ts → (k : ℕ) → k < length (layout ts) → Place T g S (layout ts) (x + k) k
   alts-place (al-last {ss = ss} w e) k h = spells-place w [] k (omega (arith, length-append (suffixes ss) [], suffix-count ss))
   alts-place {x} (al-more {ss = ss} {ts = ts} w e a) k h = ⊎-elim
       (λ l. spells-place w (layout ts) k (omega (arith, suffix-count ss)))
       (λ l. subst (λ (n : ℕ). Place T g S (suffixes ss ++ layout ts) (x + n) n) (let q : length (suffixes ss) + (k - length (suffixes ss)) ≡ k = omega arith in q)
-      (place-behind (suffixes ss) (layout ts) (place-on (omega (arith, suffix-count ss)) (alts-place a (k - length (suffixes ss)) (omega (arith, length-append (suffixes ss) (layout ts)))))))
+      (place-after (suffixes ss) (layout ts) (place-on (omega (arith, suffix-count ss)) (alts-place a (k - length (suffixes ss)) (omega (arith, length-append (suffixes ss) (layout ts)))))))
       (split k (length (suffixes ss)))
 
   -- only the last item of a block is of kind 6
@@ -127,7 +132,10 @@ module _ {T : List ℕ} {g : Grammar} {S : Starts} where
   alts-begins (al-last {ss = ss} w e) k h o = numbered-first ss [] k (first-only w k (omega arith) o)
   alts-begins {x} (al-more {ss = ss} {ts = ts} w e a) k h o = ⊎-elim
       (λ l. numbered-first ss ts k (first-only w k (omega arith) o))
-      (λ l. numbered-next ss ts k (k - (length ss + 1)) (omega (arith, suffix-count ss)) (alts-begins a (k - (length ss + 1)) (omega arith) (elim (ℕ-discrete (k - (length ss + 1)) 0) as (λ _. (k - (length ss + 1) ≡ 0) ⊎ (4 < kindAt T (x + (length ss + 1) + (k - (length ss + 1) - 1)))) [
+      (λ l. numbered-next ss ts k (k - (length ss + 1)) (omega (arith, suffix-count ss))
+      (alts-begins a (k - (length ss + 1)) (omega arith)
+      (elim (ℕ-discrete (k - (length ss + 1)) 0) as (λ _. (k - (length ss + 1) ≡ 0)
+      ⊎ (4 < kindAt T (x + (length ss + 1) + (k - (length ss + 1) - 1)))) [
         | yes d ↦ inl d
         | no d ↦ inr (⊎-elim (λ z. absurd (omega arith)) (λ m. begins-on T x (x + (length ss + 1)) k (k - (length ss + 1)) (omega arith) d m (omega arith)) o)
       ])))
@@ -135,7 +143,7 @@ module _ {T : List ℕ} {g : Grammar} {S : Starts} where
 
 -- the chain of a block's alternatives, once the owners and what goes on are in the code
 pub record Linked (T c : List ℕ) (dots : List (List Symbol)) (e q : ℕ) (ts : List (List Symbol)) : Type 0 where
-  pub agree : (k : ℕ) → k < weight ts → behind dots (q + k) ≡ getD (layout ts) k []
+  pub agree : (k : ℕ) → k < weight ts → afterDot dots (q + k) ≡ getD (layout ts) k []
   pub inside : q + weight ts ≤ length dots
   pub end : e + 1 ≡ q + weight ts
   pub owner : (k : ℕ) → k < weight ts → (k ≡ 0) ⊎ (4 < kindAt T (q + (k - 1))) → ownerAt c (q + k) ≡ e + 1
@@ -143,15 +151,16 @@ pub record Linked (T c : List ℕ) (dots : List (List Symbol)) (e q : ℕ) (ts :
   pub stops : (p : ℕ) → q ≤ p → p < q + weight ts → kindAt T p ≡ 6 → goesAt c p ≡ 0
 
 module _ {T c : List ℕ} {dots : List (List Symbol)} {e : ℕ} where
-  here : {q : ℕ} {ss : List Symbol} {ts : List (List Symbol)} → Linked T c dots e q (ss ∷ ts) → behind dots q ≡ ss
-  here {q} {ss} {ts} w = ap (behind dots) (let d : q ≡ q + 0 = omega arith in d) ∙ w .agree 0 (omega arith) ∙ suffix-head ss (layout ts)
+  here : {q : ℕ} {ss : List Symbol} {ts : List (List Symbol)} → Linked T c dots e q (ss ∷ ts) → afterDot dots q ≡ ss
+  here {q} {ss} {ts} w = ap (afterDot dots) (let d : q ≡ q + 0 = omega arith in d) ∙ w .agree 0 (omega arith) ∙ suffix-head ss (layout ts)
 
   owner-here : {q : ℕ} {ss : List Symbol} {ts : List (List Symbol)} → Linked T c dots e q (ss ∷ ts) → ownerAt c q ≡ e + 1
   owner-here {q} w = ap (ownerAt c) (let d : q ≡ q + 0 = omega arith in d) ∙ w .owner 0 (omega arith) (inl refl)
 
   linked-next : {q : ℕ} {ss : List Symbol} {ts : List (List Symbol)} → kindAt T (q + length ss) ≡ 5 → Linked T c dots e q (ss ∷ ts) → Linked T c dots e (q + (length ss + 1)) ts
   linked-next {q} {ss} {ts} f w = record {
-    agree = λ k h. ap (behind dots) (let d : q + (length ss + 1) + k ≡ q + (length (suffixes ss) + k) = omega (arith, suffix-count ss) in d) ∙ w .agree (length (suffixes ss) + k) (omega (arith, suffix-count ss)) ∙ getD-append-add (suffixes ss) (layout ts) k [];
+    agree = λ k h. ap (afterDot dots) (let d : q + (length ss + 1) + k ≡ q + (length (suffixes ss) + k) = omega (arith, suffix-count ss) in
+        d) ∙ w .agree (length (suffixes ss) + k) (omega (arith, suffix-count ss)) ∙ getD-append-add (suffixes ss) (layout ts) k [];
     inside = omega (arith, w .inside);
     end = omega (arith, w .end);
     owner = λ k h o. ap (ownerAt c) (let d : q + (length ss + 1) + k ≡ q + (length ss + 1 + k) = omega arith in d) ∙ w .owner (length ss + 1 + k) (omega arith) (inr (after k o));
@@ -170,8 +179,11 @@ module _ {T c : List ℕ} {dots : List (List Symbol)} {e : ℕ} where
 
   pub chain-law : {g : Grammar} {S : Starts} {q : ℕ} {ts : List (List Symbol)} → Alternatives T g S q ts → Linked T c dots e q ts → Chain c dots e q ts
   chain-law {q} (al-last {ss = ss} w f) l = subst (λ (v : List Symbol). Chain c dots e q (v ∷ [])) (here l)
-      (ch-last (omega (arith, l .inside)) (owner-here l) (omega (arith, ap length (here l), l .end)) (l .stops e (omega (arith, l .end)) (omega (arith, l .end)) (subst (λ (n : ℕ). kindAt T n ≡ 6) (let d : q + length ss ≡ e = omega (arith, l .end) in d) f)))
+      (ch-last (omega (arith, l .inside)) (owner-here l) (omega (arith, ap length (here l), l .end))
+      (l .stops e (omega (arith, l .end)) (omega (arith, l .end))
+      (subst (λ (n : ℕ). kindAt T n ≡ 6) (let d : q + length ss ≡ e = omega (arith, l .end) in d) f)))
   chain-law {q} (al-more {ss = ss} {ts = ts} w f a) l = subst (λ (v : List Symbol). Chain c dots e q (v ∷ ts)) (here l)
       (ch-next {m = q + (length ss + 1)} (omega (arith, l .inside)) (owner-here l)
-      (ap (λ (v : List Symbol). goesAt c (q + length v)) (here l) ∙ l .goes (q + length ss) (omega arith) (omega arith) f ∙ (let d : q + length ss + 2 ≡ q + (length ss + 1) + 1 = omega arith in d))
+      (ap (λ (v : List Symbol). goesAt c (q + length v)) (here l) ∙ l .goes (q + length ss) (omega arith) (omega arith) f
+      ∙ (let d : q + length ss + 2 ≡ q + (length ss + 1) + 1 = omega arith in d))
       (chain-law a (linked-next f l)))

@@ -13,7 +13,7 @@ use Rattle.text.proofs.Tests.{split}
 use Rattle.tree.specs.Tree.{Terminal}
 use Rattle.plain.specs.Plain.{fits}
 use Rattle.items.specs.Items.{kindAt, tokenAt}
-use Rattle.code.specs.Code.{flag, fitsAt}
+use Rattle.chart.specs.Code.{flag, fitsAt}
 use Rattle.prepare.specs.Places.{TerminalAt, Row}
 use Rattle.prepare.specs.Ready.{ItemRow, Rows}
 
@@ -27,7 +27,8 @@ pub record Rowing (T R f₀ f : List ℕ) (at base i : ℕ) : Type 0 where
 pub row-start : (T R f : List ℕ) (at base : ℕ) → Rowing T R f f at base 0
 row-start T R f at base = record { low = omega arith; long = refl; row = λ x w j h. absurd (omega arith); kept = λ j o. refl }
 
-module _ {T R f₀ f : List ℕ} {at base i : ℕ} (w : Rowing T R f₀ f at base i) (h : i ≤ length R) (room : base + length R < length f₀) (r : Bool) (e : (x : Terminal) → TerminalAt T at x → r ≡ fits x (drop i R)) where
+module _ {T R f₀ f : List ℕ} {at base i : ℕ} (w : Rowing T R f₀ f at base i) (h : i ≤ length R) (room : base + length R < length f₀)
+    (r : Bool) (e : (x : Terminal) → TerminalAt T at x → r ≡ fits x (drop i R)) where
   pub row-next : Rowing T R f₀ (set f (base + i) (flag r)) at base (i + 1)
   row-next = record {
     low = omega arith;

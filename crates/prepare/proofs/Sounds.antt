@@ -1,6 +1,7 @@
 -- Items that were built from a grammar under the static rules are ready for the engine.
 use mathlib.Core.Bool.{Bool, false}
-use mathlib.Core.List.{List, [], _∷_, _++_, List·Memᴰ as In, List·Memᴰ·head as in-head, List·Memᴰ·tail as in-tail, List·Memᴰ·append-cases as in-cases, Memᴰ·append-left as in-left, Memᴰ·append-right as in-right}
+use mathlib.Core.List.{List, [], _∷_, _++_, List·Memᴰ as In, List·Memᴰ·head as in-head, List·Memᴰ·tail as in-tail}
+use mathlib.Core.List.{List·Memᴰ·append-cases as in-cases, Memᴰ·append-left as in-left, Memᴰ·append-right as in-right}
 use mathlib.Core.Logic.{⊎-elim}
 use mathlib.Core.Path.{_≡_, refl, ap, _∙_, subst}
 use Prim.Native.Nat.{ℕ, _<_}
@@ -15,7 +16,7 @@ use Rattle.tree.specs.Tree.{Symbol, terminal, nonterminal, group, option, repea
 use Rattle.plain.specs.Written.{within, withinAlternative, withinBody, written, kind, atom, made, terminals, terminalsIn, members, membersIn, charsIn, charsInMember, hexes, hexIn}
 use Rattle.plain.specs.Static.{duplicate, beyond, unclassed, noClass}
 use Rattle.plain.specs.Plain.{size}
-use Rattle.measure.specs.Proper.{ProperMember, ProperMembers, ProperTerminal, Proper, ProperAlternative, ProperBody, ProperRules}
+use Rattle.tokens.specs.Proper.{ProperMember, ProperMembers, ProperTerminal, Proper, ProperAlternative, ProperBody, ProperRules}
 use Rattle.derive.proofs.Symbols.{in-concat}
 use Rattle.items.specs.Built.{Built}
 use Rattle.prepare.specs.Sound.{SoundChars, SoundMember, SoundMembers, SoundTerminal}
@@ -100,7 +101,8 @@ sound-member (chars k) h c p = h k (in-head refl)
 sound-member (range a b) h c p = ((h a (in-head refl), p .0), (h b (in-tail (in-head refl)), p .1))
 sound-member (class k) h c p = not-false (isClass k) c
 
-sound-members : (ms : List Member) → ((k : Chars) → In k (concatMap charsInMember ms) → SoundChars k) → ((m : Member) → In m ms → noClass m ≡ false) → ProperMembers ms → SoundMembers ms
+sound-members : (ms : List Member) → ((k : Chars) → In k (concatMap charsInMember ms) → SoundChars k)
+    → ((m : Member) → In m ms → noClass m ≡ false) → ProperMembers ms → SoundMembers ms
 sound-members [] h c p = tt
 sound-members (m ∷ ms) h c p = (
   sound-member m (λ k i. h k (in-left (concatMap charsInMember ms) i)) (c m (in-head refl)) (p .0),
@@ -123,5 +125,6 @@ all-sound g p b c x i =
     (rules-proper (rules g) p x (its-symbol (written g) x i))
 
 -- from what is built and what the static rules say
-pub ready : {T : List ℕ} {g : Grammar} {root : ℕ} → Built T g root → ProperRules (rules g) → duplicate g ≡ false → beyond g ≡ false → unclassed g ≡ false → Ready T g (size g) root
+pub ready : {T : List ℕ} {g : Grammar} {root : ℕ} → Built T g root → ProperRules (rules g) → duplicate g ≡ false → beyond g ≡ false
+    → unclassed g ≡ false → Ready T g (size g) root
 ready {g = g} w p d b c = record { built = w; simple = d; sound = all-sound g p b c; count = refl }

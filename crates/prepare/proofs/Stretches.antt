@@ -53,7 +53,9 @@ module _ {T : List ℕ} {at n : ℕ} {R : Text} {i : ℕ} (b : Beside T at n R i
   pub spell-end : {k : ℕ} → Spelling T at n R i k → n ≤ k → true ≡ begins (part T at n) (drop i R)
   spell-end {k} w h = sym (w .on ∙ rw (drop-of-length-le (part T at n) {i = k} (omega (arith, part-long T at n (b .inside)))))
 
-  spell-next : {k : ℕ} → Spelling T at n R i k → k < n → begins (part T at n) (drop i R) ≡ (eqb (getD T (at + k) 0) (getD R (i + k) 0) && begins (drop (k + 1) (part T at n)) (drop (k + 1) (drop i R)))
+  spell-next : {k : ℕ} → Spelling T at n R i k → k < n
+      → begins (part T at n) (drop i R) ≡ (eqb (getD T (at + k) 0) (getD R (i + k) 0) && begins (drop (k + 1) (part T at n))
+      (drop (k + 1) (drop i R)))
   spell-next {k} w h =
       let e = w .enough in
       w .on

@@ -20,103 +20,17 @@ use Rattle.plain.specs.Written.{kind, made, atom}
 use Rattle.derive.specs.Derive.{root}
 use Rattle.items.specs.Items.{kindAt, targetAt, tokenAt, Starts, Among, Stands, st-terminal, st-name, st-made, Reads, markKind}
 use Rattle.items.specs.Built.{Cover}
-use Rattle.code.specs.Code.{behind, headOf, Chain, Owned, Coded, ownerAt, goesAt, ruleAt, fitsAt, flag, at-end, at-terminal, at-symbol}
-use Rattle.code.specs.Code as code
+use Rattle.chart.specs.Code.{afterDot, headOf, Chain, Owned, Coded, ownerAt, goesAt, ruleAt, fitsAt, flag, at-end, at-terminal, at-symbol}
+use Rattle.chart.specs.Code as code
 use Rattle.prepare.specs.Sound.{SoundTerminal}
-use Rattle.prepare.specs.Places.{TerminalAt, TerminalHere, widthBy}
-use Rattle.prepare.specs.Ready.{Last, ownerOf, Owners, kindOf, goesOf, ruleOf, Reach, Reaches, Codes, RowsReady, Rows, Ready, Given}
+use Rattle.prepare.specs.Places.{TerminalAt, TerminalHere}
+use Rattle.tokens.specs.Lengths.{widthAt}
+use Rattle.prepare.specs.Ready.{Last, ownerOf, Owners, nextKindOf, goesOf, ruleOf, Reach, Reaches, Codes, RowsReady, Rows, Ready, Given}
 use Rattle.prepare.proofs.Places.{term-two, width-is}
 use Rattle.prepare.proofs.Dots.{layout, layout-count, Place, pl-end, pl-item, stands-kind, mark-kind, alts-place, alts-inner, alts-last, alts-some, alts-begins, Linked, chain-law}
-
--- a list of a function's values
-abbrev tab : {A : Type 0} → (ℕ → A) → ℕ → ℕ → List A
-tab f k zero = []
-tab f k (suc n) = f k ∷ tab f (suc k) n
-
-tab-count : {A : Type 0} (f : ℕ → A) (k n : ℕ) → length (tab f k n) ≡ n
-tab-count f k zero = refl
-tab-count f k (suc n) = ap suc (tab-count f (suc k) n)
-
-tab-at : {A : Type 0} (f : ℕ → A) (k n i : ℕ) (d : A) → i < n → getD (tab f k n) i d ≡ f (k + i)
-tab-at f k zero i d h = absurd (not-suc-le-zero h)
-tab-at f k (suc n) zero d h = ap f (let e : k ≡ k + 0 = omega arith in e)
-tab-at f k (suc n) (suc i) d h = tab-at f (suc k) n i d (omega arith) ∙ ap f (let e : suc k + i ≡ k + suc i = omega arith in e)
-
--- an alternative begins at the item p
-abbrev Begin : List ℕ → ℕ → Type 0
-Begin T p = (p ≡ 0) ⊎ (4 < kindAt T (p - 1))
-
-prior : (T : List ℕ) (p : ℕ) → (p ≡ 0 → ⊥) → getD T (12285 + 3 * p) 0 ≡ kindAt T (p - 1)
-prior T p d = ap (λ (n : ℕ). getD T n 0) (let e : 12285 + 3 * p ≡ 12288 + 3 * (p - 1) = omega arith in e)
-
-owner-begin : (T : List ℕ) (p e : ℕ) → Begin T p → ownerOf T p e ≡ e + 1
-unfolding ownerOf
-owner-begin T p e b = elim (ℕ-discrete p 0) as (λ _. ownerOf T p e ≡ e + 1) [
-  | yes d ↦ rw (eq-eqb p 0 d)
-  | no d ↦ (let l : 5 ≤ getD T (12285 + 3 * p) 0 = ⊎-elim (λ z. absurd (d z)) (λ l. omega (arith, prior T p d)) b in rw (ne-eqb p 0 d, le-ltb (getD T (12285 + 3 * p) 0) 5 l))
-]
-
-owner-inv : (T : List ℕ) (p e e' : ℕ) → ownerOf T p e ≡ e' + 1 → Begin T p × (e' ≡ e)
-unfolding ownerOf
-owner-inv T p e e' q = elim (ℕ-discrete p 0) as (λ _. Begin T p × (e' ≡ e)) [
-  | yes d ↦ (let s : e + 1 ≡ e' + 1 = rw (eq-eqb p 0 d) at q in (inl d, omega arith))
-  | no d ↦ ⊎-elim
-      (λ l. (let s : 0 ≡ e' + 1 = rw (ne-eqb p 0 d, lt-ltb (getD T (12285 + 3 * p) 0) 5 l) at q in absurd (omega arith)))
-      (λ l. (let s : e + 1 ≡ e' + 1 = rw (ne-eqb p 0 d, le-ltb (getD T (12285 + 3 * p) 0) 5 l) at q in (inr (omega (arith, prior T p d)), omega arith)))
-      (split (getD T (12285 + 3 * p) 0) 5)
-]
-
--- tokens that stand in the first part of the table stand in the table
-whole : (T : List ℕ) (n at : ℕ) (xs more : List ℕ) → 0 < length xs → drop at (take n T) ≡ xs ++ more → drop at T ≡ xs ++ (more ++ drop n T)
-whole T n at xs more h e =
-    ap (drop at) (sym (take-append-drop n T))
-    ∙ drop-append-le at (take n T) (drop n T) (omega (arith, sym (length-drop at (take n T)) ∙ ap length e ∙ length-append xs more))
-    ∙ ap (λ (l : List ℕ). l ++ drop n T) e
-    ∙ append-assoc xs more (drop n T)
-
-some-tokens : (x : Terminal) → 0 < length (encode (terminalTokens x))
-some-tokens (literal m (string cs)) = omega arith
-some-tokens (literal m (hex n)) = omega arith
-some-tokens (inclusion m ms) = omega arith
-some-tokens (exclusion m ms) = omega arith
-some-tokens (insertion (string cs)) = omega arith
-some-tokens (insertion (hex n)) = omega arith
-
-made-not : (s : Symbol) (x : Terminal) → kind s ≡ made → s ≡ terminal x → ⊥
-made-not s x e q = let k : made ≡ atom x = sym e ∙ ap kind q in let z : _≡_ {A = ℕ} 0 1 = cc in omega arith
-
--- the code's numbers by an item's kind
-kind-end : (k : ℕ) → 4 < k → kindOf k ≡ 0
-unfolding kindOf
-kind-end k h = rw (ne-eqb k 1 (λ e. omega arith), le-ltb k 5 h)
-
-kind-symbol : (k : ℕ) → (k ≡ 1 → ⊥) → k < 5 → kindOf k ≡ 2
-unfolding kindOf
-kind-symbol k d h = rw (ne-eqb k 1 d, lt-ltb k 5 h)
-
-kind-terminal : (k : ℕ) → k ≡ 1 → kindOf k ≡ 1
-unfolding kindOf
-kind-terminal k e = rw (eq-eqb k 1 e)
-
-goes-terminal : (T : List ℕ) (p k : ℕ) → k ≡ 1 → goesOf T p k ≡ widthBy (drop (tokenAt T p) T)
-unfolding goesOf
-goes-terminal T p k e = rw (eq-eqb k 1 e)
-
-goes-symbol : (T : List ℕ) (p k : ℕ) → (k ≡ 1 → ⊥) → k < 5 → goesOf T p k ≡ targetAt T p
-unfolding goesOf
-goes-symbol T p k d h = rw (ne-eqb k 1 d, lt-ltb k 5 h)
-
-goes-on : (T : List ℕ) (p k : ℕ) → k ≡ 5 → goesOf T p k ≡ p + 2
-unfolding goesOf
-goes-on T p k e = rw e
-
-goes-no : (T : List ℕ) (p k : ℕ) → k ≡ 6 → goesOf T p k ≡ 0
-unfolding goesOf
-goes-no T p k e = rw e
-
-rule-symbol : (T c : List ℕ) (p k : ℕ) → (k ≡ 1 → ⊥) → k < 5 → ruleOf T c p k ≡ ownerAt c (targetAt T p) - 1
-unfolding ruleOf
-rule-symbol T c p k d h = rw (ne-eqb k 1 d, lt-ltb k 5 h)
+use Rattle.prepare.proofs.Numbers.{tab, tab-count, tab-at, Begin, owner-begin, owner-inv, whole, some-tokens, made-not}
+use Rattle.prepare.proofs.Numbers.{kind-end, kind-symbol, kind-terminal, goes-terminal, goes-symbol, goes-on, goes-no}
+use Rattle.prepare.proofs.Numbers.{rule-symbol}
 
 -- the blocks of the items
 module _ {T : List ℕ} {g : Grammar} {size first : ℕ} (r : Ready T g size first) where
@@ -187,7 +101,7 @@ module _ {T : List ℕ} {g : Grammar} {size first : ℕ} (r : Ready T g size fir
       symbol-by (yes l) = r .built .blocks .single x (cov (x + k) l .symbol) s (subst (λ (n : ℕ). Among n (cov (x + k) l .symbol) S) (unique (cov (x + k) l) own) (cov (x + k) l .among)) a
       symbol-by (no l) = absurd (l inside)
 
-      dot-is : behind dots (x + k) ≡ getD (layout (alts g s)) k []
+      dot-is : afterDot dots (x + k) ≡ getD (layout (alts g s)) k []
       unfolding dots dotAt
       dot-is =
           tab-at dotAt 0 size (x + k) [] inside
@@ -206,7 +120,9 @@ module _ {T : List ℕ} {g : Grammar} {size first : ℕ} (r : Ready T g size fir
       }
 
     head-end : headOf g heads end ≡ s
-    head-end = subst (λ (n : ℕ). headOf g heads n ≡ s) (let e : x + (weight (alts g s) - 1) ≡ end = omega (arith, end-is, alts-some (r .built .items .rule x s a)) in e) (head-is (weight (alts g s) - 1) (omega (arith, alts-some (r .built .items .rule x s a))))
+    head-end = subst (λ (n : ℕ). headOf g heads n ≡ s)
+        (let e : x + (weight (alts g s) - 1) ≡ end = omega (arith, end-is, alts-some (r .built .items .rule x s a)) in
+        e) (head-is (weight (alts g s) - 1) (omega (arith, alts-some (r .built .items .rule x s a))))
 
     block-begin : Begin T x
     block-begin = elim (ℕ-discrete x 0) as (λ _. Begin T x) [
@@ -247,20 +163,25 @@ module _ {T : List ℕ} {g : Grammar} {size first : ℕ} (r : Ready T g size fir
         k = p - c .first;
         at = e;
         inner = omega (arith, c .above, c .under);
-        place = subst (λ (n : ℕ). Place T g S (layout (alts g (c .symbol))) n (p - c .first)) (sym e) (alts-place (r .built .items .rule (c .first) (c .symbol) (c .among)) (p - c .first) (omega (arith, layout-count (alts g (c .symbol)), c .above, c .under)));
+        place = subst (λ (n : ℕ). Place T g S (layout (alts g (c .symbol))) n (p - c .first)) (sym e)
+            (alts-place (r .built .items .rule (c .first) (c .symbol) (c .among)) (p - c .first)
+            (omega (arith, layout-count (alts g (c .symbol)), c .above, c .under)));
       }
 
   term-at : (p : ℕ) (x : Terminal) (h : p < size) → Reads T (tokenAt T p) (terminalTokens x) → SoundTerminal x → TerminalAt T (tokenAt T p) x
   term-at p x h d w = record { more = d .more ++ drop 12288 T; stands = whole T 12288 (tokenAt T p) (encode (terminalTokens x)) (d .more) (some-tokens x) (d .stands); sound = w }
 
   data Item (p : ℕ) : Type 0 where
-    it-end : 4 < kindAt T p → behind dots p ≡ [] → Item p
-    it-terminal : (x : Terminal) → kindAt T p ≡ 1 → p + 1 < size → behind dots p ≡ terminal x ∷ behind dots (p + 1) → TerminalAt T (tokenAt T p) x → Item p
-    it-symbol : (s t : Symbol) → (kindAt T p ≡ 1 → ⊥) → kindAt T p < 5 → p + 1 < size → behind dots p ≡ s ∷ behind dots (p + 1) → ((x : Terminal) → s ≡ terminal x → ⊥) → Among (targetAt T p) t S → alts g t ≡ alts g s → Item p
+    it-end : 4 < kindAt T p → afterDot dots p ≡ [] → Item p
+    it-terminal : (x : Terminal) → kindAt T p ≡ 1 → p + 1 < size → afterDot dots p ≡ terminal x ∷ afterDot dots (p + 1) → TerminalAt T (tokenAt T p) x → Item p
+    it-symbol : (s t : Symbol) → (kindAt T p ≡ 1 → ⊥) → kindAt T p < 5 → p + 1 < size → afterDot dots p ≡ s ∷ afterDot dots (p + 1)
+        → ((x : Terminal) → s ≡ terminal x → ⊥) → Among (targetAt T p) t S → alts g t ≡ alts g s → Item p
 
-  item-by : (p : ℕ) (h : p < size) (w : Spot p) (u : Symbol) → p + 1 < size → behind dots p ≡ u ∷ behind dots (p + 1) → Stands T g S p u → Item p
+  item-by : (p : ℕ) (h : p < size) (w : Spot p) (u : Symbol) → p + 1 < size → afterDot dots p ≡ u ∷ afterDot dots (p + 1) → Stands T g S p u → Item p
   item-by p h w u l e (st-terminal {x = x} k d i) = it-terminal x k l e (term-at p x h d (r .sound x i))
-  item-by p h w u l e (st-name {m = m} {n = n} k d a) = it-symbol (nonterminal m n) (nonterminal unmarked n) (λ q. omega (arith, mark-kind (over m (ruleMark (rules g) n)))) (omega (arith, mark-kind (over m (ruleMark (rules g) n)))) l e (λ x q. (let z : _≡_ {A = ℕ} 0 1 = cc in omega arith)) a refl
+  item-by p h w u l e (st-name {m = m} {n = n} k d a) = it-symbol (nonterminal m n) (nonterminal unmarked n)
+      (λ q. omega (arith, mark-kind (over m (ruleMark (rules g) n)))) (omega (arith, mark-kind (over m (ruleMark (rules g) n)))) l e
+      (λ x q. (let z : _≡_ {A = ℕ} 0 1 = cc in omega arith)) a refl
   item-by p h w u l e (st-made {s = s} q k a) = it-symbol s s (λ z. omega arith) (omega arith) l e (λ x y. made-not s x q y) a refl
 
   item : (p : ℕ) → p < size → Item p
@@ -269,14 +190,15 @@ module _ {T : List ℕ} {g : Grammar} {size first : ℕ} (r : Ready T g size fir
       go : (w : Spot p) → w ≡ spot p h → Item p
       go w d = by (w .place)
         where
-          dot-here : behind dots p ≡ getD (layout (alts g (w .s))) (w .k) []
-          dot-here = ap (behind dots) (w .at) ∙ dot-is (w .x) (w .s) (w .among) (w .k) (w .inner)
+          dot-here : afterDot dots p ≡ getD (layout (alts g (w .s))) (w .k) []
+          dot-here = ap (afterDot dots) (w .at) ∙ dot-is (w .x) (w .s) (w .among) (w .k) (w .inner)
 
           by : Place T g S (layout (alts g (w .s))) p (w .k) → Item p
           by (pl-end e l) = it-end l (dot-here ∙ e)
           by (pl-item u e a l) =
               let n : suc (w .k) < weight (alts g (w .s)) = omega (arith, layout-count (alts g (w .s))) in
-              let f : behind dots (p + 1) ≡ getD (layout (alts g (w .s))) (suc (w .k)) [] = ap (behind dots) (let q : p + 1 ≡ w .x + suc (w .k) = omega (arith, w .at) in q) ∙ dot-is (w .x) (w .s) (w .among) (suc (w .k)) n in
+              let f : afterDot dots (p + 1) ≡ getD (layout (alts g (w .s))) (suc (w .k)) [] = ap (afterDot dots)
+              (let q : p + 1 ≡ w .x + suc (w .k) = omega (arith, w .at) in q) ∙ dot-is (w .x) (w .s) (w .among) (suc (w .k)) n in
               item-by p h w u (omega (arith, w .at, inside (w .x) (w .s) (w .among) (suc (w .k)) n)) (dot-here ∙ e ∙ ap (_∷_ u) (sym f)) a
 
   -- what the stage reaches to
@@ -328,16 +250,19 @@ module _ {T : List ℕ} {g : Grammar} {size first : ℕ} (r : Ready T g size fir
       chain = chain-law (r .built .items .rule x s a) linked
 
     rule-at : (p : ℕ) → p < size → (t : Symbol) (a : Among (targetAt T p) t S) → (kindAt T p ≡ 1 → ⊥) → kindAt T p < 5 → ruleAt c p ≡ end (targetAt T p) t a
-    rule-at p h t a d l = w .rule-is p h ∙ rule-symbol T c₁ p (kindAt T p) d l ∙ (let e = first-owner (targetAt T p) t a in let q : ownerAt c₁ (targetAt T p) - 1 ≡ end (targetAt T p) t a = omega arith in q)
+    rule-at p h t a d l = w .rule-is p h ∙ rule-symbol T c₁ p (kindAt T p) d l ∙ (let e = first-owner (targetAt T p) t a in
+        let q : ownerAt c₁ (targetAt T p) - 1 ≡ end (targetAt T p) t a = omega arith in q)
 
     stands-at : (p : ℕ) → p < size → Item p → code.Stands c f g R dots heads p
     stands-at p h (it-end l e) = at-end (w .kind-is p h ∙ kind-end (kindAt T p) l) e
-    stands-at p h (it-terminal x k l e t) = at-terminal x (w .kind-is p h ∙ kind-terminal (kindAt T p) k) (omega (arith, dots-count)) e (w .goes-is p h ∙ goes-terminal T p (kindAt T p) k ∙ width-is t) (λ i m. v .rows p h x k t i m)
+    stands-at p h (it-terminal x k l e t) =
+        at-terminal x (w .kind-is p h ∙ kind-terminal (kindAt T p) k) (omega (arith, dots-count)) e
+        (w .goes-is p h ∙ goes-terminal T p (kindAt T p) k ∙ width-is t) (λ i m. v .rows p h x k t i m)
     stands-at p h (it-symbol s t d l m e n a q) = at-symbol s (w .kind-is p h ∙ kind-symbol (kindAt T p) d l) (omega (arith, dots-count)) e n
         (omega (arith, rule-at p h t a d l, end-below (targetAt T p) t a, dots-count))
         (ap (λ (i : ℕ). alts g (headOf g heads i)) (rule-at p h t a d l) ∙ ap (alts g) (head-end (targetAt T p) t a) ∙ q)
 
-    chains-at : (p : ℕ) → p < size → Item p → code.kindAt c p ≡ 2 → Chain c dots (ruleAt c p) (goesAt c p) (alts g (headOf g heads (ruleAt c p)))
+    chains-at : (p : ℕ) → p < size → Item p → code.nextKind c p ≡ 2 → Chain c dots (ruleAt c p) (goesAt c p) (alts g (headOf g heads (ruleAt c p)))
     chains-at p h (it-end l e) k = absurd (omega (arith, w .kind-is p h ∙ kind-end (kindAt T p) l))
     chains-at p h (it-terminal x j l e t) k = absurd (omega (arith, w .kind-is p h ∙ kind-terminal (kindAt T p) j))
     chains-at p h (it-symbol s t d l m e n a q) k =
@@ -346,14 +271,22 @@ module _ {T : List ℕ} {g : Grammar} {size first : ℕ} (r : Ready T g size fir
     owned-at : (p e : ℕ) → (z : Spot p) → ownerAt c p ≡ e + 1 → Owned c g dots heads p e
     owned-at p e z q =
         let a = z .among in
-        let b = owner-inv T p (end (z .x) (z .s) a) e (sym (ap (ownerAt c) (z .at) ∙ owner-at (z .x) (z .s) a (z .k) (z .inner) ∙ ap (λ (n : ℕ). ownerOf T n (end (z .x) (z .s) a)) (sym (z .at))) ∙ q) in
+        let b = owner-inv T p (end (z .x) (z .s) a) e (sym
+        (ap (ownerAt c) (z .at) ∙ owner-at (z .x) (z .s) a (z .k) (z .inner)
+        ∙ ap (λ (n : ℕ). ownerOf T n (end (z .x) (z .s) a)) (sym (z .at))) ∙ q) in
         let u = alts-begins (r .built .items .rule (z .x) (z .s) a) (z .k) (z .inner) (begin-out (z .x) (z .s) a (z .k) (subst (Begin T) (z .at) (b .0))) in
         subst (Owned c g dots heads p) (sym (b .1)) (record {
           number = u .number;
           exists = rw (head-end (z .x) (z .s) a) (u .exists);
-          is = ap (behind dots) (z .at) ∙ dot-is (z .x) (z .s) a (z .k) (z .inner) ∙ u .is ∙ ap (λ (n : Symbol). getD (alts g n) (u .number) []) (sym (head-end (z .x) (z .s) a));
+          is = ap (afterDot dots) (z .at) ∙ dot-is (z .x) (z .s) a (z .k) (z .inner) ∙ u .is ∙ ap (λ (n : Symbol). getD (alts g n) (u .number) []) (sym (head-end (z .x) (z .s) a));
           inside = omega (arith, end-below (z .x) (z .s) a, dots-count);
-          last = w .kind-is (end (z .x) (z .s) a) (end-below (z .x) (z .s) a) ∙ kind-end (kindAt T (end (z .x) (z .s) a)) (omega (arith, alts-last (r .built .items .rule (z .x) (z .s) a) (end (z .x) (z .s) a) (end-is (z .x) (z .s) a)));
+          last =
+              w .kind-is (end (z .x) (z .s) a) (end-below (z .x) (z .s) a)
+              ∙ kind-end (kindAt T (end (z .x) (z .s) a)) (omega (
+                arith,
+                alts-last (r .built .items .rule (z .x) (z .s) a)
+                    (end (z .x) (z .s) a) (end-is (z .x) (z .s) a),
+              ));
           first = z .x;
           chain = rw (head-end (z .x) (z .s) a) (chain (z .x) (z .s) a);
         })

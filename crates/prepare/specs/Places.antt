@@ -11,7 +11,7 @@ use Rattle.text.specs.Lists.{Text, pick, begins, among}
 use Rattle.category.specs.Category.{classes, inClass, letters, place}
 use Rattle.tree.specs.Tree.{Member, Terminal}
 use Rattle.tree.specs.Tokens.{encode, numbers, memberToken, memberTokens, terminalTokens}
-use Rattle.code.specs.Code.{flag, fitsAt}
+use Rattle.chart.specs.Code.{flag, fitsAt}
 use Rattle.plain.specs.Plain.{fits}
 use Rattle.prepare.specs.Sound.{SoundMember, SoundMembers, SoundTerminal}
 
@@ -58,11 +58,7 @@ pub record TerminalHere (T : List ℕ) (at : ℕ) : Type 0 where
   pub terminal : Terminal
   pub is : TerminalAt T at terminal
 
--- by the numbers of a terminal's token: how many characters it takes, and whether it fits a text, of whose first character
--- `found` says that a member matches it
-unfoldable pub widthBy : List ℕ → ℕ
-widthBy xs = pick (ltb (getD xs 0 0) 8) (getD xs 1 0) (pick (ltb (getD xs 0 0) 20) 1 0)
-
+-- by the numbers of a terminal's token: whether it fits a text, of whose first character `found` says that a member matches it
 unfoldable pub fitsOf : List ℕ → Bool → Text → Bool
 fitsOf xs found t =
     pick (ltb (getD xs 0 0) 8) (begins (take (getD xs 1 0) (drop 2 xs)) t)

@@ -16,9 +16,10 @@ use Rattle.plain.specs.Plain.{fits}
 use Rattle.plain.specs.Plain as plain
 use Rattle.items.specs.Items.{kindAt, targetAt, tokenAt}
 use Rattle.items.specs.Built.{Built}
-use Rattle.code.specs.Code.{ownerAt, fitsAt, flag}
+use Rattle.chart.specs.Code.{ownerAt, fitsAt, flag}
 use Rattle.prepare.specs.Sound.{SoundTerminal}
-use Rattle.prepare.specs.Places.{TerminalHere, TerminalAt, widthBy}
+use Rattle.prepare.specs.Places.{TerminalHere, TerminalAt}
+use Rattle.tokens.specs.Lengths.{widthAt}
 
 -- the first item from p on that ends a rule
 pub record Last (T : List ℕ) (p e : ℕ) : Type 0 where
@@ -30,7 +31,7 @@ pub record Last (T : List ℕ) (p e : ℕ) : Type 0 where
 unfoldable pub lastOf : List ℕ → ℕ → ℕ → ℕ
 lastOf T p last = pick (eqb (kindAt T p) 6) p last
 
--- the owner of an item, if its rule ends at e: an alternative begins at the first item, and behind each end
+-- the owner of an item, if its rule ends at e: an alternative begins at the first item, and after each end
 unfoldable pub ownerOf : List ℕ → ℕ → ℕ → ℕ
 ownerOf T p e = pick (eqb p 0) (e + 1) (pick (ltb (getD T (12285 + 3 * p) 0) 5) 0 (e + 1))
 
@@ -46,12 +47,12 @@ pub record Put (c c' : List ℕ) (p kind goes rule : ℕ) : Type 0 where
   pub rule-is : getD c' (4 * p + 2) 0 ≡ rule
   pub kept : (j : ℕ) → (j < 4 * p) ⊎ (4 * p + 2 < j) → getD c' j 0 ≡ getD c j 0
 
--- by an item's kind k
-unfoldable pub kindOf : ℕ → ℕ
-kindOf k = pick (eqb k 1) 1 (pick (ltb k 5) 2 0)
+-- by an item's kind k: what stands after its dot, where it goes on, the rule of its symbol
+unfoldable pub nextKindOf : ℕ → ℕ
+nextKindOf k = pick (eqb k 1) 1 (pick (ltb k 5) 2 0)
 
 unfoldable pub goesOf : List ℕ → ℕ → ℕ → ℕ
-goesOf T p k = pick (eqb k 1) (widthBy (drop (tokenAt T p) T)) (pick (ltb k 5) (targetAt T p) (pick (eqb k 5) (p + 2) 0))
+goesOf T p k = pick (eqb k 1) (widthAt T (tokenAt T p)) (pick (ltb k 5) (targetAt T p) (pick (eqb k 5) (p + 2) 0))
 
 unfoldable pub ruleOf : List ℕ → List ℕ → ℕ → ℕ → ℕ
 ruleOf T c p k = pick (eqb k 1) 0 (pick (ltb k 5) (ownerAt c (targetAt T p) - 1) 0)
@@ -76,7 +77,7 @@ pub record Item (T : List ℕ) (size : ℕ) (c : List ℕ) (p : ℕ) : Type 0 wh
 
 pub record Codes (T : List ℕ) (size : ℕ) (c c' : List ℕ) : Type 0 where
   pub long : length c' ≡ length c
-  pub kind-is : (p : ℕ) → p < size → getD c' (4 * p) 0 ≡ kindOf (kindAt T p)
+  pub kind-is : (p : ℕ) → p < size → getD c' (4 * p) 0 ≡ nextKindOf (kindAt T p)
   pub goes-is : (p : ℕ) → p < size → getD c' (4 * p + 1) 0 ≡ goesOf T p (kindAt T p)
   pub rule-is : (p : ℕ) → p < size → getD c' (4 * p + 2) 0 ≡ ruleOf T c p (kindAt T p)
   pub owner-is : (p : ℕ) → p < size → ownerAt c' p ≡ ownerAt c p

@@ -5,7 +5,7 @@ use mathlib.Core.Path.{_≡_}
 use Prim.Native.Nat.{ℕ, _<_}
 use Rattle.category.specs.Category.{isClass}
 use Rattle.tree.specs.Tree.{Chars, string, hex, Member, chars, range, class, Terminal, literal, inclusion, exclusion, insertion}
-use Rattle.measure.specs.Proper.{ProperEnd}
+use Rattle.tokens.specs.Proper.{ProperEnd}
 
 abbrev pub SoundChars : Chars → Type 0
 SoundChars (string cs) = Unit {0}

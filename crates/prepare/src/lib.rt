@@ -1,24 +1,19 @@
 // The engine's code of a grammar and a record, from the items of the grammar.
-ghost use mathlib.Core.Bool.{Bool, _&&_};
 ghost use mathlib.Core.List.{List};
 ghost use mathlib.Core.Path.{_≡_};
 ghost use Prim.Native.Nat.{ℕ, _+_, _*_, _-_, _<_, _≤_};
-ghost use lib.Dec.{leb};
 ghost use lib.ListN.{length, take, drop};
 ghost use Rattle.text.specs.Limits.{grammarTable};
 ghost use Rattle.text.specs.Lists.{any, begins, among};
 ghost use Rattle.tree.specs.Tree.{Member, Terminal, Grammar};
 ghost use Rattle.plain.specs.Plain.{isMember, fits as fitting};
 ghost use Rattle.items.specs.Items.{kindAt};
-ghost use Rattle.code.specs.Code.{flag, Coded};
-ghost use Rattle.prepare.specs.Places.{matchOf, MemberHere, MembersAt, MembersHere, TerminalAt, widthBy, Row, Stretch, Beside, Testing, RowReady};
-ghost use Rattle.prepare.specs.Ready.{lastOf, ownerOf, Owners, Put, kindOf, goesOf, ruleOf, Reaches, Item, Codes, RowsReady, ItemRow, Rows, Ready, Given};
+ghost use Rattle.chart.specs.Code.{flag, Coded};
+ghost use Rattle.prepare.specs.Places.{matchOf, MemberHere, MembersAt, MembersHere, TerminalAt, Row, Stretch, Beside, Testing, RowReady};
+ghost use Rattle.prepare.specs.Ready.{lastOf, ownerOf, Owners, Put, nextKindOf, goesOf, ruleOf, Reaches, Item, Codes, RowsReady, ItemRow, Rows, Ready, Given};
 
-fn wide(x: u32) -> usize
-    ensures { λ r. ⌜ r ≡ x ⌝ }
-{
-    x as usize
-}
+// The kind of the item before the item p, for p above 0.
+const KIND_BEFORE: usize = items::ITEM_KIND - items::ITEM_COLUMNS;
 
 fn less_one(x: u32) -> u32
     ensures { λ r. ⌜ r ≡ x - 1 ⌝ }
@@ -71,29 +66,20 @@ fn is_among(table: &[u32], at: usize, n: usize, c: u32) -> bool
     false
 }
 
-fn between(low: u32, c: u32, high: u32) -> bool
-    ensures { λ r. ⌜ r ≡ leb low c && leb c high ⌝ }
-{
-    if c < low {
-        return false;
-    }
-    c <= high
-}
-
 // The member at a place matches a character.
 fn member_matches(table: &[u32], at: usize, c: u32) -> bool
     requires { ⌜ MemberHere (now table) at ⌝ }
     ensures { λ r. ⌜ r ≡ matchOf (drop at (now (table .entry))) c ⌝ }
 {
     let kind = table[at];
-    if kind == 24 {
-        return is_among(table, at + 2, wide(table[at + 1]), c);
+    if kind == tokens::MEMBER_QUOTED {
+        return is_among(table, at + 2, text::wide(table[at + 1]), c);
     }
-    if kind == 25 {
+    if kind == tokens::MEMBER_CODED {
         return c == table[at + 1];
     }
-    if kind == 26 {
-        return between(table[at + 2], c, table[at + 4]);
+    if kind == tokens::MEMBER_RANGE {
+        return text::between(c, table[at + 2], table[at + 4]);
     }
     category::in_class(category::class_of(table[at + 1], table[at + 2]), c)
 }
@@ -104,11 +90,11 @@ fn any_member(table: &[u32], from: usize, c: u32) -> bool
     ensures { λ r. ⌜ ((ms : List Member) → MembersAt (now (table .entry)) from ms → r ≡ any (isMember c) ms) ⌝ }
 {
     let mut at = from;
-    while table[at] != 28 {
+    while table[at] != tokens::SET_END {
         if member_matches(table, at, c) {
             return true;
         }
-        at = measure::token_end(table, at);
+        at = tokens::token_end(table, at);
     }
     false
 }
@@ -119,39 +105,24 @@ fn terminal_fits(table: &[u32], at: usize, text: &[u32], i: usize) -> bool
     ensures { λ r. ⌜ ((x : Terminal) → TerminalAt (now (table .entry)) at x → r ≡ fitting x (drop i (now (text .entry)))) ⌝ }
 {
     let kind = table[at];
-    if kind < 8 {
-        return spells(table, at + 2, wide(table[at + 1]), text, i);
+    if kind < tokens::CODED {
+        return spells(table, at + 2, text::wide(table[at + 1]), text, i);
     }
-    if 20 <= kind {
+    if tokens::RULE_HEAD <= kind {
         return true;
     }
     if text.len() <= i {
         return false;
     }
     let c = text[i];
-    if kind < 12 {
+    if kind < tokens::INCLUDE {
         return table[at + 1] == c;
     }
     let found = any_member(table, at + 1, c);
-    if kind < 16 {
+    if kind < tokens::EXCLUDE {
         return found;
     }
     !found
-}
-
-// How many characters the terminal at a place takes.
-fn terminal_width(table: &[u32], at: usize) -> u32
-    requires { ⌜ (at + 1 < length (now table)) × (length (now table) ≤ grammarTable) ⌝ }
-    ensures { λ r. ⌜ r ≡ widthBy (drop at (now (table .entry))) ⌝ }
-{
-    let kind = table[at];
-    if kind < 8 {
-        return table[at + 1];
-    }
-    if kind < 20 {
-        return 1;
-    }
-    0
 }
 
 // A terminal's tests, at every place of the record.
@@ -171,10 +142,16 @@ fn fit_item(table: &[u32], size: usize, p: usize, text: &[u32], fits: &mut [u8])
     requires { ⌜ RowsReady (now table) size (now text) (now fits) × (p < size) ⌝ }
     ensures { λ _. ⌜ ItemRow (now (table .entry)) (now (text .entry)) (now (fits .entry)) (now (fits .exit)) p ⌝ }
 {
-    if table[12288 + 3 * p] != 1 {
+    if table[items::ITEM_KIND + items::ITEM_COLUMNS * p] != items::TERMINAL {
         return;
     }
-    fit_row(table, wide(table[12290 + 3 * p]), text, fits, p * 121);
+    fit_row(
+        table,
+        text::wide(table[items::ITEM_TOKEN + items::ITEM_COLUMNS * p]),
+        text,
+        fits,
+        p * chart::FITS_ROW,
+    );
 }
 
 fn fit_rows(table: &[u32], size: usize, text: &[u32], fits: &mut [u8])
@@ -188,12 +165,12 @@ fn fit_rows(table: &[u32], size: usize, text: &[u32], fits: &mut [u8])
     }
 }
 
-// The item that ends the rule of the item p, if `last` is that of the item behind it.
+// The item that ends the rule of the item p, if `last` is that of the item after it.
 fn last_at(table: &[u32], p: usize, last: u32) -> u32
     requires { ⌜ (length (now table) ≡ grammarTable) × (p < 512) ⌝ }
     ensures { λ r. ⌜ r ≡ lastOf (now (table .entry)) p last ⌝ }
 {
-    if table[12288 + 3 * p] == 6 {
+    if table[items::ITEM_KIND + items::ITEM_COLUMNS * p] == items::RULE_END {
         return p as u32;
     }
     last
@@ -206,7 +183,7 @@ fn owner_at(table: &[u32], p: usize, last: u32) -> u32
     if p == 0 {
         return last + 1;
     }
-    if table[12285 + 3 * p] < 5 {
+    if table[KIND_BEFORE + items::ITEM_COLUMNS * p] < items::ALTERNATIVE_END {
         return 0;
     }
     last + 1
@@ -222,7 +199,7 @@ fn owners(table: &[u32], size: usize, code: &mut [u32])
     while 0 < p {
         p -= 1;
         last = last_at(table, p, last);
-        code[4 * p + 3] = owner_at(table, p, last);
+        code[chart::CODE_COLUMNS * p + chart::CODE_OWNER] = owner_at(table, p, last);
     }
 }
 
@@ -230,34 +207,37 @@ fn put_item(code: &mut [u32], p: usize, kind: u32, goes: u32, rule: u32)
     requires { ⌜ (4 * p + 3 < length (now code)) × (p < 512) ⌝ }
     ensures { λ _. ⌜ Put (now (code .entry)) (now (code .exit)) p kind goes rule ⌝ }
 {
-    let at = 4 * p;
+    let at = chart::CODE_COLUMNS * p;
     code[at] = kind;
-    code[at + 1] = goes;
-    code[at + 2] = rule;
+    code[at + chart::CODE_GOES] = goes;
+    code[at + chart::CODE_RULE] = rule;
 }
 
 // What an item is to the engine, once the owners are there.
 fn code_item(table: &[u32], size: usize, p: usize, code: &mut [u32])
     requires { ⌜ Item (now table) size (now code) p ⌝ }
-    ensures { λ _. ⌜ Put (now (code .entry)) (now (code .exit)) p (kindOf (kindAt (now (table .entry)) p)) (goesOf (now (table .entry)) p (kindAt (now (table .entry)) p)) (ruleOf (now (table .entry)) (now (code .entry)) p (kindAt (now (table .entry)) p)) ⌝ }
+    ensures { λ _. ⌜ Put (now (code .entry)) (now (code .exit)) p (nextKindOf (kindAt (now (table .entry)) p))
+        (goesOf (now (table .entry)) p (kindAt (now (table .entry)) p))
+        (ruleOf (now (table .entry)) (now (code .entry)) p (kindAt (now (table .entry)) p)) ⌝ }
 {
-    let kind = table[12288 + 3 * p];
-    if kind == 1 {
-        let width = terminal_width(table, wide(table[12290 + 3 * p]));
-        put_item(code, p, 1, width, 0);
+    let kind = table[items::ITEM_KIND + items::ITEM_COLUMNS * p];
+    if kind == items::TERMINAL {
+        let token = text::wide(table[items::ITEM_TOKEN + items::ITEM_COLUMNS * p]);
+        let width = tokens::terminal_width(table, token) as u32;
+        put_item(code, p, chart::AT_TERMINAL, width, 0);
         return;
     }
-    if kind < 5 {
-        let target = table[12289 + 3 * p];
-        let rule = less_one(code[4 * wide(target) + 3]);
-        put_item(code, p, 2, target, rule);
+    if kind < items::ALTERNATIVE_END {
+        let target = table[items::ITEM_TARGET + items::ITEM_COLUMNS * p];
+        let rule = less_one(code[chart::CODE_COLUMNS * text::wide(target) + chart::CODE_OWNER]);
+        put_item(code, p, chart::AT_SYMBOL, target, rule);
         return;
     }
-    if kind == 5 {
-        put_item(code, p, 0, p as u32 + 2, 0);
+    if kind == items::ALTERNATIVE_END {
+        put_item(code, p, chart::AT_END, p as u32 + 2, 0);
         return;
     }
-    put_item(code, p, 0, 0, 0);
+    put_item(code, p, chart::AT_END, 0, 0);
 }
 
 fn code_items(table: &[u32], size: usize, code: &mut [u32])
@@ -286,5 +266,5 @@ pub fn prepare(
     owners(table, size, code);
     code_items(table, size, code);
     fit_rows(table, size, text, fits);
-    wide(less_one(code[4 * root + 3]))
+    text::wide(less_one(code[chart::CODE_COLUMNS * root + chart::CODE_OWNER]))
 }

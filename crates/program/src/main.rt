@@ -4,34 +4,46 @@
 ghost use mathlib.Core.Path.{_≡_};
 ghost use Prim.Native.Nat.{_+_, _≤_, _<_};
 ghost use lib.ListN.{length};
-ghost use Rattle.desk.specs.Desk.{Holds, jobText, Replies};
+ghost use Rattle.cli.specs.Desk.{Holds, jobText, Replies};
 use calls::ixml_convert;
 use libc::STDOUT_FILENO;
+use text::limits;
+
+// A byte more than a file may have tells that it is too long.
+const SEEN_BYTES: usize = limits::FILE_BYTES + 1;
+// The XML and a line end.
+const WRITTEN_BYTES: usize = limits::PROGRAM_BYTES + 1;
 
 // What is written for a job, with the tables and the buffer that the program lends.
-fn convert(grammar: &[u8], input: &[u8], out: &mut [u8; 65537]) -> usize
+fn convert(grammar: &[u8], input: &[u8], out: &mut [u8; WRITTEN_BYTES]) -> usize
     ensures { λ n. ⌜ Holds (jobText (now (grammar .entry)) (now (input .entry))) (now (out .exit)) n ⌝ }
 {
-    let mut main_table = [0u32; 16384];
-    let grammar_table = [0u32; 16384];
-    let mut xml = [0u8; 65536];
+    let mut main_table = [0u32; limits::PROGRAM_TABLE];
+    let grammar_table = [0u32; limits::GRAMMAR_TABLE];
+    let mut xml = [0u8; limits::PROGRAM_BYTES];
     let a = ixml_convert(grammar, input, &mut main_table, &grammar_table, &mut xml);
-    desk::show(a.number, a.length, a.version, &xml, out)
+    cli::show(a.number, a.length, a.version, &xml, out)
 }
 
 // What is written for two files, by what is seen of them: whether each can be read, and its first
 // 4,097 bytes.
-fn reply(first: bool, grammar: &[u8], second: bool, input: &[u8], out: &mut [u8; 65537]) -> usize
+fn reply(
+    first: bool,
+    grammar: &[u8],
+    second: bool,
+    input: &[u8],
+    out: &mut [u8; WRITTEN_BYTES],
+) -> usize
     ensures { λ n. ⌜ Replies first (now (grammar .entry)) second (now (input .entry)) (now (out .exit)) n ⌝ }
 {
     if !first {
-        return desk::show_unreadable(out);
+        return cli::show_unreadable(out);
     }
     if !second {
-        return desk::show_unreadable(out);
+        return cli::show_unreadable(out);
     }
-    if 4096 < input.len() {
-        return desk::show_long(out);
+    if limits::FILE_BYTES < input.len() {
+        return cli::show_long(out);
     }
     convert(grammar, input, out)
 }
@@ -40,13 +52,13 @@ fn reply(first: bool, grammar: &[u8], second: bool, input: &[u8], out: &mut [u8;
 fn run(at: usize)
     requires { ⌜ at + 1 < 18446744073709551616 ⌝ }
 {
-    let mut grammar = [0u8; 4097];
-    let mut input = [0u8; 4097];
-    let first = desk::load(at, &mut grammar);
-    let second = desk::load(at + 1, &mut input);
+    let mut grammar = [0u8; SEEN_BYTES];
+    let mut input = [0u8; SEEN_BYTES];
+    let first = cli::load(at, &mut grammar);
+    let second = cli::load(at + 1, &mut input);
     let g = first.count;
     let r = second.count;
-    let mut out = [0u8; 65537];
+    let mut out = [0u8; WRITTEN_BYTES];
     let n = reply(
         first.readable,
         &grammar[..g],

@@ -8,7 +8,7 @@ use lib.ListN.{length, drop, take, set}
 use lib.Dec.{eqb}
 use Rattle.text.specs.Lists.{Text, chars}
 use Rattle.tree.specs.Tree.{Symbol, group, option, repeat0, repeat1, repeat0sep, repeat1sep, nil, cons, Body, one, also}
-use Rattle.tree.specs.Tokens.{Token, numbers, encode, symbolTokens, alternativeTokens, bodyTokens, close-group, next-alternative, to-option, to-repeat0, to-repeat1, to-repeat0sep, to-repeat1sep}
+use Rattle.tree.specs.Tokens.{Token, encode, symbolTokens, alternativeTokens, bodyTokens, close-group, next-alternative, to-option, to-repeat0, to-repeat1, to-repeat0sep, to-repeat1sep}
 use Rattle.syntax.specs.Syntax.{ch, bar, quote, isMark, namestart}
 use Rattle.syntax.specs.Result.{Result, ok, fail, hd, tl, when, then, map, guard, expect}
 use Rattle.syntax.specs.Spacing.{skip, spaced}
@@ -16,120 +16,18 @@ use Rattle.syntax.specs.Lexical.{separated}
 use Rattle.syntax.specs.Parser.{repeated, suffix, under, starts, single, Alts=, Alt=, Terms=, Term=, Factor=}
 use Rattle.syntax.proofs.Classes.{clash, among-at, at-ch, ch-not}
 use Rattle.syntax.proofs.Steps.{alt-none=, alt-some=, alts-step, terms-step, term-step, factor-plain, factor-step}
-use Rattle.lexical.specs.declared.Step.{Step}
-use Rattle.lexical.specs.declared.Step.the-variants.{At, No}
-use Rattle.lexical.specs.Answers.{Skipped, Room, Read, After-token}
+use Rattle.spacing.specs.declared.Step.{Step}
+use Rattle.spacing.specs.declared.Step.the-variants.{At, No}
+use Rattle.spacing.specs.Answers.{Skipped, Room, Read, After-token}
 use borrow.Author.Tests.{eqb-true}
-use Rattle.lexical.proofs.Places.{tl-at, shorter, in-char}
-use Rattle.lexical.proofs.Table.{one-more}
-use Rattle.lexical.proofs.Parts.{tail, as-part}
-use Rattle.reader.specs.Answers.{symbolCode, alternativeCode, bodyCode, Repeat, alone, by, repeat-rest, repeatCode, Repeat=, After-repeat, After-plain, After-factor, After-term, After-terms, After-alternative}
+use Rattle.spacing.proofs.Places.{tl-at, shorter, in-char}
+use Rattle.spacing.proofs.Table.{one-more}
+use Rattle.spacing.proofs.Parts.{tail, as-part}
+use Rattle.reader.specs.Answers.{symbolCode, alternativeCode, bodyCode, Repeat, alone, by, repeat-rest, repeatCode, Repeat=, After-repeat, After-plain, After-factor, After-term}
+use Rattle.reader.specs.Answers.{After-terms, After-alternative}
+use Rattle.reader.proofs.Loops.{encode-append, map-twice, Context, room-on, Looping, loop-on, falls-on}
 
--- 1. Laws.
-pub encode-append : (xs ys : List Token) → encode (xs ++ ys) ≡ encode xs ++ encode ys
-encode-append [] ys = refl
-encode-append (x ∷ xs) ys = ap (λ (l : List ℕ). numbers x ++ l) (encode-append xs ys) ∙ sym (append-assoc (numbers x) (encode xs) (encode ys))
-
-pub map-same : {A : Type 0} (x : Result A) → map (λ v. v) x ≡ x
-unfolding map
-map-same (ok v u) = refl
-map-same fail = refl
-
-pub map-twice : {A B C : Type 0} (f : B → C) (g : A → B) (x : Result A) → map f (map g x) ≡ map (λ v. f (g v)) x
-unfolding map
-map-twice f g (ok v u) = refl
-map-twice f g fail = refl
-
--- 2. Where a loop is: what it wrote for the characters from p to i, and how the rest leads to the whole.
-pub record Context {A : Type 0} (E : ℕ → Result A → Type 0) (code : A → List ℕ) (p : ℕ) (o : List ℕ) (at i : ℕ) (m : List ℕ) (j : ℕ) : Type 0 where
-  pub wrap : A → A
-  pub written : List ℕ
-  pub leads : (x : Result A) → E i x → E p (map wrap x)
-  pub codes : (v : A) → code (wrap v) ≡ written ++ code v
-  pub wrote : take j m ≡ take at o ++ written
-  pub cells : j + 3 * p ≤ at + 3 * i
-  pub on : p ≤ i
-
-module _ {A : Type 0} (E : ℕ → Result A → Type 0) (code : A → List ℕ) where
-  pub context-start : (p : ℕ) (o : List ℕ) (at : ℕ) → Context E code p o at p o at
-  context-start p o at = record {
-    wrap = λ v. v;
-    written = [];
-    leads = λ x e. rw (map-same x) e;
-    codes = λ v. refl;
-    wrote = sym (append-nil (take at o));
-    cells = omega arith;
-    on = omega arith;
-  }
-
-  pub context-on : {p : ℕ} {o : List ℕ} {at i : ℕ} {m : List ℕ} {j w : ℕ} {n : List ℕ} {k : ℕ} → Context E code p o at i m j → Context E code i m j w n k → Context E code p o at w n k
-  context-on {o = o} {at = at} a b = let c = a .cells in let d = b .cells in let h = a .on in let l = b .on in record {
-    wrap = λ v. a .wrap (b .wrap v);
-    written = a .written ++ b .written;
-    leads = λ x e. rw (sym (map-twice (a .wrap) (b .wrap) x)) (a .leads (map (b .wrap) x) (b .leads x e));
-    codes = λ v. a .codes (b .wrap v) ∙ ap (λ (l : List ℕ). a .written ++ l) (b .codes v) ∙ sym (append-assoc (a .written) (b .written) (code v));
-    wrote = b .wrote ∙ ap (λ (l : List ℕ). l ++ b .written) (a .wrote) ∙ append-assoc (take at o) (a .written) (b .written);
-    cells = omega arith;
-    on = omega arith;
-  }
-
--- room behind what is written
-module _ {s : Text} {p : ℕ} {o : List ℕ} {at : ℕ} (r : Room s p o at) where
-  pub room-on : (w : ℕ) (m : List ℕ) (j : ℕ) → w ≤ length s → j + 3 * p ≤ at + 3 * w → length m ≡ length o → Room s w m j
-  room-on w m j h c l = let a = r .cells in let f = r .few in record { place = h; cells = omega arith; few = omega arith }
-
-  pub room-read : {A : Type 0} {E : Result A → Type 0} {code : A → List ℕ} {lo : ℕ} {m : List ℕ} {q b : ℕ} → Read E code s p lo o at m q b → length m ≡ length o → Room s q m b
-  room-read {m = m} {q = q} {b = b} v l = room-on q m b (v .onward .within) (v .cells) l
-
-  pub room-cell : p < length s → at < length o
-  room-cell h = let a = r .cells in omega arith
-
--- what a loop keeps
-pub record Looping {A : Type 0} (E : ℕ → Result A → Type 0) (code : A → List ℕ) (s : Text) (p : ℕ) (o : List ℕ) (at i : ℕ) (m : List ℕ) (j : ℕ) : Type 0 where
-  pub context : Context E code p o at i m j
-  pub room : Room s i m j
-  pub same : length m ≡ length o
-
-pub loop-start : {A : Type 0} (E : ℕ → Result A → Type 0) (code : A → List ℕ) (s : Text) (p : ℕ) (o : List ℕ) (at : ℕ) → Room s p o at → Looping E code s p o at p o at
-loop-start E code s p o at r = record { context = context-start E code p o at; room = r; same = refl }
-
-module _ {A : Type 0} {E : ℕ → Result A → Type 0} {code : A → List ℕ} {s : Text} {p : ℕ} {o : List ℕ} {at i : ℕ} {m : List ℕ} {j : ℕ} (l : Looping E code s p o at i m j) where
-  pub loop-fail : E i fail → E p fail
-  unfolding map
-  loop-fail e = l .context .leads fail e
-
-  pub loop-read : (lo low : ℕ) (n : List ℕ) (q b : ℕ) → lo ≤ low → Read (E i) code s i low m j n q b → Read (E p) code s p lo o at n q b
-  unfolding map
-  loop-read lo low n q b h a = let c = l .context .cells in let d = a .cells in let k = a .onward in record {
-    value = l .context .wrap (a .value);
-    same = l .context .leads (ok (a .value) (drop q s)) (a .same);
-    onward = record { on = omega arith; within = k .within };
-    wrote = a .wrote ∙ rw (l .context .wrote, l .context .codes (a .value)) (append-assoc (take at o) (l .context .written) (code (a .value)));
-    cells = omega arith;
-  }
-
-  pub loop-on : (w : ℕ) (n : List ℕ) (b : ℕ) → Context E code i m j w n b → w ≤ length s → length n ≡ length m → Looping E code s p o at w n b
-  loop-on w n b c h k = record { context = context-on E code (l .context) c; room = room-on (l .room) w n b h (c .cells) k; same = k ∙ l .same }
-
--- the measure falls where the place goes on
-pub falls-on : (t n p w j k : ℕ) → p < w → w ≤ n → 8 * (n - p) + j ≡ t → k < 8 + j → 8 * (n - w) + k < t
-falls-on t n p w j k h l e i = omega arith
-
-pub falls-at : (t n p w j k : ℕ) → p ≤ w → w ≤ n → 8 * (n - p) + j ≡ t → k < j → 8 * (n - w) + k < t
-falls-at t n p w j k h l e i = omega arith
-
-pub falls-read : (t j k : ℕ) {A : Type 0} {E : Result A → Type 0} {code : A → List ℕ} {s : Text} {p : ℕ} {o : List ℕ} {at : ℕ} {m : List ℕ} {w b : ℕ}
-    → Read E code s p (p + 1) o at m w b → 8 * (length s - p) + j ≡ t → k < 8 + j → 8 * (length s - w) + k < t
-falls-read t j k {s = s} {p = p} {w = w} v e i = let n = v .onward in falls-on t (length s) p w j k (omega arith) (n .within) e i
-
--- a character that was seen is in the text
-pub seen-in : (s : Text) (q c k : ℕ) → c ≡ hd (drop q s) → c ≡ k → k < 0x110000 → q < length s
-seen-in s q c k u e h = in-char s q c u (omega arith)
-
-pub less-one : (d : ℕ) → (d ≡ 0 → ⊥) → d ≡ suc (d - 1)
-less-one d f = omega (arith, f)
-
--- 3. The first character of a factor.
+-- The first character of a factor.
 or-no-left : (a b : Bool) → a || b ≡ false → a ≡ false
 or-no-left true b e = absurd (clash e refl)
 or-no-left false b e = refl
@@ -174,7 +72,7 @@ module _ (c : ℕ) (q : quote c ≡ false) (m : isMark c ≡ false) where
   unfolding starts
   starts-name e f g h k = rw (not-double, not-single, not-at, not-hat, not-minus, e, f, g, h, k)
 
--- 4. Alternatives.
+-- Alternatives.
 pub alts-none : (d : ℕ) (t : Text) → Alt= d t fail → Alts= d t fail
 unfolding then
 alts-none d t f = alts-step d t fail fail f (λ again h. refl)
@@ -209,13 +107,14 @@ module _ (s : Text) (p d : ℕ) (o : List ℕ) (at : ℕ) (m : List ℕ) (q b : 
     }
 
     module _ (n : List ℕ) (w k : ℕ) (y : Read (λ x. skip (drop (q + 1) s) ≡ x) (λ _. 33 ∷ []) s q (q + 1) m b n w k) where
-      pub alts-again : {P : ℕ} {O : List ℕ} {AT : ℕ} → Looping (λ i x. Alts= d (drop i s) x) bodyCode s P O AT p o at → length m ≡ length o → length n ≡ length m → Looping (λ i x. Alts= d (drop i s) x) bodyCode s P O AT w n k
+      pub alts-again : {P : ℕ} {O : List ℕ} {AT : ℕ} → Looping (λ i x. Alts= d (drop i s) x) bodyCode s P O AT p o at → length m ≡ length o
+          → length n ≡ length m → Looping (λ i x. Alts= d (drop i s) x) bodyCode s P O AT w n k
       alts-again l f g = loop-on l w n k (alts-next n w k y) (y .onward .within) (g ∙ f)
 
       pub alts-less : length s - w < length s - p
       alts-less = let g = v .onward in let h = y .onward in omega arith
 
--- 5. An alternative.
+-- An alternative.
 pub alt-nothing : (s : Text) (p d : ℕ) (o : List ℕ) (at : ℕ) → p ≤ length s → starts (hd (drop p s)) ≡ false → Read (λ x. Alt= d (drop p s) x) alternativeCode s p p o at o p at
 alt-nothing s p d o at r e = record {
   value = nil;
@@ -225,7 +124,8 @@ alt-nothing s p d o at r e = record {
   cells = omega arith;
 }
 
-pub alt-of-terms : (s : Text) (p d : ℕ) (o : List ℕ) (at : ℕ) → starts (hd (drop p s)) ≡ true → (r : Step) (o' : List ℕ) → After-terms d s p o at r o' → After-alternative d s p o at r o'
+pub alt-of-terms : (s : Text) (p d : ℕ) (o : List ℕ) (at : ℕ) → starts (hd (drop p s)) ≡ true → (r : Step) (o' : List ℕ)
+    → After-terms d s p o at r o' → After-alternative d s p o at r o'
 alt-of-terms s p d o at e (At x y) o' a = let n = a .onward in record {
   value = a .value;
   same = alt-some= d (drop p s) (ok (a .value) (drop (x .0) s)) e (a .same);
@@ -235,7 +135,7 @@ alt-of-terms s p d o at e (At x y) o' a = let n = a .onward in record {
 }
 alt-of-terms s p d o at e No o' a = alt-some= d (drop p s) fail e a
 
--- 6. Terms.
+-- Terms.
 pub terms-none : (d : ℕ) (t : Text) → Term= d t fail → Terms= d t fail
 unfolding then
 terms-none d t f = terms-step d t fail fail f (λ again h. refl)
@@ -270,13 +170,14 @@ module _ (s : Text) (p d : ℕ) (o : List ℕ) (at : ℕ) (m : List ℕ) (q b : 
     }
 
     module _ (w : ℕ) (y : Skipped s (q + 1) w) where
-      pub terms-again : {P : ℕ} {O : List ℕ} {AT : ℕ} → Looping (λ i x. Terms= d (drop i s) x) alternativeCode s P O AT p o at → length m ≡ length o → Looping (λ i x. Terms= d (drop i s) x) alternativeCode s P O AT w m b
+      pub terms-again : {P : ℕ} {O : List ℕ} {AT : ℕ} → Looping (λ i x. Terms= d (drop i s) x) alternativeCode s P O AT p o at → length m ≡ length o
+          → Looping (λ i x. Terms= d (drop i s) x) alternativeCode s P O AT w m b
       terms-again l f = loop-on l w m b (terms-next w y) (y .onward .within) f
 
       pub terms-less : length s - w < length s - p
       terms-less = let g = v .onward in let h = y .onward in omega arith
 
--- 7. A term.
+-- A term.
 pub term-none : (d : ℕ) (t : Text) → Factor= d t fail → Term= d t fail
 unfolding then
 term-none d t f = term-step d t fail fail f (λ again h. refl)
@@ -294,7 +195,8 @@ rest-law plain sep v f true fail y = refl
 rest-law plain sep v f false x (ok w u) = refl
 rest-law plain sep v f false x fail = refl
 
-rest-of : (k : ℕ) (plain : Symbol → Symbol) (sep : Symbol → Symbol → Symbol) (v : Symbol) (f : Text → Result Symbol) (t : Text) → repeated k plain sep f v t ≡ map (choice plain sep v) (repeat-rest k f t)
+rest-of : (k : ℕ) (plain : Symbol → Symbol) (sep : Symbol → Symbol → Symbol) (v : Symbol) (f : Text → Result Symbol) (t : Text)
+    → repeated k plain sep f v t ≡ map (choice plain sep v) (repeat-rest k f t)
 unfolding repeated repeat-rest spaced
 rest-of k plain sep v f t = rest-law plain sep v f (ch k (hd t)) (skip (tl t)) (skip t)
 
@@ -317,7 +219,8 @@ module _ (s : Text) (p d : ℕ) (o : List ℕ) (at : ℕ) (m : List ℕ) (q b : 
 
   module _ (k : ℕ) (plain : Symbol → Symbol) (sep : Symbol → Symbol → Symbol)
       (at-k : (again : Text → Result Symbol) → suffix again (v .value) (drop q s) ≡ repeated (42 + k) plain sep again (v .value) (tl (drop q s)))
-      (as-plain : (f : Symbol) → symbolCode (plain f) ≡ symbolCode f ++ (35 + k) ∷ []) (as-sep : (f g : Symbol) → symbolCode (sep f g) ≡ symbolCode f ++ (symbolCode g ++ (37 + k) ∷ [])) where
+      (as-plain : (f : Symbol) → symbolCode (plain f) ≡ symbolCode f ++ (35 + k) ∷ [])
+      (as-sep : (f g : Symbol) → symbolCode (sep f g) ≡ symbolCode f ++ (symbolCode g ++ (37 + k) ∷ [])) where
     repeat-code : (x : Repeat) → symbolCode (choice plain sep (v .value) x) ≡ symbolCode (v .value) ++ repeatCode k x
     unfolding choice
     repeat-code alone = as-plain (v .value)
@@ -343,7 +246,7 @@ module _ (s : Text) (p d : ℕ) (o : List ℕ) (at : ℕ) (m : List ℕ) (q b : 
       (λ f. encode-append (symbolTokens f) (to-repeat1 ∷ []))
       (λ f g. encode-append (symbolTokens f) (symbolTokens g ++ to-repeat1sep ∷ []) ∙ ap (λ (l : List ℕ). symbolCode f ++ l) (encode-append (symbolTokens g) (to-repeat1sep ∷ [])))
 
--- 8. What follows a repeated factor.
+-- What follows a repeated factor.
 two-on : (s : Text) (p : ℕ) → tl (tl (drop p s)) ≡ drop (p + 2) s
 two-on s p = let k : p + 1 + 1 ≡ p + 2 = omega arith in ap tl (tl-at s p) ∙ tl-at s (p + 1) ∙ ap (λ (n : ℕ). drop n s) k
 
@@ -398,7 +301,7 @@ module _ (s : Text) (p k d : ℕ) (o : List ℕ) (at : ℕ) where
           cells = omega arith;
         }
 
--- 9. A factor.
+-- A factor.
 pub factor-of-plain : (s : Text) (p d : ℕ) (o : List ℕ) (at : ℕ) → ch 40 (hd (drop p s)) ≡ false → (r : Step) (o' : List ℕ) → After-plain s p o at r o' → After-factor d s p o at r o'
 factor-of-plain s p d o at e (At x y) o' a = record { value = a .value; same = λ n h. factor-plain d (drop p s) e n h ∙ a .same; onward = a .onward; wrote = a .wrote; cells = a .cells }
 factor-of-plain s p d o at e No o' a = λ n h. factor-plain d (drop p s) e n h ∙ a

@@ -1,4 +1,6 @@
+pub mod Closings
 pub mod Terminals
+pub mod Loops
 pub mod Cycle
 pub mod RulesHead
 pub mod RulesLoop

@@ -1,5 +1,4 @@
 -- Words, the prolog, and the whole grammar.
-use mathlib.Core.Bool.{true, false}
 use mathlib.Core.Path.{_≡_, refl, sym, ap, _∙_}
 use mathlib.Core.List.{List, _++_, append-assoc, append-nil}
 use Prim.Native.Nat.{ℕ, suc, _+_, _<_, _≤_}
@@ -7,23 +6,25 @@ use native.Mathlib.Omega.{arith}
 use lib.ListN.{length, drop, take, getD}
 use borrow.Author.Tests.{eq-eqb, ne-eqb}
 use Rattle.text.specs.Lists.{Text, chars, concatMap}
-use Rattle.tree.specs.Tree.{Prolog, no-prolog, version}
+use Rattle.tree.specs.Tree.{no-prolog, version}
 use Rattle.tree.specs.Tokens.{ruleTokens, prologTokens}
 use Rattle.syntax.specs.Syntax.{ch}
 use Rattle.syntax.specs.Result.{Result, ok, fail, hd, map, then, guard, expect}
 use Rattle.syntax.specs.Spacing.{skip, required, spaced}
 use Rattle.syntax.specs.Lexical.{read-word, read-string}
 use Rattle.syntax.specs.Parser.{read-rule, heading, after-heading, read-prolog, grammar, read-ixml, answer, parse, no-parse}
-use Rattle.syntax.proofs.Classes.{ch-end}
-use Rattle.lexical.specs.declared.Step.{Step}
-use Rattle.lexical.specs.declared.Step.the-variants.{At, No}
-use Rattle.lexical.specs.declared.Past.{Past}
-use Rattle.lexical.specs.declared.Past.the-variants.{At as Past-at, No as Past-no}
-use Rattle.lexical.specs.Answers.{Onward, Skipped, Room, Read, countedCode}
-use Rattle.lexical.proofs.Places.{at-char, tl-at, in-text, in-char}
-use Rattle.lexical.proofs.Places as places
-use Rattle.reader.specs.Answers.{Rules=, ruleCode, rulesCode, prologCode, Passed, After-heading, After-word, After-version, After-prolog, Readable, Held}
-use Rattle.reader.proofs.RulesHead.{encode-append, spaced-then}
+use Rattle.spacing.specs.declared.Step.{Step}
+use Rattle.spacing.specs.declared.Step.the-variants.{At, No}
+use Rattle.spacing.specs.declared.Past.{Past}
+use Rattle.spacing.specs.declared.Past.the-variants.{At as Past-at, No as Past-no}
+use Rattle.spacing.specs.Answers.{Onward, Skipped, Room, Read}
+use Rattle.lexical.specs.Answers.{After-name, countedCode}
+use Rattle.spacing.proofs.Places.{at-char, tl-at, in-char}
+use Rattle.spacing.proofs.Places as places
+use Rattle.spacing.proofs.Parts.{as-part}
+use Rattle.reader.specs.Answers.{oneOf, closing, Closed, Rules=, ruleCode, rulesCode, prologCode, Passed, After-heading, After-word, After-version, After-prolog, Readable, Held}
+use Rattle.reader.proofs.Loops.{encode-append}
+use Rattle.reader.proofs.Closings.{one-of-one, closing-same, closing-map, closed-after}
 
 -- where the loop of `word` is: k characters of the word are passed
 pub record Spelled (w s : Text) (p i k : ℕ) : Type 0 where
@@ -66,52 +67,36 @@ module _ (s : Text) (p q : ℕ) (a : Passed (λ x. read-word (chars "ixml") (dro
 
   pub heading-word : (u : ℕ) → Passed (λ x. required (drop q s) ≡ x) s q u → (r : Past) → After-word (chars "version") s u r → After-heading s p r
   unfolding heading then
-  heading-word u b (Past-at w) v = let i = a .onward in let j = b .onward in let k = v .onward in record { same = rw (a .same, b .same) (v .same); onward = record { on = omega arith; within = k .within } }
+  heading-word u b (Past-at w) v =
+      let i = a .onward in let j = b .onward in let k = v .onward in record
+      { same = rw (a .same, b .same) (v .same); onward = record { on = omega arith; within = k .within } }
   heading-word u b Past-no v = rw (a .same, b .same) v
 
 -- the version
-abbrev version-rest : Text → Text → Result Prolog
-version-rest k x = expect (ch 0x2e) x (λ y. spaced (version k) y)
-
 pub version-no-space : (s : Text) (p : ℕ) → required (drop p s) ≡ fail → (t : Text) → after-heading (ok tt (drop p s)) t ≡ fail
 unfolding after-heading then
 version-no-space s p e t = rw e
 
 module _ (s : Text) (p q : ℕ) (a : Passed (λ x. required (drop p s) ≡ x) s p q) where
-  version-of : (x : Result Text) → then (read-string (drop q s)) (λ v w. spaced v w) ≡ x → (t : Text) → after-heading (ok tt (drop p s)) t ≡ then x (λ k y. version-rest k y)
-  unfolding after-heading then
-  version-of x f t = rw (a .same) (spaced-then (read-string (drop q s)) (λ k y. version-rest k y) ∙ ap (λ (z : Result Text). then z (λ k y. version-rest k y)) f)
+  abbrev closes : Result Text → Result Text
+  closes x = then x (λ k u. map (λ _. k) (closing (oneOf 0x2e 0x2e) u))
 
-  pub version-no-string : then (read-string (drop q s)) (λ v w. spaced v w) ≡ fail → (t : Text) → after-heading (ok tt (drop p s)) t ≡ fail
-  unfolding then
-  version-no-string f t = version-of fail f t
+  version-of : (t : Text) → after-heading (ok tt (drop p s)) t ≡ map version (closes (read-string (drop q s)))
+  unfolding after-heading then spaced
+  version-of t = rw (a .same) (closing-map (ch 0x2e) version (read-string (drop q s)) ∙ ap (map version) (closed-same (read-string (drop q s))))
+    where
+      closed-same : (x : Result Text) → then x (λ k u. map (λ _. k) (closing (ch 0x2e) u)) ≡ closes x
+      closed-same (ok k u) = ap (map (λ _. k)) (closing-same (ch 0x2e) (oneOf 0x2e 0x2e) (λ c. sym (one-of-one 0x2e c)) u)
+      closed-same fail = refl
 
-  module _ (o : List ℕ) (at : ℕ) (o' : List ℕ) (x b : ℕ) (v : Read (λ x. then (read-string (drop q s)) (λ v u. spaced v u) ≡ x) (countedCode 40) s q (q + 1) o at o' x b) where
-    version-at : (t : Text) → after-heading (ok tt (drop p s)) t ≡ version-rest (v .value) (drop x s)
-    unfolding then
-    version-at t = version-of (ok (v .value) (drop x s)) (v .same) t
-
-    pub version-no-stop : ch 0x2e (hd (drop x s)) ≡ false → (t : Text) → after-heading (ok tt (drop p s)) t ≡ fail
-    unfolding expect guard
-    version-no-stop e t = version-at t ∙ rw e
-
-    module _ (e : ch 0x2e (hd (drop x s)) ≡ true) where
-      pub version-in : x < length s
-      version-in = in-text s x (ch 0x2e) (ch-end 0x2e refl) e
-
-      pub version-bad : skip (drop (x + 1) s) ≡ fail → (t : Text) → after-heading (ok tt (drop p s)) t ≡ fail
-      unfolding expect guard spaced map
-      version-bad f t = version-at t ∙ rw (e, tl-at s x, f)
-
-      pub version-got : (y : ℕ) → Skipped s (x + 1) y → Read (λ x. (t : Text) → after-heading (ok tt (drop p s)) t ≡ x) prologCode s p p o at o' y b
-      unfolding expect guard spaced map
-      version-got y k = let i = a .onward in let j = v .onward in let d = v .cells in let g = k .onward in record {
-        value = version (v .value);
-        same = λ t. version-at t ∙ rw (e, tl-at s x, k .past);
-        onward = record { on = omega arith; within = g .within };
-        wrote = v .wrote ∙ ap (λ (l : List ℕ). take at o ++ l) (sym (append-nil (countedCode 40 (v .value))));
-        cells = omega arith;
-      }
+  -- the string, the full stop after it, and spacing
+  pub version-closed : (o : List ℕ) (at : ℕ) (r : Step) (o' : List ℕ) (r' : Step)
+      → After-name read-string 40 s q o at r o' → Closed (oneOf 0x2e 0x2e) s r r' → After-version s p o at r' o'
+  version-closed o at r o' r' b g =
+      let i = a .onward in
+      as-part (λ x. closes (read-string (drop q s)) ≡ x) (λ x. (t : Text) → after-heading (ok tt (drop p s)) t ≡ x) (countedCode 40) prologCode
+      version s p p q (q + 1) o at (i .on) (omega arith) (λ k. append-nil (countedCode 40 k)) (λ x e t. version-of t ∙ ap (map version) e) r' o'
+      (closed-after (λ x. read-string (drop q s) ≡ x) (λ x. closes (read-string (drop q s)) ≡ x) (oneOf 0x2e 0x2e) (countedCode 40) s q (q + 1) o at (λ x e. ap closes e) r o' r' b g)
 
 -- the prolog
 pub prolog-none : (s : Text) (p : ℕ) (o : List ℕ) (at : ℕ) → p ≤ length s → heading (drop p s) ≡ fail → Read (λ x. read-prolog (drop p s) ≡ x) prologCode s p p o at o p at
@@ -124,7 +109,8 @@ prolog-none s p o at h e = record {
   cells = omega arith;
 }
 
-pub prolog-some : (s : Text) (p u : ℕ) → Passed (λ x. heading (drop p s) ≡ x) s p u → (o : List ℕ) (at : ℕ) (r : Step) (o' : List ℕ) → After-version s u o at r o' → After-prolog s p o at r o'
+pub prolog-some : (s : Text) (p u : ℕ) → Passed (λ x. heading (drop p s) ≡ x) s p u → (o : List ℕ) (at : ℕ) (r : Step) (o' : List ℕ)
+    → After-version s u o at r o' → After-prolog s p o at r o'
 unfolding read-prolog
 prolog-some s p u a o at (At q b) o' v = let i = a .onward in let j = v .onward in let d = v .cells in record {
   value = v .value;

@@ -8,50 +8,42 @@ use lib.ListN.{length, drop, take, set}
 use Rattle.text.specs.Limits.{levels}
 use Rattle.text.specs.Lists.{Text}
 use Rattle.tree.specs.Tree.{Mark, unmarked, included, attribute, deleted, Body, Rule}
-use Rattle.tree.specs.Tokens.{Token, markNumber, counted, encode, numbers, bodyTokens, rule-end}
+use Rattle.tree.specs.Tokens.{markNumber, counted, numbers, bodyTokens, rule-end}
 use Rattle.syntax.specs.Syntax.{ch, defines}
 use Rattle.syntax.specs.Result.{Result, ok, fail, hd, tl, map, then, guard, expect}
-use Rattle.syntax.specs.Spacing.{skip, spaced}
+use Rattle.syntax.specs.Spacing.{skip}
 use Rattle.syntax.specs.Lexical.{read-mark, read-name}
 use Rattle.syntax.specs.Parser.{Alts=, alts, enough, rule, read-rule}
-use Rattle.syntax.proofs.Classes.{ch-end, defines-end}
-use Rattle.lexical.specs.declared.Step.{Step}
-use Rattle.lexical.specs.Answers.{Onward, Skipped, Spaced, Room, Read, After, After-name, Step-in, countedCode, Mark-read}
-use Rattle.lexical.proofs.Parts.{spaced-after, step-in}
-use Rattle.lexical.proofs.Places.{tl-at, in-text}
-use Rattle.lexical.proofs.Table.{one-more}
-use Rattle.reader.specs.Answers.{Head, read-head, headCode, bodyCode, ruleCode}
-
--- the numbers of tokens and further tokens
-pub encode-append : (xs ys : List Token) → encode (xs ++ ys) ≡ encode xs ++ encode ys
-encode-append [] ys = refl
-encode-append (x ∷ xs) ys = ap (λ (l : List ℕ). numbers x ++ l) (encode-append xs ys) ∙ sym (append-assoc (numbers x) (encode xs) (encode ys))
+use Rattle.syntax.proofs.Classes.{ch-end}
+use Rattle.spacing.specs.declared.Step.{Step}
+use Rattle.spacing.specs.Answers.{Onward, Room, Read, Step-in}
+use Rattle.lexical.specs.Answers.{After-name, countedCode, Mark-read}
+use Rattle.spacing.proofs.Parts.{as-part, step-in}
+use Rattle.spacing.proofs.Places.{tl-at, in-text}
+use Rattle.spacing.proofs.Table.{one-more}
+use Rattle.reader.specs.Answers.{oneOf, closing, Closed, Head, read-head, headCode, After-head, bodyCode, ruleCode}
+use Rattle.reader.proofs.Loops.{encode-append}
+use Rattle.reader.proofs.Closings.{one-of-defines, closing-same, closing-map, closed-after}
 
 -- room at a later place
 pub room-on : (s : Text) (p q : ℕ) (o : List ℕ) (at : ℕ) → Room s p o at → Onward s p q → Room s q o at
 room-on s p q o at r n = let c = r .cells in let d = n .on in record { place = n .within; cells = omega arith; few = r .few }
 
--- room behind what was read
-pub room-after : {A : Type 0} (E : Result A → Type 0) (code : A → List ℕ) (s : Text) (p lo : ℕ) (o : List ℕ) (at : ℕ) (m : List ℕ) (q b : ℕ) → Room s p o at → length m ≡ length o → Read E code s p lo o at m q b → Room s q m b
+-- room after what was read
+pub room-after : {A : Type 0} (E : Result A → Type 0) (code : A → List ℕ) (s : Text) (p lo : ℕ) (o : List ℕ) (at : ℕ) (m : List ℕ) (q b : ℕ)
+    → Room s p o at → length m ≡ length o → Read E code s p lo o at m q b → Room s q m b
 room-after E code s p lo o at m q b r e a = let c = r .cells in let d = a .cells in let f = r .few in record { place = a .onward .within; cells = omega arith; few = omega arith }
 
--- spacing behind what x reads
-pub spaced-then : {A B : Type 0} (x : Result A) (k : A → Text → Result B) → then x (λ v u. then (skip u) (λ _ w. k v w)) ≡ then (then x (λ v u. spaced v u)) k
-unfolding then spaced map
-spaced-then {A} {B} (ok v u) k = go (skip u)
-  where
-    go : (y : Result (Unit {0})) → then y (λ _ w. k v w) ≡ then (map (λ _. v) y) k
-    go (ok _ w) = refl
-    go fail = refl
-spaced-then fail k = refl
-
--- what follows the name of a head
-abbrev head-rest : Mark → Text → Text → Result Head
-head-rest m n w = expect defines w (λ x. map (λ _. record { mark = m; name = n }) (skip x))
-
-head-of : (t u : Text) (m : Mark) → read-mark t ≡ ok m u → (x : Result Text) → then (read-name u) (λ v w. spaced v w) ≡ x → read-head t ≡ then x (λ n w. head-rest m n w)
+-- the head after its mark
+head-of : (t u : Text) (m : Mark) → read-mark t ≡ ok m u → read-head t ≡ map (λ n. record { mark = m; name = n }) (then (read-name u) (λ n w. map (λ _. n) (closing (oneOf 0x3d 0x3a) w)))
 unfolding read-head then
-head-of t u m e x f = rw e (spaced-then (read-name u) (λ n w. head-rest m n w) ∙ ap (λ (z : Result Text). then z (λ n w. head-rest m n w)) f)
+head-of t u m e =
+    rw e (closing-map defines (λ (n : Text). record { mark = m; name = n }) (read-name u))
+    ∙ ap (map (λ (n : Text). record { mark = m; name = n })) (closed-same (read-name u))
+  where
+    closed-same : (x : Result Text) → then x (λ n w. map (λ _. n) (closing defines w)) ≡ then x (λ n w. map (λ _. n) (closing (oneOf 0x3d 0x3a) w))
+    closed-same (ok n w) = ap (map (λ _. n)) (closing-same defines (oneOf 0x3d 0x3a) (λ c. sym (one-of-defines c)) w)
+    closed-same fail = refl
 
 pub head-no-mark : (s : Text) (p : ℕ) → read-mark (drop p s) ≡ fail → read-head (drop p s) ≡ fail
 unfolding read-head then
@@ -67,38 +59,26 @@ module _ (s : Text) (p q m : ℕ) (v : Mark-read s p q m) where
   pub mark-few : m < 4
   mark-few = rw (v .number) (mark-small (v .value))
 
-  pub head-no-name : then (read-name (drop q s)) (λ v u. spaced v u) ≡ fail → read-head (drop p s) ≡ fail
-  unfolding then
-  head-no-name e = head-of (drop p s) (drop q s) (v .value) (v .same) fail e
+  -- the name, `=` or `:` after it, and spacing
+  pub head-closed : (k : ℕ) → k ≡ 20 + m → (o : List ℕ) (at : ℕ) (r : Step) (o' : List ℕ) (r' : Step)
+      → After-name read-name k s q o at r o' → Closed (oneOf 0x3d 0x3a) s r r' → After-head s p o at r' o'
+  head-closed k z o at r o' r' a g =
+      let i = v .onward in
+      as-part (λ x. then (read-name (drop q s)) (λ n u. map (λ _. n) (closing (oneOf 0x3d 0x3a) u)) ≡ x) (λ x. read-head (drop p s) ≡ x) (countedCode k) headCode
+      (λ n. record { mark = v .value; name = n }) s p (p + 1) q (q + 1) o at (i .on) (omega arith)
+      (λ n. ap (λ (j : ℕ). j ∷ counted n) (sym (z ∙ ap (λ (j : ℕ). 20 + j) (v .number)))) made r' o'
+      (closed-after (λ x. read-name (drop q s) ≡ x) (λ x. then (read-name (drop q s)) (λ n u. map (λ _. n) (closing (oneOf 0x3d 0x3a) u)) ≡ x) (oneOf 0x3d 0x3a)
+      (countedCode k) s q (q + 1) o at (λ x e. ap (λ (y : Result Text). then y (λ n u. map (λ _. n) (closing (oneOf 0x3d 0x3a) u))) e) r o' r' a g)
+    where
+      made : (x : Result Text) → then (read-name (drop q s)) (λ n u. map (λ _. n) (closing (oneOf 0x3d 0x3a) u)) ≡ x
+          → read-head (drop p s) ≡ map (λ n. record { mark = v .value; name = n }) x
+      made x e = head-of (drop p s) (drop q s) (v .value) (v .same) ∙ ap (map (λ n. record { mark = v .value; name = n })) e
 
-  module _ (k : ℕ) (z : k ≡ 20 + m) (o : List ℕ) (at : ℕ) (o' : List ℕ) (w b : ℕ) (a : Read (λ x. then (read-name (drop q s)) (λ v u. spaced v u) ≡ x) (countedCode k) s q (q + 1) o at o' w b) where
-    head-at : read-head (drop p s) ≡ head-rest (v .value) (a .value) (drop w s)
-    unfolding then
-    head-at = head-of (drop p s) (drop q s) (v .value) (v .same) (ok (a .value) (drop w s)) (a .same)
+-- what follows the name of a head
+abbrev head-rest : Mark → Text → Text → Result Head
+head-rest m n w = expect defines w (λ x. map (λ _. record { mark = m; name = n }) (skip x))
 
-    pub head-no-defines : defines (hd (drop w s)) ≡ false → read-head (drop p s) ≡ fail
-    unfolding expect guard
-    head-no-defines e = head-at ∙ rw e
-
-    module _ (e : defines (hd (drop w s)) ≡ true) where
-      pub head-in : w < length s
-      head-in = in-text s w defines defines-end e
-
-      pub head-bad : skip (drop (w + 1) s) ≡ fail → read-head (drop p s) ≡ fail
-      unfolding expect guard map
-      head-bad f = head-at ∙ rw (e, tl-at s w, f)
-
-      pub head-got : (y : ℕ) → Skipped s (w + 1) y → Read (λ x. read-head (drop p s) ≡ x) headCode s p (p + 1) o at o' y b
-      unfolding expect guard map
-      head-got y k' = let i = v .onward in let j = a .onward in let d = a .cells in let g = k' .onward in record {
-        value = record { mark = v .value; name = a .value };
-        same = head-at ∙ rw (e, tl-at s w, k' .past);
-        onward = record { on = omega arith; within = g .within };
-        wrote = a .wrote ∙ ap (λ (n : ℕ). take at o ++ n ∷ counted (a .value)) (z ∙ ap (λ (n : ℕ). 20 + n) (v .number));
-        cells = omega arith;
-      }
-
--- a rule behind its head
+-- a rule after its head
 abbrev rule-rest : Head → Text → Result Rule
 rule-rest h y = then (alts (enough y) levels y) (λ b z. expect (ch 0x2e) z (λ q. ok (rule (h .mark) (h .name) b) q))
 
@@ -112,7 +92,8 @@ rule-of t = from-mark (read-mark t)
     from-skip m n fail = refl
 
     from-test : (m : Mark) (n : Text) (w : Text) (b : Bool)
-        → guard b (λ _. then (skip (tl w)) (λ _ y. rule-rest (record { mark = m; name = n }) y)) ≡ then (guard b (λ _. map (λ _. record { mark = m; name = n }) (skip (tl w)))) (λ h y. rule-rest h y)
+        → guard b (λ _. then (skip (tl w)) (λ _ y. rule-rest (record { mark = m; name = n }) y)) ≡ then
+        (guard b (λ _. map (λ _. record { mark = m; name = n }) (skip (tl w)))) (λ h y. rule-rest h y)
     from-test m n w true = from-skip m n (skip (tl w))
     from-test m n w false = refl
 
@@ -122,12 +103,16 @@ rule-of t = from-mark (read-mark t)
     from-space m n fail = refl
 
     from-name : (m : Mark) (x : Result Text)
-        → then x (λ n v. then (skip v) (λ _ w. expect defines w (λ x. then (skip x) (λ _ y. rule-rest (record { mark = m; name = n }) y)))) ≡ then (then x (λ n v. then (skip v) (λ _ w. head-rest m n w))) (λ h y. rule-rest h y)
+        → then x (λ n v. then (skip v) (λ _ w. expect defines w (λ x. then (skip x) (λ _ y. rule-rest (record { mark = m; name = n }) y)))) ≡ then
+        (then x (λ n v. then (skip v) (λ _ w. head-rest m n w))) (λ h y. rule-rest h y)
     from-name m (ok n v) = from-space m n (skip v)
     from-name m fail = refl
 
     from-mark : (x : Result Mark)
-        → then x (λ m u. then (read-name u) (λ n v. then (skip v) (λ _ w. expect defines w (λ x. then (skip x) (λ _ y. rule-rest (record { mark = m; name = n }) y))))) ≡ then (then x (λ m u. then (read-name u) (λ n v. then (skip v) (λ _ w. head-rest m n w)))) (λ h y. rule-rest h y)
+        → then x
+        (λ m u. then (read-name u)
+        (λ n v. then (skip v) (λ _ w. expect defines w (λ x. then (skip x) (λ _ y. rule-rest (record { mark = m; name = n }) y)))))
+        ≡ then (then x (λ m u. then (read-name u) (λ n v. then (skip v) (λ _ w. head-rest m n w)))) (λ h y. rule-rest h y)
     from-mark (ok m u) = from-name m (read-name u)
     from-mark fail = refl
 
@@ -175,12 +160,6 @@ module _ (s : Text) (p : ℕ) (o : List ℕ) (at : ℕ) (r : Room s p o at) (o1 
             ∙ ap (λ (l : List ℕ). take at o ++ l) (sym (rule-code (a .value) (v .value)));
         cells = omega arith;
       }
-
--- spacing behind a word that f reads
-pub spaced-word : (f : Text → Result Text) (k : ℕ) (s : Text) (p : ℕ) (o : List ℕ) (at : ℕ) (r : Step) (o' : List ℕ) (r' : Step)
-    → After-name f k s p o at r o' → Spaced s r r' → After (λ x. then (f (drop p s)) (λ v u. spaced v u) ≡ x) (countedCode k) s p (p + 1) o at r' o'
-spaced-word f k s p o at r o' r' a g =
-    spaced-after (λ x. f (drop p s) ≡ x) (λ x. then (f (drop p s)) (λ v u. spaced v u) ≡ x) (countedCode k) s p (p + 1) o at (λ x e. ap (λ (z : Result Text). then z (λ v u. spaced v u)) e) r o' r' a g
 
 pub word-in : (f : Text → Result Text) (k : ℕ) (s : Text) (p : ℕ) (o : List ℕ) (at : ℕ) (r : Step) (o' : List ℕ) → After-name f k s p o at r o' → Step-in s r
 word-in f k s p o at r o' a = step-in (λ x. f (drop p s) ≡ x) (countedCode k) s p (p + 1) o at r o' a

@@ -13,11 +13,11 @@ use Rattle.syntax.specs.Spacing.{skip, spacing, required}
 use Rattle.syntax.specs.Parser.{read-rule, at-end, rules}
 use Rattle.syntax.proofs.Holds.{Holds, some}
 use Rattle.syntax.proofs.SpacingLaws as laws
-use Rattle.lexical.specs.Answers.{Onward, Skipped, Room, Read}
-use Rattle.lexical.proofs.Places.{at-char}
-use Rattle.lexical.proofs.Places as places
+use Rattle.spacing.specs.Answers.{Onward, Skipped, Room, Read}
+use Rattle.spacing.proofs.Places.{at-char}
+use Rattle.spacing.proofs.Places as places
 use Rattle.reader.specs.Answers.{Rules=, ruleCode, rulesCode, Passed}
-use Rattle.reader.proofs.RulesHead.{encode-append}
+use Rattle.reader.proofs.Loops.{encode-append}
 
 -- Spacing moves exactly where its first character is a spacing's.
 stops-of : {t u : Text} → Holds {A = Unit {0}} (λ _ u. laws.Skipped t u) (ok (tt {0}) u) → spacing (hd u) ≡ false
@@ -28,7 +28,10 @@ same-rest e = cc
 
 module _ (s : Text) (p q : ℕ) (k : Skipped s p q) where
   pub unmoved : q ≡ p → spacing (hd (drop p s)) ≡ false
-  unmoved e = subst (λ (x : ℕ). spacing (hd (drop x s)) ≡ false) e (stops-of {t = drop p s} {u = drop q s} (subst (λ (x : Result (Unit {0})). Holds (λ _ u. laws.Skipped (drop p s) u) x) (k .past) (laws.sound-s (drop p s))))
+  unmoved e =
+      subst (λ (x : ℕ). spacing (hd (drop x s)) ≡ false) e
+      (stops-of {t = drop p s} {u = drop q s}
+      (subst (λ (x : Result (Unit {0})). Holds (λ _ u. laws.Skipped (drop p s) u) x) (k .past) (laws.sound-s (drop p s))))
 
   pub moved : (q ≡ p → ⊥) → spacing (hd (drop p s)) ≡ true
   moved g = go (spacing (hd (drop p s))) refl
@@ -165,10 +168,14 @@ module _ (s : Text) (p : ℕ) (o : List ℕ) (at : ℕ) (o' : List ℕ) (i j : �
           front = c .front ++ a .value ∷ [];
           back = λ x r. subst (λ (z : Result (List Rule)). Rules= (drop p s) z) (map-more (c .front) (a .value) x) (c .back (map (_∷_ (a .value)) x) (on x r));
           onward = record { on = omega arith; within = x .within };
-          wrote = a .wrote ∙ rw (c .wrote) (append-assoc (take at o) (rulesCode (c .front)) (ruleCode (a .value))) ∙ ap (λ (l : List ℕ). take at o ++ l) (sym (rules-code (c .front) (a .value)));
+          wrote = a .wrote ∙ rw (c .wrote) (append-assoc (take at o) (rulesCode (c .front)) (ruleCode (a .value)))
+              ∙ ap (λ (l : List ℕ). take at o ++ l) (sym (rules-code (c .front) (a .value)));
           cells = omega arith;
           len = l ∙ c .len;
         }
           where
             on : (x : Result (List Rule)) → Rules= (drop w s) x → Rules= (drop i s) (map (_∷_ (a .value)) x)
-            on x r = rules-on (drop i s) _ _ past (moved s i u k g) (a .value) (drop w s) (subst (λ (t : Text). read-rule t ≡ ok (a .value) (drop w s)) (at-char s u inside) (a .same)) (let d = k .onward in let x = a .onward in let y = inside in simp length-drop (omega arith)) x r
+            on x r =
+                rules-on (drop i s) _ _ past (moved s i u k g) (a .value) (drop w s)
+                (subst (λ (t : Text). read-rule t ≡ ok (a .value) (drop w s)) (at-char s u inside) (a .same))
+                (let d = k .onward in let x = a .onward in let y = inside in simp length-drop (omega arith)) x r

@@ -1,27 +1,29 @@
 -- Factors that are no brackets: each answer from the answers of what it calls.
-use mathlib.Core.Bool.{Bool, true, false}
+use mathlib.Core.Bool.{true, false}
 use mathlib.Core.Path.{_≡_, refl, sym, ap, _∙_}
-use mathlib.Core.List.{List, [], _∷_, _++_, append-nil}
-use Prim.Native.Nat.{ℕ, _+_, _*_, _<_, _≤_}
+use mathlib.Core.List.{List, _∷_, _++_, append-nil}
+use Prim.Native.Nat.{ℕ, _+_, _<_, _≤_}
 use native.Mathlib.Omega.{arith}
 use lib.ListN.{length, drop, take}
 use Rattle.text.specs.Lists.{Text}
 use Rattle.tree.specs.Tree.{Mark, unmarked, included, attribute, deleted, Terminal, Chars, string, hex, Member, literal, inclusion, exclusion, insertion, terminal, nonterminal}
 use Rattle.tree.specs.Tokens.{markNumber, memberTokens, encode}
 use Rattle.syntax.specs.Syntax.{ch, namestart}
-use Rattle.syntax.specs.Result.{Result, ok, fail, hd, tl, map, when, then, guard, expect}
+use Rattle.syntax.specs.Result.{Result, ok, fail, hd, map, when, then, guard, expect}
 use Rattle.syntax.specs.Spacing.{skip, spaced}
 use Rattle.syntax.specs.Lexical.{read-chars, read-set, read-mark, read-use}
 use Rattle.syntax.specs.Parser.{read-terminal, read-insertion, read-nonterminal, tmark, marked, read-plain}
 use Rattle.syntax.proofs.Classes.{ch-end}
-use Rattle.lexical.specs.declared.Step.{Step}
-use Rattle.lexical.specs.declared.Step.the-variants.{At, No}
-use Rattle.lexical.specs.Answers.{Onward, Skipped, Room, Step-in, Spaced, After, charsCode, countedCode, After-chars-token, After-name, After-set, Mark-read}
-use Rattle.lexical.proofs.Places.{tl-at, in-text}
-use Rattle.lexical.proofs.Parts.{as-part, step-in}
+use Rattle.spacing.specs.declared.Step.{Step}
+use Rattle.spacing.specs.declared.Step.the-variants.{At, No}
+use Rattle.spacing.specs.Answers.{Skipped, Room, Step-in, Spaced, After}
+use Rattle.lexical.specs.Answers.{charsCode, countedCode, After-chars-token, After-name, Mark-read}
+use Rattle.sets.specs.Answers.{After-set}
+use Rattle.spacing.proofs.Places.{tl-at, in-text}
+use Rattle.spacing.proofs.Parts.{as-part, step-in}
 use Rattle.reader.specs.Answers.{terminalCode, symbolCode, After-terminal, After-insertion, After-plain}
 
--- a value made from what is read, with spacing behind
+-- a value made from what is read, with spacing after
 spaced-as : {A C : Type 0} (E : Result A → Type 0) (F : Result C → Type 0) (codeA : A → List ℕ) (codeC : C → List ℕ) (g : A → C) (s : Text) (p lo n low : ℕ) (o : List ℕ) (at : ℕ)
     → p ≤ n → lo ≤ low → ((v : A) → codeC (g v) ≡ codeA v) → ((x : Result A) → E x → F (then x (λ v u. spaced (g v) u)))
     → (r : Step) (o' : List ℕ) (r' : Step) → After E codeA s n low o at r o' → Spaced s r r' → After F codeC s p lo o at r' o'
@@ -70,7 +72,8 @@ module _ (s : Text) (p : ℕ) (h : ch 0x2b (hd (drop p s)) ≡ true) where
 
     pub inserted : (o : List ℕ) (at : ℕ) (t : Step) (o' : List ℕ) (t' : Step) → After-chars-token 29 30 s q o at t o' → Spaced s t t' → After-insertion s p o at t' o'
     inserted o at = let n = y .onward in
-        spaced-as (λ x. read-chars (drop q s) ≡ x) (λ x. read-insertion (drop p s) ≡ x) (charsCode 29 30) terminalCode insertion s p (p + 1) q (q + 1) o at (omega arith) (omega arith) insertion-code by-insertion
+        spaced-as (λ x. read-chars (drop q s) ≡ x) (λ x. read-insertion (drop p s) ≡ x) (charsCode 29 30) terminalCode insertion s p (p + 1) q
+        (q + 1) o at (omega arith) (omega arith) insertion-code by-insertion
 
 -- a terminal
 module _ (s : Text) (p m : ℕ) (o : List ℕ) (at : ℕ) where
@@ -85,7 +88,8 @@ module _ (s : Text) (p m : ℕ) (o : List ℕ) (at : ℕ) where
 
     pub excluded : (q : ℕ) → Skipped s (p + 1) q → (t : Step) (o' : List ℕ) → After-set (16 + m) s q o at t o' → After-terminal m s p o at t o'
     excluded q y t o' a mark e = let n = y .onward in
-        as-part (λ x. read-set (drop q s) ≡ x) (λ x. read-terminal mark (drop p s) ≡ x) (λ ms. (16 + m) ∷ encode (memberTokens ms)) terminalCode (exclusion mark) s p (p + 1) q (q + 1) o at (omega arith) (omega arith)
+        as-part (λ x. read-set (drop q s) ≡ x) (λ x. read-terminal mark (drop p s) ≡ x) (λ ms. (16 + m) ∷ encode (memberTokens ms)) terminalCode
+        (exclusion mark) s p (p + 1) q (q + 1) o at (omega arith) (omega arith)
         (λ ms. ap (λ (k : ℕ). (16 + k) ∷ encode (memberTokens ms)) (sym e)) (by-exclude q y mark) t o' a
 
   module _ (h : ch 0x7e (hd (drop p s)) ≡ false) where
@@ -95,7 +99,8 @@ module _ (s : Text) (p m : ℕ) (o : List ℕ) (at : ℕ) where
 
     pub included-set : ch 0x5b (hd (drop p s)) ≡ true → (t : Step) (o' : List ℕ) → After-set (12 + m) s p o at t o' → After-terminal m s p o at t o'
     included-set i t o' a mark e =
-        as-part (λ x. read-set (drop p s) ≡ x) (λ x. read-terminal mark (drop p s) ≡ x) (λ ms. (12 + m) ∷ encode (memberTokens ms)) terminalCode (inclusion mark) s p (p + 1) p (p + 1) o at (omega arith) (omega arith)
+        as-part (λ x. read-set (drop p s) ≡ x) (λ x. read-terminal mark (drop p s) ≡ x) (λ ms. (12 + m) ∷ encode (memberTokens ms)) terminalCode
+        (inclusion mark) s p (p + 1) p (p + 1) o at (omega arith) (omega arith)
         (λ ms. ap (λ (k : ℕ). (12 + k) ∷ encode (memberTokens ms)) (sym e)) (by-include i mark) t o' a
 
     by-literal : ch 0x5b (hd (drop p s)) ≡ false → (mark : Mark) (x : Result Chars) → read-chars (drop p s) ≡ x → read-terminal mark (drop p s) ≡ then x (λ k u. spaced (literal mark k) u)
@@ -106,15 +111,19 @@ module _ (s : Text) (p m : ℕ) (o : List ℕ) (at : ℕ) where
     literal-code mark e (string cs) = rw e (ap (λ (l : List ℕ). (4 + markNumber mark) ∷ length cs ∷ l) (append-nil cs))
     literal-code mark e (hex n) = rw e
 
-    pub a-literal : ch 0x5b (hd (drop p s)) ≡ false → (t : Step) (o' : List ℕ) (t' : Step) → After-chars-token (4 + m) (8 + m) s p o at t o' → Spaced s t t' → After-terminal m s p o at t' o'
+    pub a-literal : ch 0x5b (hd (drop p s)) ≡ false → (t : Step) (o' : List ℕ) (t' : Step) → After-chars-token (4 + m) (8 + m) s p o at t o'
+        → Spaced s t t' → After-terminal m s p o at t' o'
     a-literal i t o' t' a z mark e =
-        spaced-as (λ x. read-chars (drop p s) ≡ x) (λ x. read-terminal mark (drop p s) ≡ x) (charsCode (4 + m) (8 + m)) terminalCode (literal mark) s p (p + 1) p (p + 1) o at (omega arith) (omega arith)
+        spaced-as (λ x. read-chars (drop p s) ≡ x) (λ x. read-terminal mark (drop p s) ≡ x) (charsCode (4 + m) (8 + m)) terminalCode
+        (literal mark) s p (p + 1) p (p + 1) o at (omega arith) (omega arith)
         (literal-code mark e) (by-literal i mark) t o' t' a z
 
 -- a factor that is no bracket
 pub plain-insertion : (s : Text) (p : ℕ) (o : List ℕ) (at : ℕ) → ch 0x2b (hd (drop p s)) ≡ true → (t : Step) (o' : List ℕ) → After-insertion s p o at t o' → After-plain s p o at t o'
 unfolding read-plain when
-plain-insertion s p o at h = as-part (λ x. read-insertion (drop p s) ≡ x) (λ x. read-plain (drop p s) ≡ x) terminalCode symbolCode terminal s p (p + 1) p (p + 1) o at (omega arith) (omega arith) (λ v. refl) (λ x f. rw (h, f))
+plain-insertion s p o at h =
+    as-part (λ x. read-insertion (drop p s) ≡ x) (λ x. read-plain (drop p s) ≡ x) terminalCode symbolCode terminal s p (p + 1) p (p + 1) o at
+    (omega arith) (omega arith) (λ v. refl) (λ x f. rw (h, f))
 
 pub plain-bad : (s : Text) (p : ℕ) → ch 0x2b (hd (drop p s)) ≡ false → read-mark (drop p s) ≡ fail → read-plain (drop p s) ≡ fail
 unfolding read-plain when then
@@ -158,7 +167,8 @@ module _ (s : Text) (p : ℕ) (h : ch 0x2b (hd (drop p s)) ≡ false) (q m : ℕ
 
     pub plain-name : (o : List ℕ) (at : ℕ) (t : Step) (o' : List ℕ) (t' : Step) → After-name read-use m s q o at t o' → Spaced s t t' → After-plain s p o at t' o'
     plain-name o at = let n = y .onward in
-        spaced-as (λ x. read-use (drop q s) ≡ x) (λ x. read-plain (drop p s) ≡ x) (countedCode m) symbolCode (nonterminal (y .value)) s p (p + 1) q (q + 1) o at (omega arith) (omega arith) name-code by-name
+        spaced-as (λ x. read-use (drop q s) ≡ x) (λ x. read-plain (drop p s) ≡ x) (countedCode m) symbolCode (nonterminal (y .value)) s p (p + 1)
+        q (q + 1) o at (omega arith) (omega arith) name-code by-name
 
   module _ (i : namestart (hd (drop q s)) ≡ false) where
     pub plain-attribute : m ≡ 2 → read-plain (drop p s) ≡ fail
@@ -171,4 +181,5 @@ module _ (s : Text) (p : ℕ) (h : ch 0x2b (hd (drop p s)) ≡ false) (q m : ℕ
 
     pub plain-terminal : (m ≡ 2 → ⊥) → (o : List ℕ) (at : ℕ) (t : Step) (o' : List ℕ) → After-terminal m s q o at t o' → After-plain s p o at t o'
     plain-terminal e o at t o' a = let n = y .onward in
-        as-part (λ x. read-terminal (y .value) (drop q s) ≡ x) (λ x. read-plain (drop p s) ≡ x) terminalCode symbolCode terminal s p (p + 1) q (q + 1) o at (omega arith) (omega arith) (λ v. refl) (by-terminal e) t o' (a (y .value) (y .number))
+        as-part (λ x. read-terminal (y .value) (drop q s) ≡ x) (λ x. read-plain (drop p s) ≡ x) terminalCode symbolCode terminal s p (p + 1) q
+        (q + 1) o at (omega arith) (omega arith) (λ v. refl) (by-terminal e) t o' (a (y .value) (y .number))

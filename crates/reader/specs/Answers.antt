@@ -1,8 +1,8 @@
 -- What each answer of the reader says: the definition's answer on the text from the place on, and what the table holds.
-use mathlib.Core.Bool.{Bool, true, false}
+use mathlib.Core.Bool.{Bool, _||_}
 use mathlib.Core.Path.{_≡_}
 use mathlib.Core.List.{List, [], _∷_, _++_}
-use Prim.Native.Nat.{ℕ, suc, _+_, _*_, _<_, _≤_}
+use Prim.Native.Nat.{ℕ, _+_, _*_, _<_, _≤_}
 use lib.ListN.{length, take, drop}
 use Rattle.text.specs.Lists.{Text, concatMap}
 use Rattle.tree.specs.Tree.{Mark, Terminal, Symbol, Alternative, Body, Rule, Prolog, Grammar}
@@ -13,10 +13,11 @@ use Rattle.syntax.specs.Spacing.{skip, required}
 use Rattle.syntax.specs.Lexical.{read-word, read-mark, read-name}
 use Rattle.syntax.specs.Parser.{read-terminal, read-insertion, read-plain, Alts=, Alt=, Terms=, Term=, Factor=, read-rule, rules, heading, after-heading, read-prolog, parse, parsed, no-parse}
 use Rattle.syntax.proofs.Steps.{Agrees}
-use Rattle.lexical.specs.Answers.{Onward, After}
-use Rattle.lexical.specs.declared.Past.{Past}
-use Rattle.lexical.specs.declared.Past.the-variants.{At as Past-at, No as Past-no}
-use Rattle.lexical.specs.declared.Step.{Step}
+use Rattle.spacing.specs.Answers.{Onward, After}
+use Rattle.spacing.specs.declared.Past.{Past}
+use Rattle.spacing.specs.declared.Past.the-variants.{At as Past-at, No as Past-no}
+use Rattle.spacing.specs.declared.Step.{Step}
+use Rattle.spacing.specs.declared.Step.the-variants.{At, No}
 use Rattle.reader.specs.declared.Reading.{Reading}
 use Rattle.reader.specs.declared.Reading.the-variants.{Grammar as A-grammar, NoGrammar}
 
@@ -42,7 +43,7 @@ rulesCode rs = encode (concatMap ruleTokens rs)
 abbrev pub prologCode : Prolog → List ℕ
 prologCode p = encode (prologTokens p)
 
--- a terminal behind a mark whose number is m
+-- a terminal after a mark whose number is m
 abbrev pub After-terminal : ℕ → Text → ℕ → List ℕ → ℕ → Step → List ℕ → Type 0
 After-terminal m s p o at r o' = (mark : Mark) → m ≡ markNumber mark → After (λ x. read-terminal mark (drop p s) ≡ x) terminalCode s p (p + 1) o at r o'
 
@@ -73,7 +74,7 @@ pub data Repeat : Type 0 where
   alone : Repeat
   by : Symbol → Repeat
 
--- behind a repetition character k, which may stand twice; f reads a separator
+-- after a repetition character k, which may stand twice; f reads a separator
 unfoldable pub repeat-rest : ℕ → (Text → Result Symbol) → Text → Result Repeat
 repeat-rest k f t = when (ch k (hd t)) (λ _. then (skip (tl t)) (λ _ u. map by (f u))) (λ _. map (λ _. alone) (skip t))
 
@@ -87,6 +88,24 @@ Repeat= k d t x = (again : Text → Result Symbol) → Agrees (Factor= d) t agai
 
 abbrev pub After-repeat : ℕ → ℕ → Text → ℕ → List ℕ → ℕ → Step → List ℕ → Type 0
 After-repeat k d s p o at r o' = After (λ x. Repeat= k d (drop p s) x) (repeatCode k) s p (p + 1) o at r o'
+
+-- A word and what closes it: spacing, a character that passes a test, and spacing.
+unfoldable pub oneOf : ℕ → ℕ → ℕ → Bool
+oneOf a b c = ch a c || ch b c
+
+unfoldable pub closing : (ℕ → Bool) → Text → Result (Unit {0})
+closing f t = then (skip t) (λ _ w. expect f w (λ x. skip x))
+
+pub record Shut (f : ℕ → Bool) (s : Text) (q b y e : ℕ) : Type 0 where
+  pub onward : Onward s q y
+  pub past : closing f (drop q s) ≡ ok tt (drop y s)
+  pub cell : e ≡ b
+
+abbrev pub Closed : (ℕ → Bool) → Text → Step → Step → Type 0
+Closed f s (At q b) (At y e) = Shut f s (q .0) (b .0) (y .0) (e .0)
+Closed f s (At q b) No = closing f (drop (q .0) s) ≡ fail
+Closed f s No (At y e) = ⊥
+Closed f s No No = Unit {0}
 
 -- Rules.
 pub record Head : Type 0 where

@@ -1,39 +1,75 @@
 // The reader of a grammar text: its tree as tokens in a table, or that the text is none.
+mod closing;
+mod prolog;
+
+use crate::closing::closed;
+use crate::prolog::prolog;
 use decode::CharPlace;
-use lexical::Cell;
 use lexical::Marked;
-use lexical::Past;
-use lexical::Step;
+use spacing::CLOSE_ROUND;
+use spacing::COLON;
+use spacing::COMMA;
+use spacing::Cell;
+use spacing::EQUALS;
+use spacing::FULL_STOP;
+use spacing::NUMBER_SIGN;
+use spacing::OPEN_ROUND;
+use spacing::OPEN_SQUARE;
+use spacing::PLUS;
+use spacing::Past;
+use spacing::QUESTION_MARK;
+use spacing::STAR;
+use spacing::Step;
+use spacing::TILDE;
 ghost use mathlib.Core.Path.{_≡_};
 ghost use mathlib.Core.Bool.{true};
 ghost use Prim.Native.Nat.{ℕ, _+_, _<_, _≤_};
 ghost use lib.ListN.{length, drop};
-ghost use Rattle.syntax.specs.Syntax.{ch, defines as Defines};
+ghost use Rattle.syntax.specs.Syntax.{ch};
 ghost use Rattle.syntax.specs.Result.{hd};
 ghost use Rattle.syntax.specs.Parser.{starts as Starts};
-ghost use Rattle.lexical.specs.Answers.{Room};
-ghost use Rattle.reader.specs.Answers.{After-terminal, After-insertion, After-plain, After-alternatives, After-alternative, After-terms, After-term, After-repeat, After-factor, After-head, After-rule, After-rules, After-word, After-required, After-heading, After-version, After-prolog, Readable, Read-as};
+ghost use Rattle.spacing.specs.Answers.{Room};
+ghost use Rattle.reader.specs.Answers.{After-terminal, After-insertion, After-plain, After-alternatives, After-alternative, After-terms, After-term, After-repeat};
+ghost use Rattle.reader.specs.Answers.{After-factor, After-head, After-rule, After-rules, Readable, Read-as};
 
-// How deep round brackets may nest.
-const LEVELS: usize = 16;
+// The number of a mark is added to the kinds of names, terminals and heads of rules, and 1 to those of repetitions where it is `+`.
+use text::limits;
+use tokens::ATTRIBUTE;
+use tokens::CLOSE_GROUP;
+use tokens::CODED;
+use tokens::EXCLUDE;
+use tokens::INCLUDE;
+use tokens::INSERT_CODED;
+use tokens::INSERT_QUOTED;
+use tokens::NEXT_ALTERNATIVE;
+use tokens::OPEN_GROUP;
+use tokens::QUOTED;
+use tokens::RULE_END;
+use tokens::RULE_HEAD;
+use tokens::TO_OPTION;
+use tokens::TO_REPEAT0;
+use tokens::TO_REPEAT0SEP;
 
-// A terminal behind its mark, whose number is m.
+// A terminal after its mark, whose number is m.
 fn terminal(text: &[u32], p: CharPlace, m: u32, out: &mut [u32], at: Cell) -> Step
     requires { ⌜ Room (now text) (p .0) (now out) (at .0) × (m < 4) ⌝ }
     ensures { λ r. ⌜ After-terminal m (now (text .entry)) (p .0) (now (out .entry)) (at .0) r (now (out .exit)) ⌝ }
 {
-    let c = lexical::peek(text, p);
-    if c == 0x7e {
+    let c = spacing::peek(text, p);
+    if c == TILDE {
         let i = p.0;
-        let Past::At(q) = lexical::skip(text, CharPlace(i + 1)) else {
+        let Past::At(q) = spacing::skip(text, CharPlace(i + 1)) else {
             return Step::No;
         };
-        return lexical::set(text, q, 16 + m, out, at);
+        return sets::set(text, q, EXCLUDE + m, out, at);
     }
-    if c == 0x5b {
-        return lexical::set(text, p, 12 + m, out, at);
+    if c == OPEN_SQUARE {
+        return sets::set(text, p, INCLUDE + m, out, at);
     }
-    lexical::spaced(text, lexical::read_chars(text, p, 4 + m, 8 + m, out, at))
+    spacing::spaced(
+        text,
+        lexical::read_chars(text, p, QUOTED + m, CODED + m, out, at),
+    )
 }
 
 // An insertion, at its plus.
@@ -42,10 +78,13 @@ fn insertion(text: &[u32], p: CharPlace, out: &mut [u32], at: Cell) -> Step
     ensures { λ r. ⌜ After-insertion (now (text .entry)) (p .0) (now (out .entry)) (at .0) r (now (out .exit)) ⌝ }
 {
     let i = p.0;
-    let Past::At(q) = lexical::skip(text, CharPlace(i + 1)) else {
+    let Past::At(q) = spacing::skip(text, CharPlace(i + 1)) else {
         return Step::No;
     };
-    lexical::spaced(text, lexical::read_chars(text, q, 29, 30, out, at))
+    spacing::spaced(
+        text,
+        lexical::read_chars(text, q, INSERT_QUOTED, INSERT_CODED, out, at),
+    )
 }
 
 // A factor that is no bracket.
@@ -53,16 +92,16 @@ fn plain_factor(text: &[u32], p: CharPlace, out: &mut [u32], at: Cell) -> Step
     requires { ⌜ Room (now text) (p .0) (now out) (at .0) ⌝ }
     ensures { λ r. ⌜ After-plain (now (text .entry)) (p .0) (now (out .entry)) (at .0) r (now (out .exit)) ⌝ }
 {
-    if lexical::peek(text, p) == 0x2b {
+    if spacing::peek(text, p) == PLUS {
         return insertion(text, p, out, at);
     }
     let Marked::At(q, m) = lexical::mark(text, p) else {
         return Step::No;
     };
-    if lexical::name_start(lexical::peek(text, q)) {
-        return lexical::spaced(text, lexical::used_name(text, q, m, out, at));
+    if spacing::name_start(spacing::peek(text, q)) {
+        return spacing::spaced(text, lexical::used_name(text, q, m, out, at));
     }
-    if m == 2 {
+    if m == ATTRIBUTE {
         return Step::No;
     }
     terminal(text, q, m, out, at)
@@ -72,28 +111,28 @@ fn plain_factor(text: &[u32], p: CharPlace, out: &mut [u32], at: Cell) -> Step
 fn starts(c: u32) -> bool
     ensures { λ r. ⌜ r ≡ Starts c ⌝ }
 {
-    if lexical::quote(c) {
+    if spacing::quote(c) {
         return true;
     }
-    if lexical::is_mark(c) {
+    if spacing::is_mark(c) {
         return true;
     }
-    if c == 0x28 {
+    if c == OPEN_ROUND {
         return true;
     }
-    if c == 0x2b {
+    if c == PLUS {
         return true;
     }
-    if c == 0x23 {
+    if c == NUMBER_SIGN {
         return true;
     }
-    if c == 0x5b {
+    if c == OPEN_SQUARE {
         return true;
     }
-    if c == 0x7e {
+    if c == TILDE {
         return true;
     }
-    lexical::name_start(c)
+    spacing::name_start(c)
 }
 
 // Alternatives with bars between them; d brackets more may open.
@@ -107,10 +146,10 @@ fn alternatives(text: &[u32], p: CharPlace, d: usize, out: &mut [u32], at: Cell)
         let Step::At(q, b) = alternative(text, CharPlace(i), d, out, Cell(j)) else {
             return Step::No;
         };
-        if !lexical::bar(lexical::peek(text, q)) {
+        if !spacing::bar(spacing::peek(text, q)) {
             return Step::At(q, b);
         }
-        let Step::At(w, e) = lexical::token(text, q, 33, out, b) else {
+        let Step::At(w, e) = spacing::token(text, q, NEXT_ALTERNATIVE, out, b) else {
             return Step::No;
         };
         i = w.0;
@@ -123,7 +162,7 @@ fn alternative(text: &[u32], p: CharPlace, d: usize, out: &mut [u32], at: Cell) 
     requires { ⌜ Room (now text) (p .0) (now out) (at .0) ⌝ }
     ensures { λ r. ⌜ After-alternative d (now (text .entry)) (p .0) (now (out .entry)) (at .0) r (now (out .exit)) ⌝ }
 {
-    if starts(lexical::peek(text, p)) {
+    if starts(spacing::peek(text, p)) {
         return terms(text, p, d, out, at);
     }
     Step::At(p, at)
@@ -140,11 +179,11 @@ fn terms(text: &[u32], p: CharPlace, d: usize, out: &mut [u32], at: Cell) -> Ste
         let Step::At(q, b) = term(text, CharPlace(i), d, out, Cell(j)) else {
             return Step::No;
         };
-        if lexical::peek(text, q) != 0x2c {
+        if spacing::peek(text, q) != COMMA {
             return Step::At(q, b);
         }
         let n = q.0;
-        let Past::At(w) = lexical::skip(text, CharPlace(n + 1)) else {
+        let Past::At(w) = spacing::skip(text, CharPlace(n + 1)) else {
             return Step::No;
         };
         i = w.0;
@@ -160,14 +199,14 @@ fn term(text: &[u32], p: CharPlace, d: usize, out: &mut [u32], at: Cell) -> Step
     let Step::At(q, b) = factor(text, p, d, out, at) else {
         return Step::No;
     };
-    let c = lexical::peek(text, q);
-    if c == 0x3f {
-        return lexical::token(text, q, 34, out, b);
+    let c = spacing::peek(text, q);
+    if c == QUESTION_MARK {
+        return spacing::token(text, q, TO_OPTION, out, b);
     }
-    if c == 0x2a {
+    if c == STAR {
         return repeated(text, q, 0, d, out, b);
     }
-    if c == 0x2b {
+    if c == PLUS {
         return repeated(text, q, 1, d, out, b);
     }
     Step::At(q, b)
@@ -179,17 +218,17 @@ fn repeated(text: &[u32], p: CharPlace, k: u32, d: usize, out: &mut [u32], at: C
     ensures { λ r. ⌜ After-repeat k d (now (text .entry)) (p .0) (now (out .entry)) (at .0) r (now (out .exit)) ⌝ }
 {
     let i = p.0;
-    if lexical::peek(text, CharPlace(i + 1)) != 0x2a + k {
-        return lexical::token(text, p, 35 + k, out, at);
+    if spacing::peek(text, CharPlace(i + 1)) != STAR + k {
+        return spacing::token(text, p, TO_REPEAT0 + k, out, at);
     }
-    let Past::At(w) = lexical::skip(text, CharPlace(i + 2)) else {
+    let Past::At(w) = spacing::skip(text, CharPlace(i + 2)) else {
         return Step::No;
     };
     let Step::At(q, b) = factor(text, w, d, out, at) else {
         return Step::No;
     };
     let j = b.0;
-    out[j] = 37 + k;
+    out[j] = TO_REPEAT0SEP + k;
     Step::At(q, Cell(j + 1))
 }
 
@@ -198,31 +237,22 @@ fn factor(text: &[u32], p: CharPlace, d: usize, out: &mut [u32], at: Cell) -> St
     requires { ⌜ Room (now text) (p .0) (now out) (at .0) ⌝ }
     ensures { λ r. ⌜ After-factor d (now (text .entry)) (p .0) (now (out .entry)) (at .0) r (now (out .exit)) ⌝ }
 {
-    if lexical::peek(text, p) != 0x28 {
+    if spacing::peek(text, p) != OPEN_ROUND {
         return plain_factor(text, p, out, at);
     }
     if d == 0 {
         return Step::No;
     }
-    let Step::At(w, e) = lexical::token(text, p, 31, out, at) else {
+    let Step::At(w, e) = spacing::token(text, p, OPEN_GROUP, out, at) else {
         return Step::No;
     };
     let Step::At(q, b) = alternatives(text, w, d - 1, out, e) else {
         return Step::No;
     };
-    if lexical::peek(text, q) != 0x29 {
+    if spacing::peek(text, q) != CLOSE_ROUND {
         return Step::No;
     }
-    lexical::token(text, q, 32, out, b)
-}
-
-fn defines(c: u32) -> bool
-    ensures { λ r. ⌜ r ≡ Defines c ⌝ }
-{
-    if c == 0x3d {
-        return true;
-    }
-    c == 0x3a
+    spacing::token(text, q, CLOSE_GROUP, out, b)
 }
 
 // The head of a rule: mark, name, `=` or `:`, and spacing.
@@ -233,17 +263,8 @@ fn rule_head(text: &[u32], p: CharPlace, out: &mut [u32], at: Cell) -> Step
     let Marked::At(q, m) = lexical::mark(text, p) else {
         return Step::No;
     };
-    let Step::At(w, b) = lexical::spaced(text, lexical::name(text, q, 20 + m, out, at)) else {
-        return Step::No;
-    };
-    if !defines(lexical::peek(text, w)) {
-        return Step::No;
-    }
-    let n = w.0;
-    let Past::At(y) = lexical::skip(text, CharPlace(n + 1)) else {
-        return Step::No;
-    };
-    Step::At(y, b)
+    let name = lexical::name(text, q, RULE_HEAD + m, out, at);
+    closed(text, name, EQUALS, COLON)
 }
 
 // A rule, to its full stop.
@@ -254,19 +275,19 @@ fn rule(text: &[u32], p: CharPlace, out: &mut [u32], at: Cell) -> Step
     let Step::At(y, b) = rule_head(text, p, out, at) else {
         return Step::No;
     };
-    let Step::At(z, e) = alternatives(text, y, LEVELS, out, b) else {
+    let Step::At(z, e) = alternatives(text, y, limits::LEVELS, out, b) else {
         return Step::No;
     };
-    if lexical::peek(text, z) != 0x2e {
+    if spacing::peek(text, z) != FULL_STOP {
         return Step::No;
     }
     let n = z.0;
     let j = e.0;
-    out[j] = 39;
+    out[j] = RULE_END;
     Step::At(CharPlace(n + 1), Cell(j + 1))
 }
 
-// Further rules, each behind spacing, to the end of the text.
+// Further rules, each after spacing, to the end of the text.
 fn rules(text: &[u32], p: CharPlace, out: &mut [u32], at: Cell) -> Step
     requires { ⌜ Room (now text) (p .0) (now out) (at .0) ⌝ }
     ensures { λ r. ⌜ After-rules (now (text .entry)) (p .0) (now (out .entry)) (at .0) r (now (out .exit)) ⌝ }
@@ -274,7 +295,7 @@ fn rules(text: &[u32], p: CharPlace, out: &mut [u32], at: Cell) -> Step
     let mut i = p.0;
     let mut j = at.0;
     loop {
-        let Past::At(u) = lexical::skip(text, CharPlace(i)) else {
+        let Past::At(u) = spacing::skip(text, CharPlace(i)) else {
             return Step::No;
         };
         let n = u.0;
@@ -292,84 +313,6 @@ fn rules(text: &[u32], p: CharPlace, out: &mut [u32], at: Cell) -> Step
     }
 }
 
-// Past a word.
-fn word(text: &[u32], p: CharPlace, w: &[u8]) -> Past
-    requires { ⌜ p .0 ≤ length (now text) ⌝ }
-    ensures { λ r. ⌜ After-word (now (w .entry)) (now (text .entry)) (p .0) r ⌝ }
-{
-    let mut i = p.0;
-    let mut k = 0;
-    while k < w.len() {
-        if lexical::peek(text, CharPlace(i)) != w[k] as u32 {
-            return Past::No;
-        }
-        i += 1;
-        k += 1;
-    }
-    Past::At(CharPlace(i))
-}
-
-// Past spacing that must be there.
-fn required(text: &[u32], p: CharPlace) -> Past
-    requires { ⌜ p .0 ≤ length (now text) ⌝ }
-    ensures { λ r. ⌜ After-required (now (text .entry)) (p .0) r ⌝ }
-{
-    let i = p.0;
-    let Past::At(q) = lexical::skip(text, p) else {
-        return Past::No;
-    };
-    if q.0 == i {
-        return Past::No;
-    }
-    Past::At(q)
-}
-
-// Past `ixml`, spacing and `version`: no rule begins so.
-fn heading(text: &[u32], p: CharPlace) -> Past
-    requires { ⌜ p .0 ≤ length (now text) ⌝ }
-    ensures { λ r. ⌜ After-heading (now (text .entry)) (p .0) r ⌝ }
-{
-    let Past::At(u) = word(text, p, b"ixml") else {
-        return Past::No;
-    };
-    let Past::At(v) = required(text, u) else {
-        return Past::No;
-    };
-    word(text, v, b"version")
-}
-
-// The version, behind the heading.
-fn version(text: &[u32], p: CharPlace, out: &mut [u32], at: Cell) -> Step
-    requires { ⌜ Room (now text) (p .0) (now out) (at .0) ⌝ }
-    ensures { λ r. ⌜ After-version (now (text .entry)) (p .0) (now (out .entry)) (at .0) r (now (out .exit)) ⌝ }
-{
-    let Past::At(v) = required(text, p) else {
-        return Step::No;
-    };
-    let Step::At(x, b) = lexical::spaced(text, lexical::read_string(text, v, 40, out, at)) else {
-        return Step::No;
-    };
-    if lexical::peek(text, x) != 0x2e {
-        return Step::No;
-    }
-    let n = x.0;
-    let Past::At(y) = lexical::skip(text, CharPlace(n + 1)) else {
-        return Step::No;
-    };
-    Step::At(y, b)
-}
-
-// A prolog, or nothing.
-fn prolog(text: &[u32], p: CharPlace, out: &mut [u32], at: Cell) -> Step
-    requires { ⌜ Room (now text) (p .0) (now out) (at .0) ⌝ }
-    ensures { λ r. ⌜ After-prolog (now (text .entry)) (p .0) (now (out .entry)) (at .0) r (now (out .exit)) ⌝ }
-{
-    let Past::At(u) = heading(text, p) else {
-        return Step::At(p, at);
-    };
-    version(text, u, out, at)
-}
-
 pub enum Reading {
     Grammar(Cell),
     NoGrammar,
@@ -380,7 +323,7 @@ pub fn read_grammar(text: &[u32], out: &mut [u32]) -> Reading
     requires { ⌜ Readable (now text) (now out) ⌝ }
     ensures { λ r. ⌜ Read-as (now (text .entry)) r (now (out .exit)) ⌝ }
 {
-    let Past::At(u) = lexical::skip(text, CharPlace(0)) else {
+    let Past::At(u) = spacing::skip(text, CharPlace(0)) else {
         return Reading::NoGrammar;
     };
     let Step::At(v, a) = prolog(text, u, out, Cell(0)) else {

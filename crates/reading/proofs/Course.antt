@@ -9,7 +9,7 @@ use native.Mathlib.Decide.{decLt}
 use native.Mathlib.Omega.{arith}
 use lib.Dec.{T}
 use lib.ListN.{length, getD, take, length-append, length-take}
-use Rattle.text.specs.Limits.{readingNumbers}
+use Rattle.text.specs.Limits.{mostSize, readingNumbers}
 use Rattle.tree.specs.Tree.{Symbol, terminal}
 use Rattle.plain.specs.Plain.{width}
 use Rattle.derive.specs.Derive.{Row, end, leaf, node, alternative, Derives, d-end, Derivation, leftParse, root}
@@ -21,33 +21,34 @@ use Rattle.derive.proofs.Picks.{PickedRow, chosen-exists}
 use Rattle.derive.proofs.Another.{second-is}
 use Rattle.derive.proofs.Twice.{Twice, tw-skip, tw-place, tw-number, tw-inside, tw-later, OtherNumber, OtherPlace, twice-is}
 use Rattle.derive.proofs.Parts.{end-row, leaf-row}
-use Rattle.code.specs.Code.{kindAt, behind}
-use Rattle.code.specs.Heights.{none}
-use Rattle.code.proofs.Says.{rule-least, rule-some}
-use Rattle.reading.specs.declared.Spot.{Spot}
+use Rattle.chart.specs.Code.{nextKind, afterDot}
+use Rattle.chart.specs.Heights.{none}
+use Rattle.chart.proofs.Says.{rule-least, rule-some}
+use Rattle.reading.specs.declared.Cursor.{Cursor}
 use Rattle.reading.specs.Walk.{heightAt, popped, skipped, full, wrote, Stepped, at-end, at-terminal, at-symbol, CanEnter, CanStep, Over}
 use Rattle.reading.specs.Answer.{Finished, IsReading, IsLong}
 use Rattle.reading.proofs.Tables.{position, short, root-rule, end-at, terminal-at}
-use Rattle.reading.proofs.Dues.{Due, parses, AnyTwice, Stacked, st-none, st-more}
+use Rattle.reading.proofs.PendingRows.{Pending, parses, AnyTwice, Stacked, st-none, st-more}
 use Rattle.reading.proofs.Walks.{Ambiguous, Going, Before, Stage, goes-on, too-long, enter-stage, some-low}
-use Rattle.reading.proofs.Crossing.{can-cross, cross-before}
+use Rattle.reading.proofs.Descents.{can-descend, descend-before}
 
 -- What falls: numbers left, then rows on the stack, then what is left of the code.
-abbrev pub weight : ℕ → Spot → ℕ
-weight size h = ((readingNumbers + 1 - h .at) * (readingNumbers + 1) + h .deep) * (size + 1) + (size - h .p)
+abbrev pub weight : ℕ → Cursor → ℕ
+weight size h = ((readingNumbers + 1 - h .at) * (readingNumbers + 1) + h .depth) * (size + 1) + (size - h .p)
 
 falls-by : (a b size p q : ℕ) → a < b → a * (size + 1) + (size - p) < b * (size + 1) + (size - q)
 falls-by a b size p q h = omega (arith, mul-le-mul-right (size + 1) h, suc-mul a (size + 1))
 
-step-less : {c M : List ℕ} {n : ℕ} {out out' st st' : List ℕ} {h r : Spot} (size : ℕ) → h .p < size → h .deep < h .at → h .at ≤ readingNumbers → (kindAt c (h .p) ≡ 0 → 0 < h .deep) → Stepped c M n out out' st st' h r → weight size r < weight size h
+step-less : {c M : List ℕ} {n : ℕ} {out out' st st' : List ℕ} {h r : Cursor} (size : ℕ) → h .p < size → h .depth < h .at → h .at ≤ readingNumbers
+    → (nextKind c (h .p) ≡ 0 → 0 < h .depth) → Stepped c M n out out' st st' h r → weight size r < weight size h
 step-less {st = st} {h = h} {r = r} size i d m f (at-end z o s e) =
-    let p : 0 < h .deep = f z in
-    rw e (falls-by ((readingNumbers + 1 - h .at) * (readingNumbers + 1) + (h .deep - 1)) ((readingNumbers + 1 - h .at) * (readingNumbers + 1) + h .deep) size (popped st h .p) (h .p) (omega arith))
+    let p : 0 < h .depth = f z in
+    rw e (falls-by ((readingNumbers + 1 - h .at) * (readingNumbers + 1) + (h .depth - 1)) ((readingNumbers + 1 - h .at) * (readingNumbers + 1) + h .depth) size (popped st h .p) (h .p) (omega arith))
 step-less {h = h} size i d m f (at-terminal z o s e) = rw e (omega arith)
 step-less {h = h} {r = r} size i d m f (at-symbol x y l b u v s (full z o p a g)) =
-    falls-by ((readingNumbers + 1 - r .at) * (readingNumbers + 1) + r .deep) ((readingNumbers + 1 - h .at) * (readingNumbers + 1) + h .deep) size (r .p) (h .p) (omega arith)
+    falls-by ((readingNumbers + 1 - r .at) * (readingNumbers + 1) + r .depth) ((readingNumbers + 1 - h .at) * (readingNumbers + 1) + h .depth) size (r .p) (h .p) (omega arith)
 step-less {h = h} size i d m f (at-symbol x y l b u v s (wrote a b' q w w' o e)) =
-    rw e (falls-by ((readingNumbers + 1 - (h .at + 1)) * (readingNumbers + 1) + (h .deep + 1)) ((readingNumbers + 1 - h .at) * (readingNumbers + 1) + h .deep) size (a .place) (h .p) (omega arith))
+    rw e (falls-by ((readingNumbers + 1 - (h .at + 1)) * (readingNumbers + 1) + (h .depth + 1)) ((readingNumbers + 1 - h .at) * (readingNumbers + 1) + h .depth) size (a .place) (h .p) (omega arith))
 
 -- another way is met nowhere in an empty row
 end-once : {A B C : Type 0} → (B → ⊥) → A ⊎ (B ⊎ C) → A ⊎ C
@@ -63,7 +64,7 @@ only : {A : Type 0} → A ⊎ ⊥ → A
 only (inl x) = x
 only (inr x) = absurd x
 
-module _ {c M : List ℕ} {size n top first : ℕ} (t : Finished c M size n top first) where
+module _ {c M : List ℕ} {n top first : ℕ} (t : Finished c M n top first) where
   no-twice : {row : Row} {ss : List Symbol} {i j : ℕ} → row ≡ end → ss ≡ [] → Twice (t .g) (t .r) row ss i j → ⊥
   no-twice e f (tw-skip w) = let z : _≡_ {A = ℕ} 0 1 = cc in omega arith
   no-twice e f (tw-place w) = let z : _≡_ {A = ℕ} 0 1 = cc in omega arith
@@ -72,39 +73,40 @@ module _ {c M : List ℕ} {size n top first : ℕ} (t : Finished c M size n top 
   no-twice e f (tw-later w) = let z : _≡_ {A = ℕ} 0 1 = cc in omega arith
 
   -- a row that has come to its end
-  pub record Finish (out st : List ℕ) (h : Spot) (w : Row) (dues : List (Due t)) : Type 0 where
+  pub record Finish (out st : List ℕ) (h : Cursor) (w : Row) (pending : List (Pending t)) : Type 0 where
     pub stop : h .i ≡ h .j
-    pub list : take (h .at) out ++ parses t dues ≡ leftParse w
-    pub marks : Ambiguous t w ↔ (T (h .mark) ⊎ AnyTwice t dues)
+    pub list : take (h .at) out ++ parses t pending ≡ leftParse w
+    pub marks : Ambiguous t w ↔ (T (h .mark) ⊎ AnyTwice t pending)
 
-  row-end : {out st : List ℕ} {h : Spot} {w : Row} (G : Going t out st h w) → kindAt c (h .p) ≡ 0 → Finish out st h w (G .dues)
+  row-end : {out st : List ℕ} {h : Cursor} {w : Row} (G : Going t out st h w) → nextKind c (h .p) ≡ 0 → Finish out st h w (G .pending)
   row-end {out} {st} {h} {w} G z =
       let b = end-at t (h .p) (G .inside) z in
       let e = end-row (t .g) (t .r) (subst (λ (ss : List Symbol). Chosen (t .g) (t .r) (G .row) ss (h .i) (h .j)) b (G .picked .chosen)) in
       record {
         stop = e .stop;
-        list = subst (λ (u : Row). take (h .at) out ++ (leftParse u ++ parses t (G .dues)) ≡ leftParse w) (e .is) (G .list);
+        list = subst (λ (u : Row). take (h .at) out ++ (leftParse u ++ parses t (G .pending)) ≡ leftParse w) (e .is) (G .list);
         marks = (λ a. end-once (no-twice (e .is) b) (G .marks .0 a), λ a. G .marks .1 (end-more a));
       }
 
   -- back to the row that was left last
-  pop-by : {out st : List ℕ} {h : Spot} {w : Row} {dues : List (Due t)} (G : Going t out st h w) → Finish out st h w dues → 0 < h .deep → Stacked t st (h .deep) (h .j) dues → Going t out st (popped st h) w
+  pop-by : {out st : List ℕ} {h : Cursor} {w : Row} {pending : List (Pending t)} (G : Going t out st h w) → Finish out st h w pending → 0 < h .depth
+      → Stacked t st (h .depth) (h .j) pending → Going t out st (popped st h) w
   pop-by G F d (st-none z) = absurd (omega arith)
   pop-by {out} {st} {h} {w} G F d (st-more {e = e} {ds = ds} u z a x y k s) =
-      let q : h .deep - 1 ≡ e = omega arith in
+      let q : h .depth - 1 ≡ e = omega arith in
       let i-is : u .from ≡ h .j = a in
-      let p-is : u .place ≡ getD st (3 * (h .deep - 1)) 0 = sym x ∙ ap (λ (v : ℕ). getD st (3 * v) 0) (sym q) in
-      let j-is : u .to ≡ getD st (3 * (h .deep - 1) + 1) 0 = sym y ∙ ap (λ (v : ℕ). getD st (3 * v + 1) 0) (sym q) in
-      let k-is : u .bound ≡ getD st (3 * (h .deep - 1) + 2) 0 = sym k ∙ ap (λ (v : ℕ). getD st (3 * v + 2) 0) (sym q) in
-      let at : Spot = record { p = u .place; i = u .from; j = u .to; k = u .bound; at = h .at; deep = e; mark = h .mark } in
-      let same : at ≡ popped st h = λ ι. record { p = p-is ι; i = i-is ι; j = j-is ι; k = k-is ι; at = h .at; deep = sym q ι; mark = h .mark } in
+      let p-is : u .place ≡ getD st (3 * (h .depth - 1)) 0 = sym x ∙ ap (λ (v : ℕ). getD st (3 * v) 0) (sym q) in
+      let j-is : u .to ≡ getD st (3 * (h .depth - 1) + 1) 0 = sym y ∙ ap (λ (v : ℕ). getD st (3 * v + 1) 0) (sym q) in
+      let k-is : u .bound ≡ getD st (3 * (h .depth - 1) + 2) 0 = sym k ∙ ap (λ (v : ℕ). getD st (3 * v + 2) 0) (sym q) in
+      let at : Cursor = record { p = u .place; i = u .from; j = u .to; k = u .bound; at = h .at; depth = e; mark = h .mark } in
+      let same : at ≡ popped st h = λ ι. record { p = p-is ι; i = i-is ι; j = j-is ι; k = k-is ι; at = h .at; depth = sym q ι; mark = h .mark } in
       let go : Going t out st at w = record {
         row = u .row;
         inside = u .inside;
         within = u .within;
         small = u .small;
         picked = u .picked;
-        dues = ds;
+        pending = ds;
         stacked = s;
         list = F .list;
         marks = F .marks;
@@ -113,32 +115,34 @@ module _ {c M : List ℕ} {size n top first : ℕ} (t : Finished c M size n top 
         room = G .room;
         stack = G .stack;
       } in
-      subst (λ (x : Spot). Going t out st x w) same go
+      subst (λ (x : Cursor). Going t out st x w) same go
 
   -- past a terminal
-  skip-going : {out st : List ℕ} {h : Spot} {w : Row} → Going t out st h w → kindAt c (h .p) ≡ 1 → Going t out st (skipped c h) w
+  skip-going : {out st : List ℕ} {h : Cursor} {w : Row} → Going t out st h w → nextKind c (h .p) ≡ 1 → Going t out st (skipped c h) w
   skip-going {out} {st} {h} {w} G z =
       let dots = t .code .dots in
       let b = terminal-at t (h .p) (G .inside) z in
       let v = leaf-row (t .g) (t .r) (subst (λ (ss : List Symbol). PickedRow (t .g) (t .r) (h .k) ss (h .i) (h .j) (G .row)) (b .is) (G .picked)) in
-      let marks = subst (λ (ss : List Symbol). Ambiguous t w ↔ (T (h .mark) ⊎ (Twice (t .g) (t .r) (G .row) ss (h .i) (h .j) ⊎ AnyTwice t (G .dues)))) (b .is) (G .marks) in
-      let marks' = subst (λ (u : Row). Ambiguous t w ↔ (T (h .mark) ⊎ (Twice (t .g) (t .r) u (terminal (b .x) ∷ behind dots (h .p + 1)) (h .i) (h .j) ⊎ AnyTwice t (G .dues)))) (v .is) marks in
-      let go : Going t out st (record { p = h .p + 1; i = h .i + width (b .x); j = h .j; k = h .k; at = h .at; deep = h .deep; mark = h .mark }) w = record {
+      let marks = subst (λ (ss : List Symbol). Ambiguous t w ↔ (T (h .mark) ⊎ (Twice (t .g) (t .r) (G .row) ss (h .i) (h .j) ⊎ AnyTwice t (G .pending)))) (b .is) (G .marks) in
+      let marks' = subst (λ (u : Row). Ambiguous t w ↔
+      (T (h .mark) ⊎ (Twice (t .g) (t .r) u (terminal (b .x) ∷ afterDot dots (h .p + 1)) (h .i) (h .j) ⊎ AnyTwice t (G .pending))))
+      (v .is) marks in
+      let go : Going t out st (record { p = h .p + 1; i = h .i + width (b .x); j = h .j; k = h .k; at = h .at; depth = h .depth; mark = h .mark }) w = record {
         row = v .others;
         inside = b .next;
         within = G .within;
         small = G .small;
         picked = v .picked;
-        dues = G .dues;
+        pending = G .pending;
         stacked = G .stacked;
-        list = subst (λ (u : Row). take (h .at) out ++ (leftParse u ++ parses t (G .dues)) ≡ leftParse w) (v .is) (G .list);
+        list = subst (λ (u : Row). take (h .at) out ++ (leftParse u ++ parses t (G .pending)) ≡ leftParse w) (v .is) (G .list);
         marks = (λ a. skipping (marks' .0 a), λ a. marks' .1 (unskipping a));
         written = G .written;
         most = G .most;
         room = G .room;
         stack = G .stack;
       } in
-      subst (λ (x : ℕ). Going t out st (record { p = h .p + 1; i = h .i + x; j = h .j; k = h .k; at = h .at; deep = h .deep; mark = h .mark }) w) (sym (b .wide)) go
+      subst (λ (x : ℕ). Going t out st (record { p = h .p + 1; i = h .i + x; j = h .j; k = h .k; at = h .at; depth = h .depth; mark = h .mark }) w) (sym (b .wide)) go
     where
       skipping : {A B : Type 0} {m i j : ℕ} {s : Symbol} {ss : List Symbol} {u : Row} → A ⊎ (Twice (t .g) (t .r) (leaf m u) (s ∷ ss) i j ⊎ B) → A ⊎ (Twice (t .g) (t .r) u ss m j ⊎ B)
       skipping (inl x) = inl x
@@ -150,19 +154,19 @@ module _ {c M : List ℕ} {size n top first : ℕ} (t : Finished c M size n top 
       unskipping (inr (inl x)) = inr (inl (tw-skip x))
       unskipping (inr (inr x)) = inr (inr x)
 
-  back : {out st : List ℕ} {h : Spot} {w : Row} → Going t out st h w → (Over c h → ⊥) → kindAt c (h .p) ≡ 0 → 0 < h .deep
-  back {h = h} G f z = elim (decLt 0 (h .deep)) as (λ _. 0 < h .deep) [ yes q ↦ q | no q ↦ absurd (f (λ _. (z, omega arith))) ]
+  back : {out st : List ℕ} {h : Cursor} {w : Row} → Going t out st h w → (Over c h → ⊥) → nextKind c (h .p) ≡ 0 → 0 < h .depth
+  back {h = h} G f z = elim (decLt 0 (h .depth)) as (λ _. 0 < h .depth) [ yes q ↦ q | no q ↦ absurd (f (λ _. (z, omega arith))) ]
 
   -- every step stays on the course
-  pub step-stage : {out out' st st' : List ℕ} {h r : Spot} {w : Row} → Going t out st h w → (Over c h → ⊥) → Stepped c M n out out' st st' h r → Stage t out' st' r w
+  pub step-stage : {out out' st st' : List ℕ} {h r : Cursor} {w : Row} → Going t out st h w → (Over c h → ⊥) → Stepped c M n out out' st st' h r → Stage t out' st' r w
   step-stage G f (at-end z o s e) = rw (o, s, e) (goes-on (pop-by G (row-end G z) (back G f z) (G .stacked)))
   step-stage G f (at-terminal z o s e) = rw (o, s, e) (goes-on (skip-going G z))
-  step-stage G f (at-symbol x y m b u v s e) = rw s (enter-stage t (cross-before t G x y m b u v) e)
+  step-stage G f (at-symbol x y m b u v s e) = rw s (enter-stage t (descend-before t G x y m b u v) e)
 
-  pub step-falls : {out out' st st' : List ℕ} {h r : Spot} {w : Row} → Going t out st h w → (Over c h → ⊥) → Stepped c M n out out' st st' h r → weight size r < weight size h
-  step-falls G f s = step-less size (G .inside) (G .written) (G .most) (back G f) s
+  pub step-falls : {out out' st st' : List ℕ} {h r : Cursor} {w : Row} → Going t out st h w → (Over c h → ⊥) → Stepped c M n out out' st st' h r → weight mostSize r < weight mostSize h
+  step-falls {h = h} G f s = step-less mostSize (position t (h .p) (G .inside) .row .small) (G .written) (G .most) (back G f) s
 
-  pub can-step : {out st : List ℕ} {h : Spot} {w : Row} → Going t out st h w → (Over c h → ⊥) → CanStep c M n out st h
+  pub can-step : {out st : List ℕ} {h : Cursor} {w : Row} → Going t out st h w → (Over c h → ⊥) → CanStep c M n out st h
   can-step {h = h} G f = record {
     stretch = record { order = forward (t .g) (t .r) (chosen-derives (t .g) (t .r) (G .picked .chosen)); inside = G .within; short = short t };
     position = position t (h .p) (G .inside);
@@ -171,10 +175,10 @@ module _ {c M : List ℕ} {size n top first : ℕ} (t : Finished c M size n top 
     room = G .room;
     stack = G .stack;
     back = back G f;
-    on = can-cross t G;
+    on = can-descend t G;
   }
 
-  pub going : {out st : List ℕ} {h : Spot} {w : Row} → Stage t out st h w → h .at ≤ readingNumbers → Going t out st h w
+  pub going : {out st : List ℕ} {h : Cursor} {w : Row} → Stage t out st h w → h .at ≤ readingNumbers → Going t out st h w
   going (goes-on G) l = G
   going (too-long z k a b) l = absurd (omega arith)
 
@@ -190,7 +194,8 @@ module _ {c M : List ℕ} {size n top first : ℕ} (t : Finished c M size n top 
   pub unrooted : heightAt M n top 0 n ≡ none → (w : Row) → Derivation (t .g) (t .r) w → ⊥
   unrooted e w d = rule-some (t .g) (t .r) (root-rule t .says 0 n (omega arith) (omega arith)) (subst (λ (z : ℕ). Derives (t .g) (t .r) w (root (t .g) ∷ []) 0 z) (t .long) d) e
 
-  pub can-begin : (out : List ℕ) (h : Spot) → readingNumbers ≤ length out → h .i ≡ 0 → h .j ≡ n → h .at ≡ 0 → (heightAt M n top 0 n ≡ none → ⊥) → CanEnter c M n top first out h
+  pub can-begin : (out : List ℕ) (h : Cursor) → readingNumbers ≤ length out → h .i ≡ 0 → h .j ≡ n → h .at ≡ 0
+      → (heightAt M n top 0 n ≡ none → ⊥) → CanEnter c M n top first out h
   can-begin out h l a b z f = record {
     stretch = record { order = omega arith; inside = omega arith; short = short t };
     row = position t top (t .code .root-inside) .row;
@@ -205,20 +210,24 @@ module _ {c M : List ℕ} {size n top first : ℕ} (t : Finished c M size n top 
       at-once : {u : Row} {i j : ℕ} → Derives (t .g) (t .r) u [] i j → i ≡ j
       at-once d-end = refl
 
-  begins : {s : Symbol} {a i j : ℕ} {u : Row} → Twice (t .g) (t .r) (node a j u end) (s ∷ []) i j → T false ⊎ (OtherNumber (t .g) (t .r) s i j a ⊎ (Twice (t .g) (t .r) u (alternative (t .g) s a) i j ⊎ ⊥))
+  begins : {s : Symbol} {a i j : ℕ} {u : Row} → Twice (t .g) (t .r) (node a j u end) (s ∷ []) i j
+      → T false ⊎ (OtherNumber (t .g) (t .r) s i j a ⊎ (Twice (t .g) (t .r) u (alternative (t .g) s a) i j ⊎ ⊥))
   begins (tw-place o) = absurd (stops o)
   begins (tw-number o) = inr (inl o)
   begins (tw-inside o) = inr (inr (inl o))
   begins (tw-later o) = absurd (no-twice refl refl o)
 
-  ended : {s : Symbol} {a i j : ℕ} {u : Row} → T false ⊎ (OtherNumber (t .g) (t .r) s i j a ⊎ (Twice (t .g) (t .r) u (alternative (t .g) s a) i j ⊎ ⊥)) → Twice (t .g) (t .r) (node a j u end) (s ∷ []) i j
+  ended : {s : Symbol} {a i j : ℕ} {u : Row}
+      → T false ⊎ (OtherNumber (t .g) (t .r) s i j a ⊎ (Twice (t .g) (t .r) u (alternative (t .g) s a) i j ⊎ ⊥))
+      → Twice (t .g) (t .r) (node a j u end) (s ∷ []) i j
   ended (inl z) = absurd z
   ended (inr (inl o)) = tw-number o
   ended (inr (inr (inl o))) = tw-inside o
   ended (inr (inr (inr z))) = absurd z
 
-  begin-by : {out st : List ℕ} {w : Row} {j : ℕ} (k : ℕ) → readingNumbers ≤ length out → 3 * readingNumbers ≤ length st → j ≤ n → Chosen (t .g) (t .r) w (root (t .g) ∷ []) 0 j → Ambiguous t w ↔ Twice (t .g) (t .r) w (root (t .g) ∷ []) 0 j
-      → Before t top first out st (record { p = first; i = 0; j = j; k = k; at = 0; deep = 0; mark = false }) w
+  begin-by : {out st : List ℕ} {w : Row} {j : ℕ} (k : ℕ) → readingNumbers ≤ length out → 3 * readingNumbers ≤ length st → j ≤ n
+      → Chosen (t .g) (t .r) w (root (t .g) ∷ []) 0 j → Ambiguous t w ↔ Twice (t .g) (t .r) w (root (t .g) ∷ []) 0 j
+      → Before t top first out st (record { p = first; i = 0; j = j; k = k; at = 0; depth = 0; mark = false }) w
   begin-by k a b l (ch-node {c = u} {a = x} p d ch-end) m = record {
     s = root (t .g);
     rule = root-rule t;
@@ -227,7 +236,7 @@ module _ {c M : List ℕ} {size n top first : ℕ} (t : Finished c M size n top 
     choice = p;
     inside = d;
     within = l;
-    dues = [];
+    pending = [];
     stacked = st-none refl;
     list = refl;
     marks = (λ z. begins (m .0 z), λ z. m .1 (ended z));
@@ -237,20 +246,22 @@ module _ {c M : List ℕ} {size n top first : ℕ} (t : Finished c M size n top 
     stack = b;
   }
 
-  pub begin : {out st : List ℕ} {w : Row} → readingNumbers ≤ length out → 3 * readingNumbers ≤ length st → Root w → Before t top first out st (record { p = first; i = 0; j = n; k = 0; at = 0; deep = 0; mark = false }) w
+  pub begin : {out st : List ℕ} {w : Row} → readingNumbers ≤ length out → 3 * readingNumbers ≤ length st → Root w
+      → Before t top first out st (record { p = first; i = 0; j = n; k = 0; at = 0; depth = 0; mark = false }) w
   begin {w = w} a b d =
       begin-by 0 a b (omega arith) (subst (λ (z : ℕ). Chosen (t .g) (t .r) w (root (t .g) ∷ []) 0 z) (t .long) d)
       (subst (λ (z : ℕ). Ambiguous t w ↔ Twice (t .g) (t .r) w (root (t .g) ∷ []) 0 z) (t .long) (twice-is (t .g) (t .r) (chosen-derives (t .g) (t .r) d)))
 
   -- the end
-  last-row : {out st : List ℕ} {h : Spot} {w : Row} {dues : List (Due t)} → Finish out st h w dues → h .deep ≡ 0 → Stacked t st (h .deep) (h .j) dues → Finish out st h w []
+  last-row : {out st : List ℕ} {h : Cursor} {w : Row} {pending : List (Pending t)} → Finish out st h w pending → h .depth ≡ 0
+      → Stacked t st (h .depth) (h .j) pending → Finish out st h w []
   last-row F e (st-none z) = F
   last-row F e (st-more u z a x y k s) = absurd (omega arith)
 
   list-long : (out p : List ℕ) (at : ℕ) → at ≤ length out → take at out ++ [] ≡ p → length p ≡ at
   list-long out p at l e = omega (arith, ap length e, length-append (take at out) [], length-take at out)
 
-  pub finish : {out st : List ℕ} {h : Spot} {w : Row} → Stage t out st h w → Root w → Over c h → h .at ≤ readingNumbers → IsReading (t .g) (t .r) out (h .at) (h .mark)
+  pub finish : {out st : List ℕ} {h : Cursor} {w : Row} → Stage t out st h w → Root w → Over c h → h .at ≤ readingNumbers → IsReading (t .g) (t .r) out (h .at) (h .mark)
   finish {out} {st} {h} {w} s d o l =
       let G = going s l in
       let F = last-row (row-end G (o l .0)) (o l .1) (G .stacked) in
@@ -266,6 +277,6 @@ module _ {c M : List ℕ} {size n top first : ℕ} (t : Finished c M size n top 
         ambiguous = (λ z. q .1 (F .marks .1 (inl z)), λ z. only (F .marks .0 (q .0 z)));
       }
 
-  pub finish-long : {out st : List ℕ} {h : Spot} {w : Row} → Stage t out st h w → Root w → readingNumbers < h .at → IsLong (t .g) (t .r)
+  pub finish-long : {out st : List ℕ} {h : Cursor} {w : Row} → Stage t out st h w → Root w → readingNumbers < h .at → IsLong (t .g) (t .r)
   finish-long (goes-on G) d l = absurd (omega (arith, G .most))
   finish-long {w = w} (too-long z k a b) d l = record { tree = w; parse = leftParse w; reading = record { chosen = d; parse = refl }; long = k }

@@ -1,10 +1,10 @@
 pub mod Few
 pub mod Lines
-pub mod Alternatives
+pub mod AlongRules
 pub mod Searches
 pub mod Steps
 pub mod Tables
-pub mod Dues
+pub mod PendingRows
 pub mod Walks
-pub mod Crossing
+pub mod Descents
 pub mod Course

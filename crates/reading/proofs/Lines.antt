@@ -6,7 +6,7 @@ use native.Mathlib.Decide.{decLt}
 use native.Mathlib.Omega.{arith}
 use lib.ListN.{length, getD, drop, length-drop}
 use Rattle.text.specs.Limits.{mostSize}
-use Rattle.code.specs.Code.{goesAt}
+use Rattle.chart.specs.Code.{goesAt}
 use Rattle.reading.specs.Walk.{Position, Ends, Line, ln-last, ln-next}
 use Rattle.reading.proofs.Few.{few}
 
@@ -48,7 +48,8 @@ module _ {c M : List ℕ} {n : ℕ} where
   line-drop zero (ln-next p e z l) h = ln-next p e z l
   line-drop (suc a) (ln-next p e z l) h = line-drop a l (omega arith)
 
-  pub line-after : {q next : ℕ} {qs : List ℕ} (a : ℕ) → Line c M n q qs → a < length qs → ((e : ℕ) → Ends c (getD qs a 0) e → next ≡ goesAt c e) → (next ≡ 0 → ⊥) → After a qs next
+  pub line-after : {q next : ℕ} {qs : List ℕ} (a : ℕ) → Line c M n q qs → a < length qs
+      → ((e : ℕ) → Ends c (getD qs a 0) e → next ≡ goesAt c e) → (next ≡ 0 → ⊥) → After a qs next
   line-after zero (ln-last {e = e} p u z) h f g = absurd (g (f e u ∙ z))
   line-after (suc a) (ln-last p u z) h f g = absurd (omega arith)
   line-after zero (ln-next {e = e} p u z (ln-last p' u' z')) h f g = record { exists = omega arith; is = sym z ∙ sym (f e u) }
@@ -59,7 +60,8 @@ module _ {c M : List ℕ} {n : ℕ} where
       record { exists = omega (arith, w .exists); is = rw e (w .is) }
 
   -- where none follows, that was the last
-  pub line-last : {q next : ℕ} {qs : List ℕ} (a : ℕ) → Line c M n q qs → a < length qs → ((e : ℕ) → Ends c (getD qs a 0) e → next ≡ goesAt c e) → next ≡ 0 → length qs ≡ a + 1
+  pub line-last : {q next : ℕ} {qs : List ℕ} (a : ℕ) → Line c M n q qs → a < length qs
+      → ((e : ℕ) → Ends c (getD qs a 0) e → next ≡ goesAt c e) → next ≡ 0 → length qs ≡ a + 1
   line-last zero (ln-last p u z) h f g = refl
   line-last (suc a) (ln-last p u z) h f g = absurd (omega arith)
   line-last zero (ln-next {e = e} p u z l) h f g = absurd (omega (arith, f e u))

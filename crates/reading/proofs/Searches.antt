@@ -7,7 +7,7 @@ use native.Mathlib.Decide.{decLt, ℕ-discrete}
 use native.Mathlib.Omega.{arith}
 use lib.Dec.{leb, eqb}
 use borrow.Author.Tests.{leb-true, le-leb, not-true, eqb-false, ne-eqb}
-use Rattle.code.specs.Code.{kindAt}
+use Rattle.chart.specs.Code.{nextKind}
 use Rattle.reading.specs.Walk.{Tells, Ends}
 
 never : {P : Type 0} (b : Bool) → b ≡ true → b ≡ false → P
@@ -49,10 +49,10 @@ module _ {P : ℕ → Type 0} where
 
 -- the end of an alternative
 abbrev pub EndIs : List ℕ → ℕ → Type 0
-EndIs c p = kindAt c p ≡ 0
+EndIs c p = nextKind c p ≡ 0
 
 pub end-ahead : {c : List ℕ} {q e p : ℕ} → Ends c q e → Unmet (EndIs c) q p → p ≤ e
 end-ahead {e = e} E u = ahead u e (E .order) (E .is)
 
-pub end-found : {c : List ℕ} {q e p : ℕ} → Ends c q e → Unmet (EndIs c) q p → kindAt c p ≡ 0 → Ends c q p
+pub end-found : {c : List ℕ} {q e p : ℕ} → Ends c q e → Unmet (EndIs c) q p → nextKind c p ≡ 0 → Ends c q p
 end-found E u z = record { order = u .order; inside = omega (arith, end-ahead E u, E .inside); is = z; before = u .none }

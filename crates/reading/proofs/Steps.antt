@@ -4,19 +4,20 @@ use mathlib.Core.Bool.{Bool, _||_}
 use mathlib.Core.List.{List}
 use Prim.Native.Nat.{ℕ, _+_, _<_, _≤_}
 use native.Mathlib.Omega.{arith}
-use Rattle.code.specs.Code.{kindAt, goesAt, ruleAt}
-use Rattle.reading.specs.declared.Spot.{Spot}
-use Rattle.reading.specs.Walk.{Tells, Stretch, Row, Position, heightAt, SomeLow, SomeEnd, FirstEnd, OtherEnd, pushed, Entered, Stepped, at-symbol, CanEnter, CanStep}
+use Rattle.chart.specs.Code.{nextKind, goesAt, ruleAt}
+use Rattle.reading.specs.declared.Cursor.{Cursor}
+use Rattle.reading.specs.Walk.{Tells, Within, Row, Position, heightAt, SomeLow, SomeEnd, FirstEnd, OtherEnd, pushed, Entered, Stepped, at-symbol, CanEnter, CanStep}
 
 -- before the node: the mark is m
-abbrev pub inner : Spot → ℕ → Bool → Spot
-inner h j m = record { p = h .p; i = h .i; j = j; k = h .k; at = h .at; deep = h .deep + 1; mark = m }
+abbrev pub inner : Cursor → ℕ → Bool → Cursor
+inner h j m = record { p = h .p; i = h .i; j = j; k = h .k; at = h .at; depth = h .depth + 1; mark = m }
 
-module _ {c M : List ℕ} {n : ℕ} {out st : List ℕ} {h : Spot} (C : CanStep c M n out st h) (x : kindAt c (h .p) ≡ 0 → ⊥) (y : kindAt c (h .p) ≡ 1 → ⊥) (e : ℕ) (is : e ≡ ruleAt c (h .p)) where
-  pub can-find : Position c M n (h .p + 1) × (Row M n e × (Stretch n (h .i) (h .j) × SomeEnd c M n (h .p + 1) e (h .i) (h .j) (h .k)))
+module _ {c M : List ℕ} {n : ℕ} {out st : List ℕ} {h : Cursor} (C : CanStep c M n out st h) (x : nextKind c (h .p) ≡ 0 → ⊥)
+    (y : nextKind c (h .p) ≡ 1 → ⊥) (e : ℕ) (is : e ≡ ruleAt c (h .p)) where
+  pub can-find : Position c M n (h .p + 1) × (Row M n e × (Within n (h .i) (h .j) × SomeEnd c M n (h .p + 1) e (h .i) (h .j) (h .k)))
   can-find = let X = C .on x y in (X .next, (rw is (X .row), (C .stretch, rw is (X .ends))))
 
-  pub can-other : Position c M n (h .p + 1) × (Row M n e × Stretch n (h .i) (h .j))
+  pub can-other : Position c M n (h .p + 1) × (Row M n e × Within n (h .i) (h .j))
   can-other = let X = C .on x y in (X .next, (rw is (X .row), C .stretch))
 
   lows : (q m : ℕ) → q ≡ goesAt c (h .p) → h .i ≤ m → m ≤ h .j → heightAt M n e (h .i) m < h .k → SomeLow c M n q (h .i) m (heightAt M n e (h .i) m)
@@ -31,8 +32,9 @@ module _ {c M : List ℕ} {n : ℕ} {out st : List ℕ} {h : Spot} (C : CanStep 
     most = C .most;
   }
 
-  pub stepped : {out' st' : List ℕ} {r : Spot} (q m : ℕ) (b k : Bool) → q ≡ goesAt c (h .p) → FirstEnd c M n (h .p + 1) e (h .i) (h .j) (h .k) m → Tells b (OtherEnd c M n (h .p + 1) e (h .i) (h .j) m)
-      → st' ≡ pushed st (h .deep) (h .p + 1) (h .j) (h .k) → k ≡ (h .mark || b) → Entered c M n e q out out' (inner h m k) r → Stepped c M n out out' st st' h r
+  pub stepped : {out' st' : List ℕ} {r : Cursor} (q m : ℕ) (b k : Bool) → q ≡ goesAt c (h .p) → FirstEnd c M n (h .p + 1) e (h .i) (h .j) (h .k) m
+      → Tells b (OtherEnd c M n (h .p + 1) e (h .i) (h .j) m)
+      → st' ≡ pushed st (h .depth) (h .p + 1) (h .j) (h .k) → k ≡ (h .mark || b) → Entered c M n e q out out' (inner h m k) r → Stepped c M n out out' st st' h r
   stepped {out'} {st'} {r} q m b k qs f o s ks E =
       at-symbol x y m b (subst (λ (z : ℕ). FirstEnd c M n (h .p + 1) z (h .i) (h .j) (h .k) m) is f) (subst (λ (z : ℕ). Tells b (OtherEnd c M n (h .p + 1) z (h .i) (h .j) m)) is o) s
       (subst (λ (z : ℕ). Entered c M n z (goesAt c (h .p)) out out' (inner h m (h .mark || b)) r) is

@@ -22,40 +22,40 @@ use Rattle.derive.proofs.Chosen.{chosen-derives}
 use Rattle.derive.proofs.Picks.{PickedRow}
 use Rattle.derive.proofs.Twice.{Twice, OtherNumber}
 use Rattle.derive.proofs.Parts.{child-row, earliest}
-use Rattle.code.specs.Code.{behind}
-use Rattle.code.specs.Heights.{none, Says}
-use Rattle.code.proofs.Says.{says-low, low-says, says-some, some-says, rule-least, least-rule, rule-some, rule-small}
-use Rattle.reading.specs.declared.Spot.{Spot}
+use Rattle.chart.specs.Code.{afterDot}
+use Rattle.chart.specs.Heights.{none, Says}
+use Rattle.chart.proofs.Says.{says-low, low-says, says-some, some-says, rule-least, least-rule, rule-some, rule-small}
+use Rattle.reading.specs.declared.Cursor.{Cursor}
 use Rattle.reading.specs.declared.Alternative.{Alternative}
 use Rattle.reading.specs.Walk.{Tells, heightAt, valueAt, Line, SomeLow, FirstLow, OtherBy, entered, Entered, full, wrote}
 use Rattle.reading.specs.Answer.{Finished}
 use Rattle.reading.proofs.Lines.{line-one}
 use Rattle.reading.proofs.Tables.{value-says, RuleOf}
-use Rattle.reading.proofs.Dues.{marked, unmarked, tells-by, Due, parses, AnyTwice, Stacked}
+use Rattle.reading.proofs.PendingRows.{marked, unmarked, tells-by, Pending, parses, AnyTwice, Stacked}
 
-module _ {c M : List ℕ} {size n top first : ℕ} (t : Finished c M size n top first) where
+module _ {c M : List ℕ} {n top first : ℕ} (t : Finished c M n top first) where
   -- a second derivation, for the chosen one
   abbrev pub Ambiguous : Row → Type 0
   Ambiguous w = AnotherWay (t .g) (t .r) w (root (t .g) ∷ []) 0 (length (t .r))
 
   -- the walk over the derivation w stands at h
-  pub record Going (out st : List ℕ) (h : Spot) (w : Row) : Type 0 where
+  pub record Going (out st : List ℕ) (h : Cursor) (w : Row) : Type 0 where
     pub row : Row
-    pub inside : h .p < size
+    pub inside : h .p < t .size
     pub within : h .j ≤ n
     pub small : h .k < none
-    pub picked : PickedRow (t .g) (t .r) (h .k) (behind (t .code .dots) (h .p)) (h .i) (h .j) row
-    pub dues : List (Due t)
-    pub stacked : Stacked t st (h .deep) (h .j) dues
-    pub list : take (h .at) out ++ (leftParse row ++ parses t dues) ≡ leftParse w
-    pub marks : Ambiguous w ↔ (T (h .mark) ⊎ (Twice (t .g) (t .r) row (behind (t .code .dots) (h .p)) (h .i) (h .j) ⊎ AnyTwice t dues))
-    pub written : h .deep < h .at
+    pub picked : PickedRow (t .g) (t .r) (h .k) (afterDot (t .code .dots) (h .p)) (h .i) (h .j) row
+    pub pending : List (Pending t)
+    pub stacked : Stacked t st (h .depth) (h .j) pending
+    pub list : take (h .at) out ++ (leftParse row ++ parses t pending) ≡ leftParse w
+    pub marks : Ambiguous w ↔ (T (h .mark) ⊎ (Twice (t .g) (t .r) row (afterDot (t .code .dots) (h .p)) (h .i) (h .j) ⊎ AnyTwice t pending))
+    pub written : h .depth < h .at
     pub most : h .at ≤ readingNumbers
     pub room : readingNumbers ≤ length out
     pub stack : 3 * readingNumbers ≤ length st
 
   -- the walk is before a node of the rule e
-  pub record Before (e q : ℕ) (out st : List ℕ) (h : Spot) (w : Row) : Type 0 where
+  pub record Before (e q : ℕ) (out st : List ℕ) (h : Cursor) (w : Row) : Type 0 where
     pub s : Symbol
     pub rule : RuleOf t s e q
     pub number : ℕ
@@ -63,17 +63,18 @@ module _ {c M : List ℕ} {size n top first : ℕ} (t : Finished c M size n top 
     pub choice : Picked (t .g) (t .r) s (h .i) (h .j) number (ends children)
     pub inside : Chosen (t .g) (t .r) children (alternative (t .g) s number) (h .i) (h .j)
     pub within : h .j ≤ n
-    pub dues : List (Due t)
-    pub stacked : Stacked t st (h .deep) (h .j) dues
-    pub list : take (h .at) out ++ (number ∷ (leftParse children ++ parses t dues)) ≡ leftParse w
-    pub marks : Ambiguous w ↔ (T (h .mark) ⊎ (OtherNumber (t .g) (t .r) s (h .i) (h .j) number ⊎ (Twice (t .g) (t .r) children (alternative (t .g) s number) (h .i) (h .j) ⊎ AnyTwice t dues)))
-    pub written : h .deep ≤ h .at
+    pub pending : List (Pending t)
+    pub stacked : Stacked t st (h .depth) (h .j) pending
+    pub list : take (h .at) out ++ (number ∷ (leftParse children ++ parses t pending)) ≡ leftParse w
+    pub marks : Ambiguous w ↔ (T (h .mark) ⊎ (OtherNumber (t .g) (t .r) s (h .i) (h .j) number
+        ⊎ (Twice (t .g) (t .r) children (alternative (t .g) s number) (h .i) (h .j) ⊎ AnyTwice t pending)))
+    pub written : h .depth ≤ h .at
     pub most : h .at ≤ readingNumbers
     pub room : readingNumbers ≤ length out
     pub stack : 3 * readingNumbers ≤ length st
 
   -- the walk goes on, or has met too many numbers
-  pub data Stage (out st : List ℕ) (h : Spot) (w : Row) : Type 0 where
+  pub data Stage (out st : List ℕ) (h : Cursor) (w : Row) : Type 0 where
     goes-on : Going out st h w → Stage out st h w
     too-long : h .at ≡ readingNumbers + 1 → readingNumbers < length (leftParse w) → readingNumbers ≤ length out → 3 * readingNumbers ≤ length st → Stage out st h w
 
@@ -109,10 +110,11 @@ module _ {c M : List ℕ} {size n top first : ℕ} (t : Finished c M size n top 
     high : heightAt M n e i j ≡ p .high
     small : heightAt M n e i j < none
     same : a .number ≡ number
-    inside : a .place < size
-    is : behind (t .code .dots) (a .place) ≡ alternative (t .g) s number
+    inside : a .place < t .size
+    is : afterDot (t .code .dots) (a .place) ≡ alternative (t .g) s number
 
-  met : {s : Symbol} {e q i j number : ℕ} {es : List ℕ} → RuleOf t s e q → i ≤ j → j ≤ n → (p : Picked (t .g) (t .r) s i j number es) → (a : Alternative) → FirstLow c M n q i j (heightAt M n e i j) a → Met s e q i j number es p a
+  met : {s : Symbol} {e q i j number : ℕ} {es : List ℕ} → RuleOf t s e q → i ≤ j → j ≤ n → (p : Picked (t .g) (t .r) s i j number es)
+      → (a : Alternative) → FirstLow c M n q i j (heightAt M n e i j) a → Met s e q i j number es p a
   met {s} {e} {q} {i} {j} {number} u h k p a f =
       let y = way-row (t .g) (t .r) (p .way) in
       let says = u .says i j h k in
@@ -129,8 +131,8 @@ module _ {c M : List ℕ} {size n top first : ℕ} (t : Finished c M size n top 
         high = high;
         small = small;
         same = same;
-        inside = subst (λ (z : ℕ). z < size) place (u .alternatives .inside number (p .exists));
-        is = ap (λ (z : ℕ). behind (t .code .dots) z) (sym place) ∙ u .alternatives .is number (p .exists);
+        inside = subst (λ (z : ℕ). z < t .size) place (u .alternatives .inside number (p .exists));
+        is = ap (λ (z : ℕ). afterDot (t .code .dots) z) (sym place) ∙ u .alternatives .is number (p .exists);
       }
 
   -- other alternatives, in the tables and in derivations
@@ -157,7 +159,8 @@ module _ {c M : List ℕ} {size n top first : ℕ} (t : Finished c M size n top 
   number-over : (out xs : List ℕ) (at a : ℕ) (ys : List ℕ) → at ≤ length out → take at out ++ (a ∷ xs) ≡ ys → at < length ys
   number-over out xs at a ys h e = omega (arith, ap length e, length-append (take at out) (a ∷ xs), length-take at out)
 
-  enter-wrote : {e q : ℕ} {out st : List ℕ} {h : Spot} {w : Row} (B : Before e q out st h w) (a : Alternative) (b : Bool) → h .at < readingNumbers → FirstLow c M n q (h .i) (h .j) (heightAt M n e (h .i) (h .j)) a
+  enter-wrote : {e q : ℕ} {out st : List ℕ} {h : Cursor} {w : Row} (B : Before e q out st h w) (a : Alternative) (b : Bool) → h .at < readingNumbers
+      → FirstLow c M n q (h .i) (h .j) (heightAt M n e (h .i) (h .j)) a
       → Tells b (OtherBy c M n q (h .i) (h .j) (a .number)) → Going (set out (h .at) (a .number)) st (entered h a (heightAt M n e (h .i) (h .j)) b) w
   enter-wrote {e} {q} {out} {st} {h} {w} B a b l f o =
       let order = forward (t .g) (t .r) (chosen-derives (t .g) (t .r) (B .inside)) in
@@ -166,16 +169,21 @@ module _ {c M : List ℕ} {size n top first : ℕ} (t : Finished c M size n top 
       let row' = subst (λ (ss : List Symbol). PickedRow (t .g) (t .r) (B .choice .high) ss (h .i) (h .j) (B .children)) (sym (m .is)) row in
       let o' = subst (λ (z : ℕ). Tells b (OtherBy c M n q (h .i) (h .j) z)) (m .same) o in
       let told = tells-by o' (other-number (B .rule) order (B .within)) (other-by (B .rule) order (B .within)) in
-      let marks = subst (λ (ss : List Symbol). Ambiguous w ↔ (T (h .mark) ⊎ (OtherNumber (t .g) (t .r) (B .s) (h .i) (h .j) (B .number) ⊎ (Twice (t .g) (t .r) (B .children) ss (h .i) (h .j) ⊎ AnyTwice t (B .dues))))) (sym (m .is)) (B .marks) in
+      let marks = subst
+      (λ (ss : List Symbol). Ambiguous w ↔
+      (T (h .mark) ⊎
+      (OtherNumber (t .g) (t .r) (B .s) (h .i) (h .j) (B .number) ⊎
+      (Twice (t .g) (t .r) (B .children) ss (h .i) (h .j) ⊎ AnyTwice t (B .pending)))))
+      (sym (m .is)) (B .marks) in
       record {
         row = B .children;
         inside = m .inside;
         within = B .within;
         small = m .small;
-        picked = subst (λ (z : ℕ). PickedRow (t .g) (t .r) z (behind (t .code .dots) (a .place)) (h .i) (h .j) (B .children)) (sym (m .high)) row';
-        dues = B .dues;
+        picked = subst (λ (z : ℕ). PickedRow (t .g) (t .r) z (afterDot (t .code .dots) (a .place)) (h .i) (h .j) (B .children)) (sym (m .high)) row';
+        pending = B .pending;
         stacked = B .stacked;
-        list = number-list out (h .at) (a .number) (leftParse (B .children) ++ parses t (B .dues)) (leftParse w) (omega (arith, B .room)) (rw (m .same) (B .list));
+        list = number-list out (h .at) (a .number) (leftParse (B .children) ++ parses t (B .pending)) (leftParse w) (omega (arith, B .room)) (rw (m .same) (B .list));
         marks = (marked (h .mark) b told (marks .0), unmarked (h .mark) b told (marks .1));
         written = omega (arith, B .written);
         most = omega arith;
@@ -183,7 +191,7 @@ module _ {c M : List ℕ} {size n top first : ℕ} (t : Finished c M size n top 
         stack = B .stack;
       }
 
-  pub enter-stage : {e q : ℕ} {out out' st : List ℕ} {h r : Spot} {w : Row} → Before e q out st h w → Entered c M n e q out out' h r → Stage out' st r w
+  pub enter-stage : {e q : ℕ} {out out' st : List ℕ} {h r : Cursor} {w : Row} → Before e q out st h w → Entered c M n e q out out' h r → Stage out' st r w
   enter-stage {out = out} {h = h} {w = w} B (full z o p a d) =
-      rw o (too-long a (omega (arith, number-over out (leftParse (B .children) ++ parses t (B .dues)) (h .at) (B .number) (leftParse w) (omega (arith, B .room)) (B .list))) (B .room) (B .stack))
+      rw o (too-long a (omega (arith, number-over out (leftParse (B .children) ++ parses t (B .pending)) (h .at) (B .number) (leftParse w) (omega (arith, B .room)) (B .list))) (B .room) (B .stack))
   enter-stage B (wrote a b l f o x y) = rw (x, y) (goes-on (enter-wrote B a b l f o))

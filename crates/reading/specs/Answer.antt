@@ -12,13 +12,14 @@ use Rattle.tree.specs.Tree.{Grammar}
 use Rattle.derive.specs.Derive.{Row, Derivation}
 use Rattle.derive.specs.Chosen.{Second}
 use Rattle.derive.specs.Chosen.{Reading as ChosenReading}
-use Rattle.code.specs.Code.{Coded}
-use Rattle.code.specs.Heights.{Heights}
+use Rattle.chart.specs.Code.{Coded}
+use Rattle.chart.specs.Heights.{Heights}
 use Rattle.reading.specs.declared.Walked.{Walked}
 use Rattle.reading.specs.declared.Walked.the-variants.{Reading, TooLong, NoReading}
 
 -- the code of a grammar on a record of n characters, and its finished main table
-pub record Finished (c M : List ℕ) (size n top first : ℕ) : Type 0 where
+pub record Finished (c M : List ℕ) (n top first : ℕ) : Type 0 where
+  pub size : ℕ
   pub f : List ℕ
   pub g : Grammar
   pub r : Text
@@ -26,8 +27,8 @@ pub record Finished (c M : List ℕ) (size n top first : ℕ) : Type 0 where
   pub code : Coded c f g r size top first
   pub heights : Heights c f g r size top first code M
 
-pub record Given (c M out st : List ℕ) (size n top first : ℕ) : Type 0 where
-  pub tables : Finished c M size n top first
+pub record Given (c M out st : List ℕ) (n top first : ℕ) : Type 0 where
+  pub tables : Finished c M n top first
   pub room : readingNumbers ≤ length out
   pub stack : 3 * readingNumbers ≤ length st
 

@@ -1,418 +1,249 @@
-// The chosen reading out of a finished main table, and whether there is a second derivation: a walk with a stack of its own.
+// The chosen reading, taken from a finished main table, and whether there is a second derivation.
+//
+// The walk goes through the chosen derivation from its root, in the order of the left parse. The main table has the least height of
+// each rule on each stretch of the record, so each choice is a search in it: at a node the earliest alternative of the least height, at
+// a symbol the smallest end place that lets the rest of its row derive what is left. Rows that are not finished wait on a stack.
+// The reading is ambiguous where another alternative or another end place, of whatever height, derives the same stretch.
+mod alternatives;
+mod ends;
+mod table;
+
 ghost use mathlib.Core.Path.{_≡_};
 ghost use mathlib.Core.Bool.{Bool, true, false, _||_};
-ghost use mathlib.Core.List.{List};
-ghost use Prim.Native.Nat.{ℕ, _+_, _*_, _-_, _<_, _≤_};
-ghost use lib.ListN.{length, getD};
-ghost use Rattle.code.specs.Code.{kindAt, goesAt};
-ghost use Rattle.reading.specs.Walk.{Tells, Stretch, Row, Position, heightAt, valueAt, Ends, Line, Lined, SomeLow, FirstLow, OtherBy, LowEnd, SomeEnd, FirstEnd, EndToo, OtherEnd, pushed, popped, Entered, Stepped, CanEnter, CanCross, CanStep, Over};
+ghost use Prim.Native.Nat.{ℕ, _+_, _*_, _<_, _≤_};
+ghost use lib.ListN.{length};
+ghost use Rattle.chart.specs.Code.{nextKind};
+ghost use Rattle.reading.specs.Walk.{pushed, popped, Entered, Stepped, CanEnter, CanStep, Over};
 ghost use Rattle.reading.specs.Answer.{Finished, Given, Answers};
-use code::NONE;
-use code::cell;
+use crate::alternatives::find_alternative;
+use crate::alternatives::other_alternative;
+use crate::ends::find_end;
+use crate::ends::other_end;
+use crate::table::AFTER_ALTERNATIVE;
+use crate::table::BEFORE_TERMINAL;
+use crate::table::height;
+use crate::table::number_at;
+use chart::NONE;
+use text::limits;
 
-// Numbers of a reading.
-const MOST: usize = 4096;
-
-// The count of the reading's numbers and the ambiguous mark; over 4,096 numbers; the root does not derive the record.
+// What the walk comes to: the count of the left parse's numbers and the ambiguous mark; more numbers than a reading may have; the
+// root does not derive the record.
 pub enum Walked {
     Reading(usize, bool),
     TooLong,
     NoReading,
 }
 
-// Where the walk stands: the symbols behind the position p are to be walked from i to j, in trees of heights at most k;
-// numbers written, rows on the stack, and whether another way was met.
-pub struct Spot {
+// The characters from place i to place j of a record of n.
+pub struct Stretch {
+    pub n: usize,
+    pub i: usize,
+    pub j: usize,
+}
+
+// Where the walk stands. The symbols after the dot position p derive the characters from i to j, in trees of heights at most k.
+// Written are `at` numbers, `depth` rows wait on the stack, and the mark tells whether another derivation was met.
+pub struct Cursor {
     pub p: usize,
     pub i: usize,
     pub j: usize,
     pub k: u32,
     pub at: usize,
-    pub deep: usize,
+    pub depth: usize,
     pub mark: bool,
 }
 
-// An alternative's number and its first position.
+// An alternative's number and its first dot position.
 pub struct Alternative {
     pub number: usize,
     pub place: usize,
 }
 
-fn look(s: &[u32], at: usize) -> usize
-    requires { ⌜ at < length (now s) ⌝ }
-    ensures { λ r. ⌜ (r ≡ getD (now (s .entry)) at 0) × (r < 4294967296) ⌝ }
+// Puts a row on the stack: it goes on at p, to the place j, with heights at most k.
+fn push(stack: &mut [u32], depth: usize, p: usize, j: usize, k: u32)
+    requires { ⌜ (3 * depth + 2 < length (now stack)) × ((p < 4294967296) × (j < 4294967296)) ⌝ }
+    ensures { λ r. ⌜ now (stack .exit) ≡ pushed (now (stack .entry)) depth p j k ⌝ }
 {
-    s[at] as usize
-}
-
-fn either(a: bool, b: bool) -> bool
-    ensures { λ r. ⌜ r ≡ (a || b) ⌝ }
-{
-    if a {
-        return true;
-    }
-    b
-}
-
-fn height(main: &[u32], n: usize, p: usize, i: usize, j: usize) -> u32
-    requires { ⌜ Row (now main) n p × Stretch n i j ⌝ }
-    ensures { λ r. ⌜ r ≡ heightAt (now (main .entry)) n p i j ⌝ }
-{
-    let c = cell(n, p, i, j);
-    main[c]
-}
-
-// The least height of what stands behind p.
-fn value(code: &[u32], main: &[u32], n: usize, p: usize, i: usize, j: usize) -> u32
-    requires { ⌜ Position (now code) (now main) n p × Stretch n i j ⌝ }
-    ensures { λ r. ⌜ r ≡ valueAt (now (code .entry)) (now (main .entry)) n p i j ⌝ }
-{
-    if look(code, 4 * p) == 0 {
-        if i == j {
-            return 0;
-        }
-        return NONE;
-    }
-    height(main, n, p, i, j)
-}
-
-fn alternative_end(code: &[u32], q: usize) -> usize
-    requires { ⌜ ((e : ℕ) × Ends (now code) q e) ⌝ }
-    ensures { λ r. ⌜ Ends (now (code .entry)) q r ⌝ }
-{
-    let mut p = q;
-    while look(code, 4 * p) != 0 {
-        p += 1;
-    }
-    p
-}
-
-// One more than the first position of the alternative that follows the one at q; 0 where none does.
-fn next_alternative(code: &[u32], q: usize) -> usize
-    requires { ⌜ ((e : ℕ) × Ends (now code) q e) ⌝ }
-    ensures { λ r. ⌜ ((e : ℕ) → Ends (now (code .entry)) q e → r ≡ goesAt (now (code .entry)) e) ⌝ }
-{
-    let e = alternative_end(code, q);
-    look(code, 4 * e + 1)
-}
-
-fn find_alternative(
-    code: &[u32],
-    main: &[u32],
-    n: usize,
-    first: usize,
-    i: usize,
-    j: usize,
-    k: u32,
-) -> Alternative
-    requires { ⌜ Stretch n i j × SomeLow (now code) (now main) n first i j k ⌝ }
-    ensures { λ r. ⌜ FirstLow (now (code .entry)) (now (main .entry)) n first i j k r ⌝ }
-{
-    let mut q = first;
-    let mut a = 0;
-    while k < value(code, main, n, q, i, j) {
-        q = next_alternative(code, q) - 1;
-        a += 1;
-    }
-    Alternative {
-        number: a,
-        place: q,
-    }
-}
-
-fn derives_too(
-    code: &[u32],
-    main: &[u32],
-    n: usize,
-    q: usize,
-    i: usize,
-    j: usize,
-    a: usize,
-    number: usize,
-) -> bool
-    requires { ⌜ Position (now code) (now main) n q × Stretch n i j ⌝ }
-    ensures { λ r. ⌜ Tells r ((a ≡ number → ⊥) × (valueAt (now (code .entry)) (now (main .entry)) n q i j ≡ 4294967295 → ⊥)) ⌝ }
-{
-    if a == number {
-        return false;
-    }
-    value(code, main, n, q, i, j) != NONE
-}
-
-fn other_alternative(
-    code: &[u32],
-    main: &[u32],
-    n: usize,
-    first: usize,
-    i: usize,
-    j: usize,
-    number: usize,
-) -> bool
-    requires { ⌜ Stretch n i j × Lined (now code) (now main) n first ⌝ }
-    ensures { λ r. ⌜ Tells r (OtherBy (now (code .entry)) (now (main .entry)) n first i j number) ⌝ }
-{
-    let mut q = first;
-    let mut a = 0;
-    loop {
-        if derives_too(code, main, n, q, i, j, a, number) {
-            return true;
-        }
-        let next = next_alternative(code, q);
-        if next == 0 {
-            return false;
-        }
-        q = next - 1;
-        a += 1;
-    }
-}
-
-fn low_end(
-    code: &[u32],
-    main: &[u32],
-    n: usize,
-    p: usize,
-    e: usize,
-    i: usize,
-    j: usize,
-    k: u32,
-    m: usize,
-) -> bool
-    requires { ⌜ Position (now code) (now main) n p × (Row (now main) n e × (Stretch n i m × Stretch n m j)) ⌝ }
-    ensures { λ r. ⌜ Tells r (LowEnd (now (code .entry)) (now (main .entry)) n p e i j k m) ⌝ }
-{
-    if height(main, n, e, i, m) < k {
-        return value(code, main, n, p, m, j) <= k;
-    }
-    false
-}
-
-fn find_end(
-    code: &[u32],
-    main: &[u32],
-    n: usize,
-    p: usize,
-    e: usize,
-    i: usize,
-    j: usize,
-    k: u32,
-) -> usize
-    requires { ⌜ Position (now code) (now main) n p × (Row (now main) n e × (Stretch n i j × SomeEnd (now code) (now main) n p e i j k)) ⌝ }
-    ensures { λ r. ⌜ FirstEnd (now (code .entry)) (now (main .entry)) n p e i j k r ⌝ }
-{
-    let mut m = i;
-    while !low_end(code, main, n, p, e, i, j, k, m) {
-        m += 1;
-    }
-    m
-}
-
-fn end_too(
-    code: &[u32],
-    main: &[u32],
-    n: usize,
-    p: usize,
-    e: usize,
-    i: usize,
-    j: usize,
-    m: usize,
-    l: usize,
-) -> bool
-    requires { ⌜ Position (now code) (now main) n p × (Row (now main) n e × (Stretch n i l × Stretch n l j)) ⌝ }
-    ensures { λ r. ⌜ Tells r (EndToo (now (code .entry)) (now (main .entry)) n p e i j m l) ⌝ }
-{
-    if l == m {
-        return false;
-    }
-    if height(main, n, e, i, l) == NONE {
-        return false;
-    }
-    value(code, main, n, p, l, j) != NONE
-}
-
-fn other_end(
-    code: &[u32],
-    main: &[u32],
-    n: usize,
-    p: usize,
-    e: usize,
-    i: usize,
-    j: usize,
-    m: usize,
-) -> bool
-    requires { ⌜ Position (now code) (now main) n p × (Row (now main) n e × Stretch n i j) ⌝ }
-    ensures { λ r. ⌜ Tells r (OtherEnd (now (code .entry)) (now (main .entry)) n p e i j m) ⌝ }
-{
-    let mut l = i;
-    while l <= j {
-        if end_too(code, main, n, p, e, i, j, m, l) {
-            return true;
-        }
-        l += 1;
-    }
-    false
-}
-
-fn push(stack: &mut [u32], deep: usize, p: usize, j: usize, k: u32)
-    requires { ⌜ (3 * deep + 2 < length (now stack)) × ((p < 4294967296) × (j < 4294967296)) ⌝ }
-    ensures { λ r. ⌜ now (stack .exit) ≡ pushed (now (stack .entry)) deep p j k ⌝ }
-{
-    let b = 3 * deep;
+    let b = 3 * depth;
     stack[b] = p as u32;
     stack[b + 1] = j as u32;
     stack[b + 2] = k;
 }
 
-// The end of a row: on with the row that was left last.
-fn leave(stack: &[u32], h: Spot) -> Spot
-    requires { ⌜ (0 < h .deep) × (3 * h .deep ≤ length (now stack)) ⌝ }
+// At the end of a row: goes on with the row that was put on the stack last.
+fn pop(stack: &[u32], h: Cursor) -> Cursor
+    requires { ⌜ (0 < h .depth) × (3 * h .depth ≤ length (now stack)) ⌝ }
     ensures { λ r. ⌜ r ≡ popped (now (stack .entry)) h ⌝ }
 {
-    let deep = h.deep - 1;
-    let b = 3 * deep;
-    let p = look(stack, b);
-    let j = look(stack, b + 1);
-    Spot {
+    let depth = h.depth - 1;
+    let b = 3 * depth;
+    let p = number_at(stack, b);
+    let j = number_at(stack, b + 1);
+    Cursor {
         p: p,
         i: h.j,
         j: j,
         k: stack[b + 2],
         at: h.at,
-        deep: deep,
+        depth: depth,
         mark: h.mark,
     }
 }
 
-// A node of the rule e on h's stretch: its alternative is chosen and its number written, if there is room.
-fn enter(code: &[u32], main: &[u32], n: usize, e: usize, q: usize, out: &mut [u32], h: Spot) -> Spot
-    requires { ⌜ CanEnter (now code) (now main) n e q (now out) h ⌝ }
-    ensures { λ r. ⌜ Entered (now (code .entry)) (now (main .entry)) n e q (now (out .entry)) (now (out .exit)) h r ⌝ }
+// Enters a node on the cursor's stretch: chooses the alternative and writes its number, if there is room. The rule has its first
+// position at `first`, and `rule` names it.
+fn enter(
+    code: &[u32],
+    main: &[u32],
+    n: usize,
+    rule: usize,
+    first: usize,
+    out: &mut [u32],
+    h: Cursor,
+) -> Cursor
+    requires { ⌜ CanEnter (now code) (now main) n rule first (now out) h ⌝ }
+    ensures { λ r. ⌜ Entered (now (code .entry)) (now (main .entry)) n rule first (now (out .entry)) (now (out .exit)) h r ⌝ }
 {
     let at = h.at;
-    let i = h.i;
-    let j = h.j;
-    if MOST <= at {
-        return Spot {
+    if limits::READING_NUMBERS <= at {
+        return Cursor {
             p: h.p,
-            i: i,
-            j: j,
+            i: h.i,
+            j: h.j,
             k: h.k,
             at: at + 1,
-            deep: h.deep,
+            depth: h.depth,
             mark: h.mark,
         };
     }
-    let k = height(main, n, e, i, j);
-    let a = find_alternative(code, main, n, q, i, j, k);
-    let other = other_alternative(code, main, n, q, i, j, a.number);
+    let s = Stretch { n, i: h.i, j: h.j };
+    let k = height(main, rule, s);
+    let a = find_alternative(code, main, first, s, k);
+    let other = other_alternative(code, main, first, s, a.number);
     out[at] = a.number as u32;
-    Spot {
+    Cursor {
         p: a.place,
-        i: i,
-        j: j,
+        i: h.i,
+        j: h.j,
         k: k,
         at: at + 1,
-        deep: h.deep,
-        mark: either(h.mark, other),
+        depth: h.depth,
+        mark: text::either(h.mark, other),
     }
 }
 
-// A symbol with alternatives: the rest of its row goes to the stack, and its node is entered.
-fn cross(code: &[u32], main: &[u32], n: usize, out: &mut [u32], stack: &mut [u32], h: Spot) -> Spot
-    requires { ⌜ CanStep (now code) (now main) n (now out) (now stack) h × ((kindAt (now code) (h .p) ≡ 0 → ⊥) × (kindAt (now code) (h .p) ≡ 1 → ⊥)) ⌝ }
+// At a symbol with alternatives: finds where it ends, puts the rest of its row on the stack, and enters its node.
+fn descend(
+    code: &[u32],
+    main: &[u32],
+    n: usize,
+    out: &mut [u32],
+    stack: &mut [u32],
+    h: Cursor,
+) -> Cursor
+    requires { ⌜ CanStep (now code) (now main) n (now out) (now stack) h × ((nextKind (now code) (h .p) ≡ 0 → ⊥) × (nextKind (now code) (h .p) ≡ 1 → ⊥)) ⌝ }
     ensures { λ r. ⌜ Stepped (now (code .entry)) (now (main .entry)) n (now (out .entry)) (now (out .exit)) (now (stack .entry)) (now (stack .exit)) h r ⌝ }
 {
     let p = h.p;
-    let i = h.i;
-    let j = h.j;
-    let e = look(code, 4 * p + 2);
-    let q = look(code, 4 * p + 1);
-    let m = find_end(code, main, n, p + 1, e, i, j, h.k);
-    let other = other_end(code, main, n, p + 1, e, i, j, m);
-    push(stack, h.deep, p + 1, j, h.k);
-    let inner = Spot {
+    let rule = number_at(code, 4 * p + 2);
+    let first = number_at(code, 4 * p + 1);
+    let s = Stretch { n, i: h.i, j: h.j };
+    let m = find_end(code, main, p + 1, rule, s, h.k);
+    let other = other_end(code, main, p + 1, rule, s, m);
+    push(stack, h.depth, p + 1, h.j, h.k);
+    let inner = Cursor {
         p: p,
-        i: i,
+        i: h.i,
         j: m,
         k: h.k,
         at: h.at,
-        deep: h.deep + 1,
-        mark: either(h.mark, other),
+        depth: h.depth + 1,
+        mark: text::either(h.mark, other),
     };
-    enter(code, main, n, e, q, out, inner)
+    enter(code, main, n, rule, first, out, inner)
 }
 
-fn step(code: &[u32], main: &[u32], n: usize, out: &mut [u32], stack: &mut [u32], h: Spot) -> Spot
+// One step of the walk: past the end of a row, past a terminal, or into a node.
+fn step(
+    code: &[u32],
+    main: &[u32],
+    n: usize,
+    out: &mut [u32],
+    stack: &mut [u32],
+    h: Cursor,
+) -> Cursor
     requires { ⌜ CanStep (now code) (now main) n (now out) (now stack) h ⌝ }
     ensures { λ r. ⌜ Stepped (now (code .entry)) (now (main .entry)) n (now (out .entry)) (now (out .exit)) (now (stack .entry)) (now (stack .exit)) h r ⌝ }
 {
     let p = h.p;
-    let kind = look(code, 4 * p);
-    if kind == 0 {
-        return leave(stack, h);
+    let kind = number_at(code, 4 * p);
+    if kind == AFTER_ALTERNATIVE {
+        return pop(stack, h);
     }
-    if kind == 1 {
-        let wide = look(code, 4 * p + 1);
-        return Spot {
+    if kind == BEFORE_TERMINAL {
+        let wide = number_at(code, 4 * p + 1);
+        return Cursor {
             p: p + 1,
             i: h.i + wide,
             j: h.j,
             k: h.k,
             at: h.at,
-            deep: h.deep,
+            depth: h.depth,
             mark: h.mark,
         };
     }
-    cross(code, main, n, out, stack, h)
+    descend(code, main, n, out, stack, h)
 }
 
-fn more(code: &[u32], h: Spot) -> bool
+// Whether there is a step to take: the numbers are not too many, and a symbol or a row on the stack is left.
+fn more(code: &[u32], h: Cursor) -> bool
     requires { ⌜ (h .at ≤ 4096 → 4 * h .p < length (now code)) ⌝ }
     ensures { λ r. ⌜ (r ≡ true → (h .at ≤ 4096) × (Over (now (code .entry)) h → ⊥)) × (r ≡ false → Over (now (code .entry)) h) ⌝ }
 {
     let p = h.p;
-    if MOST < h.at {
+    if limits::READING_NUMBERS < h.at {
         return false;
     }
-    if look(code, 4 * p) != 0 {
+    if number_at(code, 4 * p) != AFTER_ALTERNATIVE {
         return true;
     }
-    if h.deep == 0 {
+    if h.depth == 0 {
         return false;
     }
     true
 }
 
-// The chosen reading of a record of n characters. out takes its numbers, stack three for each row that is open.
+// The chosen reading of a record of n characters by the grammar whose root's rule is named `top` and has its first position at
+// `first`. `out` takes the numbers of the left parse, `stack` three numbers for each row that waits.
 pub fn walk(
     code: &[u32],
     main: &[u32],
-    size: usize,
     n: usize,
     top: usize,
     first: usize,
     out: &mut [u32],
     stack: &mut [u32],
 ) -> Walked
-    requires { ⌜ Given (now code) (now main) (now out) (now stack) size n top first ⌝ }
-    ensures { λ r. ⌜ ((t : Finished (now (code .entry)) (now (main .entry)) size n top first) → Answers (t .g) (t .r) (now (out .exit)) r) ⌝ }
+    requires { ⌜ Given (now code) (now main) (now out) (now stack) n top first ⌝ }
+    ensures { λ r. ⌜ ((t : Finished (now (code .entry)) (now (main .entry)) n top first) → Answers (t .g) (t .r) (now (out .exit)) r) ⌝ }
 {
-    if height(main, n, top, 0, n) == NONE {
+    if height(main, top, Stretch { n, i: 0, j: n }) == NONE {
         return Walked::NoReading;
     }
-    let start = Spot {
+    let start = Cursor {
         p: first,
         i: 0,
         j: n,
         k: 0,
         at: 0,
-        deep: 0,
+        depth: 0,
         mark: false,
     };
     let mut h = enter(code, main, n, top, first, out, start);
     while more(code, h) {
         h = step(code, main, n, out, stack, h);
     }
-    if MOST < h.at {
+    if limits::READING_NUMBERS < h.at {
         return Walked::TooLong;
     }
     Walked::Reading(h.at, h.mark)

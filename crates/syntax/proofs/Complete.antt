@@ -5,7 +5,8 @@ use mathlib.Core.Path.{_≡_, refl, sym, _∙_, subst}
 use mathlib.Core.List.{List, [], _∷_}
 use Prim.Native.Nat.{ℕ, zero, suc, _<_}
 use Rattle.text.specs.Lists.{Text, chars, all, among}
-use Rattle.syntax.specs.Syntax.{chr, is, ch, quote, capital, letter, isMark, defines, namestart, namefollower, S, RS, String, Marked, Followers, Name, RuleOf, Word, digit, Rules, PrologOf, Ixml}
+use Rattle.syntax.specs.Syntax.{chr, is, ch, quote, capital, letter, isMark, defines, namestart, namefollower, S, RS, String, Marked}
+use Rattle.syntax.specs.Syntax.{Followers, Name, RuleOf, Word, digit, Rules, PrologOf, Ixml}
 use Rattle.syntax.specs.Result.{hd, Result, ok, fail, then, map, guard, expect}
 use Rattle.syntax.specs.Spacing.{spacing}
 use mathlib.Core.Logic.{_⊎_, inl, inr}
@@ -29,7 +30,7 @@ use Rattle.syntax.proofs.Shorter.{short-rs, short-rule}
 use Rattle.syntax.proofs.Sound.{Headed, sound-heading, sound}
 use Rattle.syntax.proofs.LexicalComplete.{joins, joins-s, complete-word, complete-string, first-chars, opens-spacing}
 use Rattle.syntax.proofs.Names.{Ending, Follows, after-alts, spacing-follower, before-follower, complete-name}
-use Rattle.syntax.proofs.Plain.{front, behind-mark, no-bracket, front-name, front-among, front-wider, front-starts, starts-spacing, name-start, mark-read}
+use Rattle.syntax.proofs.Plain.{front, after-mark, no-bracket, front-name, front-among, front-wider, front-starts, starts-spacing, name-start, mark-read}
 use Rattle.syntax.proofs.Cycle.{first-alts, complete-alts}
 
 -- 1. Rules.
@@ -70,7 +71,7 @@ at-dot {c} e z = record { one-of = at-ch (λ j. among j after-alts) true 0x2e c 
 
 -- the mark and the name of a rule
 marks-read : {t u v n : Text} {m : Mark} → Marked isMark t u m → Name u v n → read-mark t ≡ ok m u
-marks-read p n = mark-read p (front-name behind-mark _ (name-start n))
+marks-read p n = mark-read p (front-name after-mark _ (name-start n))
 
 name-read : {t u v n : Text} → Name t u n → S u v → defines (hd v) ≡ true → read-name t ≡ ok n u
 name-read n s e = complete-name n (before-follower s (defines-follower _ e))

@@ -46,12 +46,14 @@ module _ (g : Text → Result Symbol) (v : Symbol) (u : Text) where
 -- `*` and `+`
 module _ (k : ℕ) (plain : Symbol → Symbol) (sep : Symbol → Symbol → Symbol)
     (at-k : (g : Text → Result Symbol) (v : Symbol) (u : Text) → ch k (hd u) ≡ true → suffix g v u ≡ repeated k plain sep g v (tl u)) where
-  repeat-plain : {u v w : Text} {f : Symbol} (d : ℕ) (t : Text) → Factor= d t (ok f u) → Is (ch k) u v → S v w → none-of (ch k) spacings ≡ true → ch k (hd w) ≡ false → spacing (hd w) ≡ false → Term= d t (ok (plain f) w)
+  repeat-plain : {u v w : Text} {f : Symbol} (d : ℕ) (t : Text) → Factor= d t (ok f u) → Is (ch k) u v → S v w
+      → none-of (ch k) spacings ≡ true → ch k (hd w) ≡ false → spacing (hd w) ≡ false → Term= d t (ok (plain f) w)
   unfolding then repeated when
   repeat-plain {u} {v} {w} {f} d t p (is i) s z e q =
       term-step d t (ok f u) (ok (plain f) w) p (λ g _. at-k g f u i ∙ rw (before-s (ch k) z s e) (complete-spaced (plain f) s q))
 
-  repeat-sep : {u v w x y : Text} {f f' : Symbol} (d : ℕ) (t : Text) → Factor= d t (ok f u) → length u < length t → Is (ch k) u v → Is (ch k) v w → S w x → Factor= d x (ok f' y) → starts (hd x) ≡ true → Term= d t (ok (sep f f') y)
+  repeat-sep : {u v w x y : Text} {f f' : Symbol} (d : ℕ) (t : Text) → Factor= d t (ok f u) → length u < length t → Is (ch k) u v
+      → Is (ch k) v w → S w x → Factor= d x (ok f' y) → starts (hd x) ≡ true → Term= d t (ok (sep f f') y)
   unfolding then repeated when map
   repeat-sep {u} {x = x} {y = y} {f = f} {f' = f'} d t p l (is i) (is j) s q e =
       let h = short-s s in
@@ -114,7 +116,8 @@ unfolding ch
 no-sign k e = e
 
 -- 4. The cycle.
-complete-group : {t u v w x y : Text} {b : Body} (d : ℕ) → Is (ch 0x28) t u → S u v → spacing (hd v) ≡ false → Alts= d v (ok b w) → Is (ch 0x29) w x → S x y → Follows after-factor y → Factor= (suc d) t (ok (group b) y)
+complete-group : {t u v w x y : Text} {b : Body} (d : ℕ) → Is (ch 0x28) t u → S u v → spacing (hd v) ≡ false → Alts= d v (ok b w)
+    → Is (ch 0x29) w x → S x y → Follows after-factor y → Factor= (suc d) t (ok (group b) y)
 unfolding under then expect guard
 complete-group {t} {v = v} {w = w} {y = y} {b = b} d (is p) s e a (is q) s' f =
     let h = short-s s in
@@ -128,7 +131,9 @@ mutual
       alts-step d t (ok a u) (ok (one a) u) (complete-alt p (wider after-alt refl f)) (λ g _. separated-last bar also one g a u (alts-bar f))
   complete-alts (alts-also {d = d} {t = t} {u = u} {w = w} {x = x} {a = a} {b = b} p (is q) s r) f =
       let i = short-alt p in let j = short-s s in
-      alts-step d t (ok a u) (ok (also a b) x) (complete-alt p (at-bar q)) (λ g k. separated-more bar also one g a u w (ok b x) q (complete-s s (first-alts r (follows-spacing (alts-end f)))) (k w (ok b x) (omega arith) (complete-alts r f)))
+      alts-step d t (ok a u) (ok (also a b) x) (complete-alt p (at-bar q))
+      (λ g k. separated-more bar also one g a u w (ok b x) q (complete-s s (first-alts r (follows-spacing (alts-end f))))
+      (k w (ok b x) (omega arith) (complete-alts r f)))
 
   complete-alt : {d : ℕ} {t u : Text} {a : Alternative} → Alt d t u a → Follows after-alt u → Alt= d t (ok a u)
   complete-alt (alt-none {d = d} {t = t}) f = alt-none= d t (follows-starts f)
@@ -146,15 +151,20 @@ mutual
   complete-term (t-factor {d = d} {t = t} {u = u} {f = v} p) f =
       term-step d t (ok v u) (ok v u) (complete-factor p (term-end f)) (λ g _. suffix-none g v u (term-sign 0x3f refl f) (term-sign 0x2a refl f) (term-sign 0x2b refl f))
   complete-term (t-option {d = d} {t = t} {u = u} {w = w} {f = v} p (is i) s) f =
-      term-step d t (ok v u) (ok (option v) w) (complete-factor p (head-ch 0x3f after-factor refl (ch-not 0x2e 0x3f refl) i)) (λ g _. suffix-option g v u i ∙ complete-spaced (option v) s (follows-spacing (term-end f)))
+      term-step d t (ok v u) (ok (option v) w) (complete-factor p (head-ch 0x3f after-factor refl (ch-not 0x2e 0x3f refl) i))
+      (λ g _. suffix-option g v u i ∙ complete-spaced (option v) s (follows-spacing (term-end f)))
   complete-term (t-repeat0 {d = d} {t = t} p (is i) s) f =
-      repeat-plain 0x2a repeat0 repeat0sep suffix-star d t (complete-factor p (head-ch 0x2a after-factor refl (ch-not 0x2e 0x2a refl) i)) (is i) s (no-sign 0x2a refl) (term-sign 0x2a refl f) (follows-spacing (term-end f))
+      repeat-plain 0x2a repeat0 repeat0sep suffix-star d t (complete-factor p (head-ch 0x2a after-factor refl (ch-not 0x2e 0x2a refl) i))
+      (is i) s (no-sign 0x2a refl) (term-sign 0x2a refl f) (follows-spacing (term-end f))
   complete-term (t-repeat0sep {d = d} {t = t} p (is i) j s q) f =
-      repeat-sep 0x2a repeat0 repeat0sep suffix-star d t (complete-factor p (head-ch 0x2a after-factor refl (ch-not 0x2e 0x2a refl) i)) (short-factor p) (is i) j s (complete-factor q (term-end f)) (first-factor q)
+      repeat-sep 0x2a repeat0 repeat0sep suffix-star d t (complete-factor p (head-ch 0x2a after-factor refl (ch-not 0x2e 0x2a refl) i))
+      (short-factor p) (is i) j s (complete-factor q (term-end f)) (first-factor q)
   complete-term (t-repeat1 {d = d} {t = t} p (is i) s) f =
-      repeat-plain 0x2b repeat1 repeat1sep suffix-plus d t (complete-factor p (head-ch 0x2b after-factor refl (ch-not 0x2e 0x2b refl) i)) (is i) s (no-sign 0x2b refl) (term-sign 0x2b refl f) (follows-spacing (term-end f))
+      repeat-plain 0x2b repeat1 repeat1sep suffix-plus d t (complete-factor p (head-ch 0x2b after-factor refl (ch-not 0x2e 0x2b refl) i))
+      (is i) s (no-sign 0x2b refl) (term-sign 0x2b refl f) (follows-spacing (term-end f))
   complete-term (t-repeat1sep {d = d} {t = t} p (is i) j s q) f =
-      repeat-sep 0x2b repeat1 repeat1sep suffix-plus d t (complete-factor p (head-ch 0x2b after-factor refl (ch-not 0x2e 0x2b refl) i)) (short-factor p) (is i) j s (complete-factor q (term-end f)) (first-factor q)
+      repeat-sep 0x2b repeat1 repeat1sep suffix-plus d t (complete-factor p (head-ch 0x2b after-factor refl (ch-not 0x2e 0x2b refl) i))
+      (short-factor p) (is i) j s (complete-factor q (term-end f)) (first-factor q)
 
   complete-factor : {d : ℕ} {t u : Text} {f : Symbol} → Factor d t u f → Follows after-factor u → Factor= d t (ok f u)
   complete-factor (f-terminal {d = d} {t = t} x) f = λ n h. factor-plain d t (front-round (hd t) (first-terminal x)) n h ∙ complete-terminal x f

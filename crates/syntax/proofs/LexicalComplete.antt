@@ -7,7 +7,8 @@ use Prim.Native.Nat.{ℕ, zero, suc, _<_}
 use lib.Dec.{eqb}
 use Rattle.text.specs.Lists.{Text, chars, among}
 use Rattle.category.specs.Category.{inClass}
-use Rattle.syntax.specs.Syntax.{chr, Is, is, ch, quote, capital, letter, bar, isMark, S, String, CharsOf, SetOf, Marked, Qchar, Qchars, Digits, Hex, Character, MemberOf, Members, Word, digit, markOf, plain, Class}
+use Rattle.syntax.specs.Syntax.{chr, Is, is, ch, quote, capital, letter, bar, isMark, S, String, CharsOf, SetOf, Marked, Qchar}
+use Rattle.syntax.specs.Syntax.{Qchars, Digits, Hex, Character, MemberOf, Members, Word, digit, markOf, plain, Class}
 use Rattle.syntax.specs.Result.{hd, tl, Result, ok, when, then, map, guard, expect}
 use Rattle.syntax.specs.Spacing.{spacing, skip}
 use mathlib.Core.Logic.{⊎-elim}
@@ -26,7 +27,8 @@ use Rattle.syntax.specs.Syntax.Class.{c-one, c-two}
 use Rattle.syntax.specs.Syntax.MemberOf.{m-chars, m-range, m-class}
 use Rattle.syntax.specs.Syntax.Members.{m-last, m-next}
 use Rattle.syntax.specs.Syntax.Word.{word-end, word-char}
-use Rattle.syntax.specs.Lexical.{read-word, read-string, read-chars, read-set, read-mark, separated, quoted, nonempty, digits, read-hex, one-character, read-character, read-class, range-or, read-member, alone, members}
+use Rattle.syntax.specs.Lexical.{read-word, read-string, read-chars, read-set, read-mark, separated, quoted, nonempty, digits}
+use Rattle.syntax.specs.Lexical.{read-hex, one-character, read-character, read-class, range-or, read-member, alone, members}
 use Rattle.tree.specs.Tree as tree
 use Rattle.syntax.proofs.Classes.{clash, or-true, no-ch, at-ch, among-at, none-of, among-not, spacings, no-spacing, ch-spacing, spacing-not}
 use Rattle.syntax.proofs.SpacingLaws.{complete-s, head-s, complete-spaced}
@@ -56,7 +58,7 @@ joins-letter : (c : ℕ) → joins c ≡ false → letter c ≡ false
 unfolding joins
 joins-letter c e = or-right (digit c) _ (or-right (quote c) _ e)
 
--- a test that no spacing passes fails before a spacing if it fails behind it
+-- a test that no spacing passes fails before a spacing if it fails after it
 pub before-s : (f : ℕ → Bool) {u w : Text} → none-of f spacings ≡ true → S u w → f (hd w) ≡ false → f (hd u) ≡ false
 before-s f {u} p s e = ⊎-elim (λ q. rw q e) (λ q. spacing-not f (hd u) p q) (head-s s)
 
@@ -232,7 +234,8 @@ dash-joins : (c : ℕ) → ch 0x2d c ≡ true → joins c ≡ false
 unfolding joins quote digit letter capital
 dash-joins c e = at-ch joins false 0x2d c refl e
 
-complete-range : {v w x : Text} {a b : Chars} (u : Text) → one-character a ≡ true → ch 0x2d (hd u) ≡ true → S (tl u) v → Character v w b → S w x → after-member (hd x) ≡ true → range-or a u ≡ ok (range a b) x
+complete-range : {v w x : Text} {a b : Chars} (u : Text) → one-character a ≡ true → ch 0x2d (hd u) ≡ true → S (tl u) v → Character v w b
+    → S w x → after-member (hd x) ≡ true → range-or a u ≡ ok (range a b) x
 unfolding range-or when guard then
 complete-range {x = x} {a = a} {b = b} u o p s c s' e =
     rw (p, o, complete-s s (opens-spacing _ (first-chars (of-character c))), complete-character c (joins-s s' (after-joins _ e))) (complete-spaced (range a b) s' (after-spacing (hd x) e))
@@ -246,7 +249,12 @@ unfolding read-member when then
 complete-member {v = v} (m-chars {k = k} h) s e =
     rw (opens-capital _ (first-chars h), complete-chars h (joins-s s (after-joins (hd v) e)), complete-s s (after-spacing (hd v) e)) (no-range k v (after-dash (hd v) e))
 complete-member (m-range a s (is p) s' b) s'' e =
-    rw (opens-capital _ (first-chars (of-character a)), complete-chars (of-character a) (joins-s s (dash-joins _ p)), complete-s s (ch-spacing 0x2d _ refl p)) (complete-range _ (is-one a) p s' b s'' e)
+    rw (
+      opens-capital _ (first-chars (of-character a)),
+      complete-chars (of-character a) (joins-s s (dash-joins _ p)),
+      complete-s s
+          (ch-spacing 0x2d _ refl p),
+    ) (complete-range _ (is-one a) p s' b s'' e)
 complete-member {v = v} (m-class {k = k} c) s e =
     rw (first-class c, complete-class c (joins-s s (after-joins (hd v) e))) (complete-spaced (class k) s (after-spacing (hd v) e))
 

@@ -6,7 +6,9 @@ use Prim.Native.Nat.{ℕ, zero, suc, _+_, _*_}
 use lib.Dec.{eqb}
 use borrow.Author.Tests.{eqb-true, not-true, eq-eqb}
 use Rattle.text.specs.Lists.{Text, all}
-use Rattle.syntax.specs.Syntax.{chr, Is, is, ch, quote, capital, letter, bar, isMark, namestart, namefollower, S, String, CharsOf, SetOf, Marked, Followers, Name, Qchar, Qchars, Digits, Hex, Character, MemberOf, Members, Word, digit, markOf, plain, digitValue, Class}
+use Rattle.syntax.specs.Syntax.{chr, Is, is, ch, quote, capital, letter, bar, isMark, namestart, namefollower, S, String, CharsOf}
+use Rattle.syntax.specs.Syntax.{SetOf, Marked, Followers, Name, Qchar, Qchars, Digits, Hex, Character, MemberOf, Members, Word}
+use Rattle.syntax.specs.Syntax.{digit, markOf, plain, digitValue, Class}
 use Rattle.syntax.specs.Result.{hd, tl, Result, ok, fail, when, map, guard}
 use Rattle.syntax.specs.Spacing.{skip}
 use lib.ListN.{length}
@@ -26,7 +28,9 @@ use Rattle.syntax.specs.Syntax.Class.{c-one, c-two}
 use Rattle.syntax.specs.Syntax.MemberOf.{m-chars, m-range, m-class}
 use Rattle.syntax.specs.Syntax.Members.{m-last, m-next}
 use Rattle.syntax.specs.Syntax.Word.{word-end, word-char}
-use Rattle.syntax.specs.Lexical.{read-word, read-string, read-chars, read-set, read-mark, read-name, read-use, ending, separated, quoted, nonempty, digits, read-hex, one-character, read-character, read-class, range-or, read-member, alone, members, run, last-dot, but-last, less-dot}
+use Rattle.syntax.specs.Lexical.{read-word, read-string, read-chars, read-set, read-mark, read-name, read-use, ending, separated}
+use Rattle.syntax.specs.Lexical.{quoted, nonempty, digits, read-hex, one-character, read-character, read-class, range-or}
+use Rattle.syntax.specs.Lexical.{read-member, alone, members, run, last-dot, but-last, less-dot}
 use Rattle.syntax.proofs.Classes.{clash, and-left, and-right, chr-at, is-at, ch-end, quote-end, capital-end, letter-end, bar-end, mark-end, namestart-end}
 use Rattle.syntax.proofs.Holds.{Holds, holds-when, holds-guard, holds-expect, holds-then, holds-map, weaken, none, some}
 use Rattle.syntax.proofs.SpacingLaws.{sound-spaced, holds-skip}
@@ -77,7 +81,7 @@ pub sound-string : (t : Text) → Holds (λ cs u. String t u cs) (read-string t)
 unfolding read-string
 sound-string t = holds-guard (quote (hd t)) (λ _ e. sound-nonempty t (quoted (hd t) (tl t) false) e (sound-quoted (hd t) (tl t) .0))
 
--- the digits behind a first one
+-- the digits after a first one
 sound-digits : (t : Text) (n c : ℕ) → digit c ≡ true → Holds (λ m u. Digits n (c ∷ t) u m) (digits (16 * n + digitValue c) t)
 unfolding digits
 sound-digits [] n c e = some (d-last (chr e))
@@ -113,7 +117,7 @@ unfolding read-class
 sound-class t = holds-guard (capital (hd t)) (λ _ e. let c = chr-at capital t capital-end e in
     holds-when (letter (hd (tl t))) (λ _ f. some (c-two c (chr-at letter (tl t) letter-end f))) (λ _ _. some (c-one c)))
 
--- a member and the spacing behind it
+-- a member and the spacing after it
 abbrev Member-s : Text → Member → Text → Type 0
 Member-s t m v = (u : Text) × MemberOf t u m × S u v
 
@@ -130,7 +134,8 @@ sound-member t = holds-when (capital (hd t))
     (λ _ _. holds-then (sound-class t) (λ k u c. sound-spaced (class k) u (λ v s. (u, m-class c, s))))
     (λ _ _. holds-then (sound-chars t) (λ k u h. holds-skip u (λ _ v s. sound-range h s)))
 
-pub sound-separated : {A B : Type 0} {Q : B → Text → Type 0} (P : Text → B → Text → Type 0) (f : ℕ → Bool) (more : A → B → B) (last : A → B) (again : Text → Result B) (v : A) (t : Text)
+pub sound-separated : {A B : Type 0} {Q : B → Text → Type 0} (P : Text → B → Text → Type 0) (f : ℕ → Bool) (more : A → B → B) (last : A → B)
+    (again : Text → Result B) (v : A) (t : Text)
     → f 0x110000 ≡ false → ((w : Text) → Holds (P w) (again w))
     → ((u w : Text) → Is f t u → S u w → (b : B) (x : Text) → P w b x → Q (more v b) x) → Q (last v) t → Holds Q (separated f more last again v t)
 unfolding separated

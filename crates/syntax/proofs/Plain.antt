@@ -23,9 +23,9 @@ use Rattle.syntax.proofs.Names.{Follows, after-factor, within, follows-
 unfoldable pub front : List ℕ → ℕ → Bool
 front ks c = among c ks || namestart c
 
--- behind a mark; of a factor that may be marked; of a factor that is no bracket
-abbrev pub behind-mark : List ℕ
-behind-mark = chars "\"'#[~"
+-- after a mark; of a factor that may be marked; of a factor that is no bracket
+abbrev pub after-mark : List ℕ
+after-mark = chars "\"'#[~"
 
 abbrev pub may-be-marked : List ℕ
 may-be-marked = chars "@^-\"'#[~"
@@ -75,14 +75,14 @@ front-plus : (c : ℕ) → front may-be-marked c ≡ true → ch 0x2b c ≡ fals
 unfolding front namestart by-category
 front-plus c e = no-ch (front may-be-marked) 0x2b c refl e
 
--- what stands behind a mark is no mark, and a terminal's first character starts no name
-pub front-mark : (c : ℕ) → front behind-mark c ≡ true → isMark c ≡ false
+-- what stands after a mark is no mark, and a terminal's first character starts no name
+pub front-mark : (c : ℕ) → front after-mark c ≡ true → isMark c ≡ false
 unfolding front isMark namestart by-category
-front-mark c e = not-among (chars "@^-") (front behind-mark) c refl e
+front-mark c e = not-among (chars "@^-") (front after-mark) c refl e
 
-terminal-name : (c : ℕ) → among c behind-mark ≡ true → namestart c ≡ false
+terminal-name : (c : ℕ) → among c after-mark ≡ true → namestart c ≡ false
 unfolding namestart by-category
-terminal-name c e = among-not behind-mark namestart c refl e
+terminal-name c e = among-not after-mark namestart c refl e
 
 pub name-start : {t u n : Text} → Name t u n → namestart (hd t) ≡ true
 name-start (a-name (chr p) f) = p
@@ -91,24 +91,24 @@ mark-start : (c : ℕ) → isMark c ≡ true → front may-be-marked c ≡ true
 unfolding isMark
 mark-start c e = front-among may-be-marked c (among-at (chars "@^-") (λ k. among k may-be-marked) c refl e)
 
-first-marked : {t u : Text} {m : Mark} → Marked isMark t u m → front behind-mark (hd u) ≡ true → front may-be-marked (hd t) ≡ true
-first-marked {t} mark-none e = front-wider behind-mark may-be-marked (hd t) refl e
+first-marked : {t u : Text} {m : Mark} → Marked isMark t u m → front after-mark (hd u) ≡ true → front may-be-marked (hd t) ≡ true
+first-marked {t} mark-none e = front-wider after-mark may-be-marked (hd t) refl e
 first-marked (mark-some (chr p) s) e = mark-start _ p
 
 first-set : {t u : Text} {ms : List Member} → SetOf t u ms → ch 0x5b (hd t) ≡ true
 first-set (set-none (is p) s i s') = p
 first-set (set-some (is p) s r i s') = p
 
--- the first characters of terminals behind their marks
-chars-behind : {t u : Text} {k : Chars} → CharsOf t u k → among (hd t) behind-mark ≡ true
+-- the first characters of terminals after their marks
+chars-after : {t u : Text} {k : Chars} → CharsOf t u k → among (hd t) after-mark ≡ true
 unfolding opens
-chars-behind {t} h = among-at (chars "\"'#") (λ k. among k behind-mark) (hd t) refl (first-chars h)
+chars-after {t} h = among-at (chars "\"'#") (λ k. among k after-mark) (hd t) refl (first-chars h)
 
-ch-behind : (k c : ℕ) → among k behind-mark ≡ true → ch k c ≡ true → among c behind-mark ≡ true
-ch-behind k c p e = at-ch (λ j. among j behind-mark) true k c p e
+ch-after : (k c : ℕ) → among k after-mark ≡ true → ch k c ≡ true → among c after-mark ≡ true
+ch-after k c p e = at-ch (λ j. among j after-mark) true k c p e
 
-set-behind : {t u : Text} {ms : List Member} → SetOf t u ms → among (hd t) behind-mark ≡ true
-set-behind h = ch-behind 0x5b _ refl (first-set h)
+set-after : {t u : Text} {ms : List Member} → SetOf t u ms → among (hd t) after-mark ≡ true
+set-after h = ch-after 0x5b _ refl (first-set h)
 
 -- 2. Marks.
 tmark-mark : (c : ℕ) → isTmark c ≡ true → isMark c ≡ true
@@ -128,19 +128,19 @@ unfolding tmark
 bears mark-none = refl
 bears (mark-some (chr p) s) = tmark-bears _ p
 
-pub mark-read : {t u : Text} {m : Mark} → Marked isMark t u m → front behind-mark (hd u) ≡ true → read-mark t ≡ ok m u
-mark-read {u = u} p e = complete-mark p (front-mark (hd u) e) (front-spacing (hd u) (front-wider behind-mark no-bracket (hd u) refl e))
+pub mark-read : {t u : Text} {m : Mark} → Marked isMark t u m → front after-mark (hd u) ≡ true → read-mark t ≡ ok m u
+mark-read {u = u} p e = complete-mark p (front-mark (hd u) e) (front-spacing (hd u) (front-wider after-mark no-bracket (hd u) refl e))
 
-marked-read : {t u : Text} {m : Mark} (x : Result Symbol) → Marked isMark t u m → front behind-mark (hd u) ≡ true → marked m u ≡ x → read-plain t ≡ x
+marked-read : {t u : Text} {m : Mark} (x : Result Symbol) → Marked isMark t u m → front after-mark (hd u) ≡ true → marked m u ≡ x → read-plain t ≡ x
 unfolding read-plain when then
 marked-read {t} x p e h = rw (front-plus (hd t) (first-marked p e), mark-read p e) h
 
-behind-read : {v : Text} (u : Text) (m : Mark) (x : Terminal) → among (hd u) behind-mark ≡ true → tmark m ≡ true → read-terminal m u ≡ ok x v → marked m u ≡ ok (terminal x) v
+after-read : {v : Text} (u : Text) (m : Mark) (x : Terminal) → among (hd u) after-mark ≡ true → tmark m ≡ true → read-terminal m u ≡ ok x v → marked m u ≡ ok (terminal x) v
 unfolding marked when guard map
-behind-read u m x e b h = rw (terminal-name (hd u) e, b, h)
+after-read u m x e b h = rw (terminal-name (hd u) e, b, h)
 
-terminal-read : {t u v : Text} {m : Mark} {x : Terminal} → Marked isTmark t u m → among (hd u) behind-mark ≡ true → read-terminal m u ≡ ok x v → read-plain t ≡ ok (terminal x) v
-terminal-read {u = u} {m = m} {x = x} p e h = marked-read _ (as-mark p) (front-among behind-mark (hd u) e) (behind-read u m x e (bears p) h)
+terminal-read : {t u v : Text} {m : Mark} {x : Terminal} → Marked isTmark t u m → among (hd u) after-mark ≡ true → read-terminal m u ≡ ok x v → read-plain t ≡ ok (terminal x) v
+terminal-read {u = u} {m = m} {x = x} p e h = marked-read _ (as-mark p) (front-among after-mark (hd u) e) (after-read u m x e (bears p) h)
 
 -- 3. Terminals and nonterminals.
 opens-no-set : (c : ℕ) → opens c ≡ true → (ch 0x7e c ≡ false) × (ch 0x5b c ≡ false)
@@ -166,26 +166,26 @@ insertion-read {k = k} (is e) s h s' f =
     rw (e, complete-s s (opens-spacing _ (first-chars h)), complete-chars h (joins-s s' (follows-joins f)), complete-spaced (insertion k) s' (follows-spacing f))
 
 pub complete-terminal : {t u : Text} {x : Terminal} → TerminalOf t u x → Follows after-factor u → read-plain t ≡ ok (terminal x) u
-complete-terminal (t-literal {m = m} p h s) f = terminal-read p (chars-behind h) (literal-read m h s f)
-complete-terminal (t-inclusion {m = m} p h) f = terminal-read p (set-behind h) (inclusion-read m h f)
-complete-terminal (t-exclusion {m = m} p (is q) s h) f = terminal-read p (ch-behind 0x7e _ refl q) (exclusion-read m (is q) s h f)
+complete-terminal (t-literal {m = m} p h s) f = terminal-read p (chars-after h) (literal-read m h s f)
+complete-terminal (t-inclusion {m = m} p h) f = terminal-read p (set-after h) (inclusion-read m h f)
+complete-terminal (t-exclusion {m = m} p (is q) s h) f = terminal-read p (ch-after 0x7e _ refl q) (exclusion-read m (is q) s h f)
 complete-terminal (t-insertion q s h s') f = insertion-read q s h s' f
 
-first-behind : {t u : Text} {m : Mark} → Marked isTmark t u m → among (hd u) behind-mark ≡ true → front no-bracket (hd t) ≡ true
-first-behind {t} {u} p e = front-wider may-be-marked no-bracket (hd t) refl (first-marked (as-mark p) (front-among behind-mark (hd u) e))
+first-after : {t u : Text} {m : Mark} → Marked isTmark t u m → among (hd u) after-mark ≡ true → front no-bracket (hd t) ≡ true
+first-after {t} {u} p e = front-wider may-be-marked no-bracket (hd t) refl (first-marked (as-mark p) (front-among after-mark (hd u) e))
 
 pub first-terminal : {t u : Text} {x : Terminal} → TerminalOf t u x → front no-bracket (hd t) ≡ true
-first-terminal (t-literal p h s) = first-behind p (chars-behind h)
-first-terminal (t-inclusion p h) = first-behind p (set-behind h)
-first-terminal (t-exclusion p (is q) s h) = first-behind p (ch-behind 0x7e _ refl q)
+first-terminal (t-literal p h s) = first-after p (chars-after h)
+first-terminal (t-inclusion p h) = first-after p (set-after h)
+first-terminal (t-exclusion p (is q) s h) = first-after p (ch-after 0x7e _ refl q)
 first-terminal (t-insertion (is q) s h s') = front-ch no-bracket 0x2b _ refl q
 
 pub first-nonterminal : {t u v n : Text} {m : Mark} → Marked isMark t u m → Name u v n → front no-bracket (hd t) ≡ true
-first-nonterminal {t} p h = front-wider may-be-marked no-bracket (hd t) refl (first-marked p (front-name behind-mark _ (name-start h)))
+first-nonterminal {t} p h = front-wider may-be-marked no-bracket (hd t) refl (first-marked p (front-name after-mark _ (name-start h)))
 
 name-read : {u v w n : Text} (m : Mark) → Name u v n → S v w → Follows after-factor w → marked m u ≡ ok (nonterminal m n) w
 unfolding marked read-nonterminal when then
 name-read {n = n} m h s f = rw (name-start h, complete-use h s f) (complete-spaced (nonterminal m n) s (follows-spacing f))
 
 pub complete-nonterminal : {t u v w n : Text} {m : Mark} → Marked isMark t u m → Name u v n → S v w → Follows after-factor w → read-plain t ≡ ok (nonterminal m n) w
-complete-nonterminal {m = m} p h s f = marked-read _ p (front-name behind-mark _ (name-start h)) (name-read m h s f)
+complete-nonterminal {m = m} p h s f = marked-read _ p (front-name after-mark _ (name-start h)) (name-read m h s f)

@@ -26,7 +26,8 @@ unfolding category.ranges category.look category.categoryOf category.inClass
     r.when r.then r.map r.guard r.expect p.kind p.step p.scan p.spacing p.required p.spaced
     l.read-word l.quoted l.nonempty l.read-string l.digits l.read-hex l.read-chars l.one-character l.read-character l.read-class l.range-or l.read-member l.separated l.members l.read-set l.read-mark
     l.run l.read-name l.ended l.ending l.last-dot l.but-last l.less-dot l.read-use
-    g.read-terminal g.read-insertion g.read-nonterminal g.tmark g.marked g.read-plain g.repeated g.suffix g.under g.starts g.alts g.read-rule g.at-end g.rules g.heading g.after-heading g.read-prolog g.read-ixml g.answer g.parse
+    g.read-terminal g.read-insertion g.read-nonterminal g.tmark g.marked g.read-plain g.repeated g.suffix g.under g.starts g.alts
+    g.read-rule g.at-end g.rules g.heading g.after-heading g.read-prolog g.read-ixml g.answer g.parse
 computing = tt
 
 accepts : Parsed → Bool
@@ -40,28 +41,33 @@ repeats : parse (chars "a: \"x\"*.") ≡ parsed (grammar no-prolog (rule unmarke
 unfolding computing quoted
 repeats = refl
 
-dotted : parse (chars "a: b.. b.: \"x\".") ≡ parsed (grammar no-prolog (rule unmarked (chars "a") (one (single (nonterminal unmarked (chars "b."))))) (rule unmarked (chars "b.") (one (single (quoted "x"))) ∷ []))
+dotted : parse (chars "a: b.. b.: \"x\".") ≡ parsed
+    (grammar no-prolog (rule unmarked (chars "a") (one (single (nonterminal unmarked (chars "b.")))))
+    (rule unmarked (chars "b.") (one (single (quoted "x"))) ∷ []))
 unfolding computing quoted
 dotted = refl
 
--- a full stop of its own; a new rule behind a comment
+-- a full stop of its own; a new rule after a comment
 apart : parse (chars "a: b. . b.: \"x\".") ≡ parse (chars "a: b.. b.: \"x\".")
 unfolding computing
 apart = refl
 
-behind-comment : parse (chars "a: b.{c}c: \"x\". b: \"y\".") ≡ parse (chars "a: b. c: \"x\". b: \"y\".")
+after-comment : parse (chars "a: b.{c}c: \"x\". b: \"y\".") ≡ parse (chars "a: b. c: \"x\". b: \"y\".")
 unfolding computing
-behind-comment = refl
+after-comment = refl
 
 -- accepted
-all-accepted : all (λ s. accepts (parse s)) (chars "a: \"x\"+++\"y\"." ∷ chars "a: (b.). b.: \"x\"." ∷ chars "a: b.**c. b.: \"x\". c: \",\"." ∷ chars "ixml: \"x\"." ∷ chars "ixml{}version{}\"2\"{}.{}a:."
+all-accepted : all (λ s. accepts (parse s)) (chars "a: \"x\"+++\"y\"." ∷ chars "a: (b.). b.: \"x\"." ∷ chars
+    "a: b.**c. b.: \"x\". c: \",\"." ∷ chars "ixml: \"x\"." ∷ chars "ixml{}version{}\"2\"{}.{}a:."
     ∷ chars "a:- {c} \"x\", + \"x\", ~ [], \"x\" * , @ b, ^b ." ∷ chars "a:;." ∷ chars "a:()." ∷ chars "a = ['''' - \"z\"]; #d7ff | -[#d7ff-#e000]." ∷ []) ≡ true
 unfolding computing accepts
 all-accepted = refl
 
 -- refused
-all-refused : all (λ s. not (accepts (parse s))) (chars "" ∷ chars "a: \"\"." ∷ chars "a: \"x\".b: \"y\"." ∷ chars "a: b.-c: \"x\"." ∷ chars "a: b.@c: \"x\"." ∷ chars "a: b.{c" ∷ chars "a: # 41." ∷ chars "a: \"x\"* *." ∷ chars "a{c}b: ."
-    ∷ chars "a: \"x\"+\"y\"." ∷ chars "a: \"x\"*?." ∷ chars "a: -(\"x\")." ∷ chars "a: @\"x\"." ∷ chars "a: -+\"x\"." ∷ chars "a: +[\"x\"]." ∷ chars "a: \"x\",." ∷ chars "a: [;]." ∷ chars "a: [\"a\";]." ∷ chars "a: [lu]." ∷ chars "a: [Lux]."
+all-refused : all (λ s. not (accepts (parse s))) (chars "" ∷ chars "a: \"\"." ∷ chars "a: \"x\".b: \"y\"." ∷ chars "a: b.-c: \"x\"." ∷ chars
+    "a: b.@c: \"x\"." ∷ chars "a: b.{c" ∷ chars "a: # 41." ∷ chars "a: \"x\"* *." ∷ chars "a{c}b: ."
+    ∷ chars "a: \"x\"+\"y\"." ∷ chars "a: \"x\"*?." ∷ chars "a: -(\"x\")." ∷ chars "a: @\"x\"." ∷ chars "a: -+\"x\"." ∷ chars "a: +[\"x\"]."
+    ∷ chars "a: \"x\",." ∷ chars "a: [;]." ∷ chars "a: [\"a\";]." ∷ chars "a: [lu]." ∷ chars "a: [Lux]."
     ∷ chars "a: [\"ab\"-\"c\"]." ∷ chars "ixml version \"1.0\"." ∷ chars "ixml version\"1.0\". a: ." ∷ []) ≡ true
 unfolding computing accepts
 all-refused = refl

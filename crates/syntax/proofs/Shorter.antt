@@ -1,10 +1,11 @@
--- What is left behind something read is shorter.
+-- What is left after something read is shorter.
 use native.Mathlib.Omega.{arith}
 use mathlib.Core.Bool.{Bool}
 use mathlib.Core.List.{List}
 use Prim.Native.Nat.{ℕ, _<_, _≤_}
 use Rattle.text.specs.Lists.{Text}
-use Rattle.syntax.specs.Syntax.{chr, is, S, Comment, Inside, RS, String, CharsOf, SetOf, Marked, Followers, Name, TerminalOf, Alts, Alt, Terms, Term, Factor, RuleOf, Qchar, Qchars, Digits, Hex, Character, MemberOf, Members}
+use Rattle.syntax.specs.Syntax.{chr, is, S, Comment, Inside, RS, String, CharsOf, SetOf, Marked, Followers, Name, TerminalOf, Alts}
+use Rattle.syntax.specs.Syntax.{Alt, Terms, Term, Factor, RuleOf, Qchar, Qchars, Digits, Hex, Character, MemberOf, Members}
 use Rattle.syntax.specs.Syntax.Comment.{comment}
 use Rattle.syntax.specs.Syntax.Inside.{in-none, in-char, in-comment}
 use Rattle.syntax.specs.Syntax.S.{s-none, s-white, s-comment}

@@ -5,12 +5,14 @@ use mathlib.Core.List.{List, [], _∷_}
 use Prim.Native.Nat.{ℕ, zero, suc}
 use lib.Dec.{eqb}
 use Rattle.text.specs.Lists.{Text, chars, pick}
-use Rattle.syntax.specs.Syntax.{chr, Is, ch, bar, isMark, defines, namestart, S, RS, Marked, TerminalOf, Alts, Alt, Terms, Term, Factor, RuleOf, Word, markOf, plain, isTmark, Rules, PrologOf, Ixml}
+use Rattle.syntax.specs.Syntax.{chr, Is, ch, bar, isMark, defines, namestart, S, RS, Marked, TerminalOf, Alts, Alt, Terms, Term}
+use Rattle.syntax.specs.Syntax.{Factor, RuleOf, Word, markOf, plain, isTmark, Rules, PrologOf, Ixml}
 use Rattle.syntax.specs.Result.{hd, tl, Result, ok, fail}
 use Rattle.syntax.specs.Spacing.{spacing}
 use Rattle.text.specs.Limits.{levels}
 use lib.ListN.{length}
-use Rattle.tree.specs.Tree.{Mark, Symbol, Rule, included, attribute, deleted, literal, inclusion, exclusion, insertion, terminal, nonterminal, group, option, repeat0, repeat1, repeat0sep, repeat1sep, cons, one, also, version, Grammar}
+use Rattle.tree.specs.Tree.{Mark, Symbol, Rule, included, attribute, deleted, literal, inclusion, exclusion, insertion, terminal}
+use Rattle.tree.specs.Tree.{nonterminal, group, option, repeat0, repeat1, repeat0sep, repeat1sep, cons, one, also, version, Grammar}
 use Rattle.syntax.specs.Syntax.Marked.{mark-none, mark-some}
 use Rattle.syntax.specs.Syntax.TerminalOf.{t-literal, t-inclusion, t-exclusion, t-insertion}
 use Rattle.syntax.specs.Syntax.Alts.{alts-one, alts-also}
@@ -22,7 +24,9 @@ use Rattle.syntax.specs.Syntax.RuleOf.{a-rule}
 use Rattle.syntax.specs.Syntax.Rules.{rules-none, rules-next}
 use Rattle.syntax.specs.Syntax.PrologOf.{prolog-none, prolog-some}
 use Rattle.syntax.specs.Syntax.Ixml.{ixml}
-use Rattle.syntax.specs.Parser.{read-terminal, read-insertion, read-nonterminal, tmark, marked, read-plain, repeated, suffix, under, starts, single, alts, terms, term, factor, enough, read-rule, at-end, rules, heading, after-heading, read-prolog, grammar, read-ixml, Parsed, parsed, no-parse, answer, parse}
+use Rattle.syntax.specs.Parser.{read-terminal, read-insertion, read-nonterminal, tmark, marked, read-plain, repeated, suffix, under}
+use Rattle.syntax.specs.Parser.{starts, single, alts, terms, term, factor, enough, read-rule, at-end, rules, heading, after-heading}
+use Rattle.syntax.specs.Parser.{read-prolog, grammar, read-ixml, Parsed, parsed, no-parse, answer, parse}
 use Rattle.syntax.proofs.Classes.{clash, is-at, ch-end, bar-end, defines-end}
 use Rattle.syntax.proofs.Holds.{Holds, holds-when, holds-guard, holds-expect, holds-then, holds-map, weaken, taken, none, some}
 use Rattle.syntax.proofs.SpacingLaws.{sound-s, as-rs, sound-rs, sound-spaced, holds-skip}
@@ -70,7 +74,8 @@ sound-plain d t = holds-when (ch 0x2b (hd t)) (λ _ _. holds-map terminal (sound
 -- 2. Repetitions.
 module _ {d : ℕ} (f : Text → Result Symbol) (hf : (w : Text) → Holds (λ v x. Factor d w x v) (f w)) {t u : Text} {v : Symbol} (p : Factor d t u v) where
   sound-repeated : (k : ℕ) (plain : Symbol → Symbol) (sep : Symbol → Symbol → Symbol) → eqb 0x110000 k ≡ false
-      → ((w x : Text) → Is (ch k) u w → S w x → Term d t x (plain v)) → ((w x y z : Text) (v' : Symbol) → Is (ch k) u w → Is (ch k) w x → S x y → Factor d y z v' → Term d t z (sep v v'))
+      → ((w x : Text) → Is (ch k) u w → S w x → Term d t x (plain v))
+      → ((w x y z : Text) (v' : Symbol) → Is (ch k) u w → Is (ch k) w x → S x y → Factor d y z v' → Term d t z (sep v v'))
       → (w : Text) → Is (ch k) u w → Holds (λ v u. Term d t u v) (repeated k plain sep f v w)
   unfolding repeated
   sound-repeated k plain sep z a b w i = holds-when (ch k (hd w))
@@ -80,8 +85,10 @@ module _ {d : ℕ} (f : Text → Result Symbol) (hf : (w : Text) → Holds (λ v
   sound-suffix : Holds (λ v u. Term d t u v) (suffix f v u)
   unfolding suffix
   sound-suffix = holds-when (ch 0x3f (hd u)) (λ _ e. sound-spaced (option v) (tl u) (λ w s. t-option p (is-at (ch 0x3f) u (ch-end 0x3f refl) e) s))
-      (λ _ _. holds-when (ch 0x2a (hd u)) (λ _ e. sound-repeated 0x2a repeat0 repeat0sep refl (λ w x i s. t-repeat0 p i s) (λ w x y z v' i j s q. t-repeat0sep p i j s q) (tl u) (is-at (ch 0x2a) u (ch-end 0x2a refl) e))
-      (λ _ _. holds-when (ch 0x2b (hd u)) (λ _ e. sound-repeated 0x2b repeat1 repeat1sep refl (λ w x i s. t-repeat1 p i s) (λ w x y z v' i j s q. t-repeat1sep p i j s q) (tl u) (is-at (ch 0x2b) u (ch-end 0x2b refl) e))
+      (λ _ _. holds-when (ch 0x2a (hd u)) (λ _ e. sound-repeated 0x2a repeat0 repeat0sep refl (λ w x i s. t-repeat0 p i s)
+      (λ w x y z v' i j s q. t-repeat0sep p i j s q) (tl u) (is-at (ch 0x2a) u (ch-end 0x2a refl) e))
+      (λ _ _. holds-when (ch 0x2b (hd u)) (λ _ e. sound-repeated 0x2b repeat1 repeat1sep refl (λ w x i s. t-repeat1 p i s)
+      (λ w x y z v' i j s q. t-repeat1sep p i j s q) (tl u) (is-at (ch 0x2b) u (ch-end 0x2b refl) e))
       (λ _ _. some (t-factor p))))
 
 -- 3. The cycle.
@@ -103,7 +110,8 @@ mutual
   sound-terms zero d t = none
   sound-terms (suc n) d t =
       holds-then (sound-term n d t)
-      (λ f u p. sound-separated (λ w a x. Terms d w x a) (ch 0x2c) cons single (λ w. terms n d w) f u (ch-end 0x2c refl) (λ w. sound-terms n d w) (λ v w i s a x q. terms-more p i s q) (terms-one p))
+      (λ f u p. sound-separated (λ w a x. Terms d w x a) (ch 0x2c) cons single (λ w. terms n d w) f u (ch-end 0x2c refl)
+      (λ w. sound-terms n d w) (λ v w i s a x q. terms-more p i s q) (terms-one p))
 
   sound-term : (n d : ℕ) (t : Text) → Holds (λ f u. Term d t u f) (term n d t)
   sound-term zero d t = none
@@ -127,7 +135,8 @@ sound-rule t = holds-then (sound-mark t) (λ m u p. holds-then (sound-name u) (�
 abbrev Rest : Text → List Rule → Text → Type 0
 Rest t rs u = (v : Text) × Rules t v rs × S v [] × (u ≡ [])
 
-holds-end : {A : Type 0} {P : A → Text → Type 0} (t : Text) {f g : Unit {0} → Result A} → ((x : Unit {0}) → t ≡ [] → Holds P (f x)) → ((x : Unit {0}) → Holds P (g x)) → Holds P (at-end t f g)
+holds-end : {A : Type 0} {P : A → Text → Type 0} (t : Text) {f g : Unit {0} → Result A} → ((x : Unit {0}) → t ≡ [] → Holds P (f x))
+    → ((x : Unit {0}) → Holds P (g x)) → Holds P (at-end t f g)
 unfolding at-end
 holds-end [] p q = p tt refl
 holds-end (c ∷ t) p q = q tt

@@ -49,7 +49,8 @@ module _ (d : ℕ) (t : Text) where
   factor-plain e (suc n) h = rw e
 
   pub factor-step : (y : Result Symbol) → ch 0x28 (hd t) ≡ true
-      → ((again : ℕ → Text → Result Body) → ((e : ℕ) → Agrees (Alts= e) t (again e)) → under d (λ e. then (skip (tl t)) (λ _ u. then (again e u) (λ b v. expect (ch 0x29) v (λ w. spaced (group b) w)))) ≡ y)
+      → ((again : ℕ → Text → Result Body) → ((e : ℕ) → Agrees (Alts= e) t (again e))
+      → under d (λ e. then (skip (tl t)) (λ _ u. then (again e u) (λ b v. expect (ch 0x29) v (λ w. spaced (group b) w)))) ≡ y)
       → Factor= d t y
   unfolding alts when
   factor-step y e g zero h = absurd (omega arith)

@@ -15,7 +15,7 @@ unfoldable pub read-word : Text → Text → Result (Unit {0})
 read-word [] t = ok tt t
 read-word (k ∷ w) t = expect (ch k) t (λ u. read-word w u)
 
--- the characters of a string behind its first quote q; true: behind a quote that may be doubled
+-- the characters of a string after its first quote q; true: after a quote that may be doubled
 unfoldable pub quoted : ℕ → Text → Bool → Result Text
 quoted q [] false = fail
 quoted q [] true = ok [] []
@@ -31,7 +31,7 @@ nonempty fail = fail
 unfoldable pub read-string : Text → Result Text
 read-string t = guard (quote (hd t)) (λ _. nonempty (quoted (hd t) (tl t) false))
 
--- the digits at the head of the text, behind digits of the value n
+-- the digits at the head of the text, after digits of the value n
 unfoldable pub digits : ℕ → Text → Result ℕ
 digits n [] = ok n []
 digits n (c ∷ t) = when (digit c) (λ _. digits (16 * n + digitValue c) t) (λ _. ok n (c ∷ t))
@@ -55,7 +55,7 @@ read-character t = then (read-chars t) (λ k u. guard (one-character k) (λ _. o
 unfoldable pub read-class : Text → Result Text
 read-class t = guard (capital (hd t)) (λ _. when (letter (hd (tl t))) (λ _. ok (hd t ∷ hd (tl t) ∷ []) (tl (tl t))) (λ _. ok (hd t ∷ []) (tl t)))
 
--- a member that begins with the characters k, from behind the spacing that follows them
+-- a member that begins with the characters k, from after the spacing that follows them
 unfoldable pub range-or : Chars → Text → Result Member
 range-or k t =
     when (ch 0x2d (hd t))

@@ -14,7 +14,7 @@ use Rattle.syntax.specs.Result.{Result, ok, fail, hd, tl, when, then, ma
 use Rattle.syntax.specs.Spacing.{skip, spacing, required, spaced}
 use Rattle.syntax.specs.Lexical.{read-word, read-string, read-chars, read-set, read-mark, read-name, read-use, separated}
 
--- a terminal behind its mark m
+-- a terminal after its mark m
 unfoldable pub read-terminal : Mark → Text → Result Terminal
 read-terminal m t =
     when (ch 0x7e (hd t)) (λ _. then (skip (tl t)) (λ _ u. map (exclusion m) (read-set u)))
@@ -125,7 +125,7 @@ rules (suc n) t =
 unfoldable pub heading : Text → Result (Unit {0})
 heading t = then (read-word (chars "ixml") t) (λ _ u. then (required u) (λ _ v. read-word (chars "version") v))
 
--- a prolog behind its heading; where there is none, no prolog
+-- a prolog after its heading; where there is none, no prolog
 unfoldable pub after-heading : Result (Unit {0}) → Text → Result Prolog
 after-heading (ok _ u) t =
     then (required u) (λ _ v. then (read-string v) (λ k w. then (skip w) (λ _ x. expect (ch 0x2e) x (λ y. spaced (version k) y))))

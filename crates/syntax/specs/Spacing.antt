@@ -15,7 +15,7 @@ pub data Kind : Type 0 where
 unfoldable pub kind : ℕ → Kind
 kind c = pick (eqb c 0x7b) opening (pick (eqb c 0x7d) closing (pick (whitespace c) white other))
 
--- one character inside k comments, where d more may open; t begins with it, and r goes on behind it
+-- one character inside k comments, where d more may open; t begins with it, and r goes on after it
 unfoldable pub step : Kind → ℕ → ℕ → Text → (ℕ → ℕ → Result (Unit {0})) → Result (Unit {0})
 step white k d t r = r k d
 step opening k zero t r = fail
@@ -42,6 +42,6 @@ spacing c = eqb c 0x7b || whitespace c
 unfoldable pub required : Text → Result (Unit {0})
 required t = guard (spacing (hd t)) (λ _. skip t)
 
--- s behind a value
+-- s after a value
 unfoldable pub spaced : {A : Type 0} → A → Text → Result A
 spaced v t = map (λ _. v) (skip t)

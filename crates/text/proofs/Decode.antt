@@ -80,7 +80,8 @@ shorter bs c n t e =
     let s = step-sound bs c n t e in
     omega (arith, ap length (s .spelt), length-append (utf8 c) t, some-bytes c)
 
-after-same : (f g : ℕ) (bs : List ℕ) → ((t : List ℕ) → length t < length bs → decodeIn f t ≡ decodeIn g t) → (o : Taken) → charOf bs ≡ o → after (decodeIn f) o ≡ after (decodeIn g) o
+after-same : (f g : ℕ) (bs : List ℕ) → ((t : List ℕ) → length t < length bs → decodeIn f t ≡ decodeIn g t) → (o : Taken) → charOf bs ≡ o
+    → after (decodeIn f) o ≡ after (decodeIn g) o
 after-same f g bs ih (got c n t) e = ap (push c) (ih t (shorter bs c n t e))
 after-same f g bs ih cut e = refl
 after-same f g bs ih bad e = refl

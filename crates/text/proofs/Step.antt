@@ -292,7 +292,8 @@ module _ (b : ℕ) (bs : List ℕ) (c n : ℕ) (t : List ℕ) (e : charOf (b ∷
       let w₁ : w .b ≤ 0xbf = le-trans (w .high) (l .high) in
       let w₀ : 0x80 ≤ w .b = le-trans (l .low) (w .low) in
       let m = digits-3 v (w .b - 0x80) (x .b - 0x80) c (six (w .b) w₁) (six (x .b) (x .high)) f in
-      let k = bounds-3 v (secondLow b - 0x80) (secondHigh b - 0x80) (w .b - 0x80) (x .b - 0x80) c (less (secondLow b) (w .b) (w .low)) (less (w .b) (secondHigh b) (w .high)) (six (x .b) (x .high)) (omega arith) (l .long) (l .plain) f (six (w .b) w₁) in
+      let k = bounds-3 v (secondLow b - 0x80) (secondHigh b - 0x80) (w .b - 0x80) (x .b - 0x80) c (less (secondLow b) (w .b) (w .low))
+      (less (w .b) (secondHigh b) (w .high)) (six (x .b) (x .high)) (omega arith) (l .long) (l .plain) f (six (w .b) w₁) in
       let e₀ = first 0xe0 b (c / 4096) p (m .0) in
       let e₁ = back (w .b) (c / 64 % 64) w₀ (m .1) in
       let e₂ = back (x .b) (c % 64) (x .low) (m .2) in
@@ -305,7 +306,8 @@ module _ (b : ℕ) (bs : List ℕ) (c n : ℕ) (t : List ℕ) (e : charOf (b ∷
       let w = rest-inv 2 (secondLow b) (secondHigh b) v 1 bs c n t (sym (char-4 b bs p q) ∙ e) in
       let x = rest-inv 1 0x80 0xbf (v * 64 + (w .b - 0x80)) 2 (w .left) c n t (w .on) in
       let y = rest-inv 0 0x80 0xbf ((v * 64 + (w .b - 0x80)) * 64 + (x .b - 0x80)) 3 (x .left) c n t (x .on) in
-      let on : got (((v * 64 + (w .b - 0x80)) * 64 + (x .b - 0x80)) * 64 + (y .b - 0x80)) 4 (y .left) ≡ got c n t = sym (rest-end 0x80 0xbf (((v * 64 + (w .b - 0x80)) * 64 + (x .b - 0x80)) * 64 + (y .b - 0x80)) 4 (y .left)) ∙ y .on in
+      let on : got (((v * 64 + (w .b - 0x80)) * 64 + (x .b - 0x80)) * 64 + (y .b - 0x80)) 4 (y .left) ≡ got c n t = sym
+      (rest-end 0x80 0xbf (((v * 64 + (w .b - 0x80)) * 64 + (x .b - 0x80)) * 64 + (y .b - 0x80)) 4 (y .left)) ∙ y .on in
       let f : ((v * 64 + (w .b - 0x80)) * 64 + (x .b - 0x80)) * 64 + (y .b - 0x80) ≡ c = cc in
       let g : 4 ≡ n = cc in
       let h : y .left ≡ t = cc in
@@ -315,7 +317,9 @@ module _ (b : ℕ) (bs : List ℕ) (c n : ℕ) (t : List ℕ) (e : charOf (b ∷
       let w₁ : w .b ≤ 0xbf = le-trans (w .high) (l .high) in
       let w₀ : 0x80 ≤ w .b = le-trans (l .low) (w .low) in
       let m = digits-4 v (w .b - 0x80) (x .b - 0x80) (y .b - 0x80) c (six (w .b) w₁) (six (x .b) (x .high)) (six (y .b) (y .high)) f in
-      let k = bounds-4 v (secondLow b - 0x80) (secondHigh b - 0x80) (w .b - 0x80) (x .b - 0x80) (y .b - 0x80) c (less (secondLow b) (w .b) (w .low)) (less (w .b) (secondHigh b) (w .high)) (six (x .b) (x .high)) (six (y .b) (y .high)) (l .long) (l .below) f in
+      let k = bounds-4 v (secondLow b - 0x80) (secondHigh b - 0x80) (w .b - 0x80) (x .b - 0x80) (y .b - 0x80) c
+      (less (secondLow b) (w .b) (w .low)) (less (w .b) (secondHigh b) (w .high)) (six (x .b) (x .high)) (six (y .b) (y .high))
+      (l .long) (l .below) f in
       let e₀ = first 0xf0 b (c / 262144) p (m .0) in
       let e₁ = back (w .b) (c / 4096 % 64) w₀ (m .1) in
       let e₂ = back (x .b) (c / 64 % 64) (x .low) (m .2) in

@@ -1,10 +1,11 @@
--- The syntax tree in a table: tokens in the order of the text, operators behind what they apply to, each token some numbers.
+-- The syntax tree in a table: tokens in the order of the text, operators after what they apply to, each token some numbers.
 use mathlib.Core.List.{List, [], _∷_, _++_}
 use Prim.Native.Nat.{ℕ, _+_, min}
 use lib.ListN.{length}
 use Rattle.text.specs.Lists.{Text, concatMap}
 use Rattle.tree.specs.Tree.{Mark, unmarked, included, attribute, deleted, Chars, string, hex, Member, Terminal, literal, inclusion, exclusion, insertion}
-use Rattle.tree.specs.Tree.{Symbol, terminal, nonterminal, group, option, repeat0, repeat1, repeat0sep, repeat1sep, rest, Alternative, nil, cons, Body, one, also, Rule, Prolog, no-prolog, version, Grammar, rules}
+use Rattle.tree.specs.Tree.{Symbol, terminal, nonterminal, group, option, repeat0, repeat1, repeat0sep, repeat1sep, rest}
+use Rattle.tree.specs.Tree.{Alternative, nil, cons, Body, one, also, Rule, Prolog, no-prolog, version, Grammar, rules}
 use Rattle.tree.specs.Tree as tree
 
 pub data Token : Type 0 where
@@ -27,7 +28,12 @@ pub data Token : Type 0 where
 
 -- The tokens of each part.
 abbrev pub memberToken : Member → Token
-memberToken m = elim m [ tree.chars k ↦ elim k as (λ _. Token) [ string cs ↦ member-quoted cs | hex n ↦ member-coded n ] | tree.range a b ↦ member-range a b | tree.class k ↦ member-class k ]
+memberToken m =
+    elim m [
+      | tree.chars k ↦ elim k as (λ _. Token) [ string cs ↦ member-quoted cs | hex n ↦ member-coded n ]
+      | tree.range a b ↦ member-range a b
+      | tree.class k ↦ member-class k
+    ]
 
 abbrev pub memberTokens : List Member → List Token
 memberTokens [] = set-end ∷ []
@@ -71,7 +77,7 @@ prologTokens (version k) = version-is k ∷ []
 abbrev pub grammarTokens : Grammar → List Token
 grammarTokens g = prologTokens (g .prolog) ++ concatMap ruleTokens (rules g)
 
--- The numbers of a token: what it is, with its mark, and then what it holds. Characters stand behind their count; a hex number
+-- The numbers of a token: what it is, with its mark, and then what it holds. Characters stand after their count; a hex number
 -- stands as its value, every value above 10FFFF as 110000.
 abbrev pub markNumber : Mark → ℕ
 markNumber m = elim m [ unmarked ↦ 0 | included ↦ 1 | attribute ↦ 2 | deleted ↦ 3 ]

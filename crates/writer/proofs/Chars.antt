@@ -13,7 +13,7 @@ use Rattle.xml.specs.Names.{xmlChar, nameStart, nameChar, xmlName}
 use Rattle.xml.specs.Document.{Xml, none, char, attr, elem, misnamed, unwritable}
 use Rattle.xml.specs.Bytes.{escape, attributes, content, closed, state}
 use Rattle.xml.proofs.Escapes.{by-each}
-use Rattle.spell.specs.Out.{enc}
+use Rattle.markup.specs.Out.{enc}
 
 -- no number of a text is above all characters
 abbrev pub ok : Text → Bool
@@ -60,7 +60,8 @@ spans : (c : ℕ) (ss : List Span) → all (λ s. leb (s .to) 0x110000) ss ≡ t
 spans c [] l h = absurd (let z : _≡_ {A = ℕ} 0 1 = cc in omega arith)
 spans c (s ∷ ss) l h = go (leb (s .to) 0x110000) (all (λ s. leb (s .to) 0x110000) ss) refl l (leb (s .from) c) (leb c (s .to)) refl (any (inside c) ss) h (λ a b. spans c ss a b)
   where
-    go : (a rs : Bool) → leb (s .to) 0x110000 ≡ a → (a && rs) ≡ true → (f t : Bool) → leb c (s .to) ≡ t → (b : Bool) → ((f && t) || b) ≡ true → (rs ≡ true → b ≡ true → leb c 0x110000 ≡ true) → leb c 0x110000 ≡ true
+    go : (a rs : Bool) → leb (s .to) 0x110000 ≡ a → (a && rs) ≡ true → (f t : Bool) → leb c (s .to) ≡ t → (b : Bool)
+        → ((f && t) || b) ≡ true → (rs ≡ true → b ≡ true → leb c 0x110000 ≡ true) → leb c 0x110000 ≡ true
     go false rs e l f t q b h k = absurd (let z : _≡_ {A = ℕ} 0 1 = cc in omega arith)
     go true rs e l true true q b h k = le-leb c 0x110000 (omega (arith, leb-true (s .to) 0x110000 e, leb-true c (s .to) q))
     go true rs e l true false q b h k = k l h
@@ -72,13 +73,18 @@ xml-ok c h = spans c (span 0x9 0xa ∷ span 0xd 0xd ∷ span 0x20 0xd7ff ∷ spa
 
 start-ok : (c : ℕ) → nameStart c ≡ true → leb c 0x110000 ≡ true
 unfolding nameStart
-start-ok c h = spans c (span 0x3a 0x3a ∷ span 0x41 0x5a ∷ span 0x5f 0x5f ∷ span 0x61 0x7a ∷ span 0xc0 0xd6 ∷ span 0xd8 0xf6 ∷ span 0xf8 0x2ff ∷ span 0x370 0x37d ∷ span 0x37f 0x1fff ∷ span 0x200c 0x200d ∷ span 0x2070 0x218f ∷ span 0x2c00 0x2fef ∷ span 0x3001 0xd7ff ∷ span 0xf900 0xfdcf ∷ span 0xfdf0 0xfffd ∷ span 0x10000 0xeffff ∷ []) refl h
+start-ok c h =
+    spans c (span 0x3a 0x3a ∷ span 0x41 0x5a ∷ span 0x5f 0x5f ∷ span 0x61 0x7a ∷ span 0xc0 0xd6 ∷ span 0xd8 0xf6 ∷ span 0xf8 0x2ff ∷ span
+    0x370 0x37d ∷ span 0x37f 0x1fff ∷ span 0x200c 0x200d ∷ span 0x2070 0x218f ∷ span 0x2c00 0x2fef ∷ span 0x3001 0xd7ff ∷ span 0xf900 0xfdcf
+    ∷ span 0xfdf0 0xfffd ∷ span 0x10000 0xeffff ∷ []) refl h
 
 part-ok : (c : ℕ) → nameChar c ≡ true → leb c 0x110000 ≡ true
 unfolding nameChar
 part-ok c h = go (nameStart c) refl (any (inside c) (span 0x2d 0x2e ∷ span 0x30 0x39 ∷ span 0xb7 0xb7 ∷ span 0x300 0x36f ∷ span 0x203f 0x2040 ∷ [])) refl h
   where
-    go : (a : Bool) → nameStart c ≡ a → (b : Bool) → any (inside c) (span 0x2d 0x2e ∷ span 0x30 0x39 ∷ span 0xb7 0xb7 ∷ span 0x300 0x36f ∷ span 0x203f 0x2040 ∷ []) ≡ b → (a || b) ≡ true → leb c 0x110000 ≡ true
+    go : (a : Bool) → nameStart c ≡ a → (b : Bool) → any (inside c)
+        (span 0x2d 0x2e ∷ span 0x30 0x39 ∷ span 0xb7 0xb7 ∷ span 0x300 0x36f ∷ span 0x203f 0x2040 ∷ []) ≡ b → (a || b) ≡ true
+        → leb c 0x110000 ≡ true
     go true p b q h = start-ok c p
     go false p b q h = spans c (span 0x2d 0x2e ∷ span 0x30 0x39 ∷ span 0xb7 0xb7 ∷ span 0x300 0x36f ∷ span 0x203f 0x2040 ∷ []) refl (q ∙ h)
 
@@ -127,7 +133,9 @@ attributes-ok (attr n v x) p q =
     let N = name-ok n (not-false (xmlName n) (a .0)) in
     let w = concatMap (escape true) v in
     ok-append (chars " " ++ n ++ chars "='" ++ w ++ chars "'") (attributes x)
-    (ok-append (chars " " ++ n ++ chars "='" ++ w) (chars "'") (ok-append (chars " " ++ n ++ chars "='") w (ok-append (chars " " ++ n) (chars "='") (ok-append (chars " ") n refl N) refl) (value-ok v (b .0))) refl)
+    (ok-append (chars " " ++ n ++ chars "='" ++ w) (chars "'")
+    (ok-append (chars " " ++ n ++ chars "='") w (ok-append (chars " " ++ n) (chars "='") (ok-append (chars " ") n refl N) refl)
+    (value-ok v (b .0))) refl)
     (attributes-ok x (a .1) (b .1))
 attributes-ok (elem n i x) p q =
     let a = neither (not (xmlName n) || misnamed i) (misnamed x) (or-first (not (xmlName n)) (misnamed i) (misnamed x) p) in
@@ -139,7 +147,10 @@ attributes-ok (elem n i x) p q =
 
 closed-ok : (n t : Text) → ok n ≡ true → ok t ≡ true → ok (closed n t) ≡ true
 closed-ok n [] p q = refl
-closed-ok n (c ∷ cs) p q = ok-append (chars ">" ++ (c ∷ cs) ++ chars "</" ++ n) (chars ">") (ok-append (chars ">" ++ (c ∷ cs) ++ chars "</") n (ok-append (chars ">" ++ (c ∷ cs)) (chars "</") (ok-append (chars ">") (c ∷ cs) refl q) refl) p) refl
+closed-ok n (c ∷ cs) p q =
+    ok-append (chars ">" ++ (c ∷ cs) ++ chars "</" ++ n) (chars ">")
+    (ok-append (chars ">" ++ (c ∷ cs) ++ chars "</") n
+    (ok-append (chars ">" ++ (c ∷ cs)) (chars "</") (ok-append (chars ">") (c ∷ cs) refl q) refl) p) refl
 
 three : (a b c : Bool) → (a || b || c) ≡ false → (a ≡ false) × (b ≡ false) × (c ≡ false)
 three true b c h = absurd (let z : _≡_ {A = ℕ} 0 1 = cc in omega arith)
@@ -158,7 +169,9 @@ content-ok (elem n i x) p q =
     let b = neither (unwritable i) (unwritable x) q in
     let N = name-ok n (not-false (xmlName n) (a .0)) in
     ok-append (chars "<" ++ n ++ attributes i ++ closed n (content i)) (content x)
-    (ok-append (chars "<" ++ n ++ attributes i) (closed n (content i)) (ok-append (chars "<" ++ n) (attributes i) (ok-append (chars "<") n refl N) (attributes-ok i (a .1) (b .0))) (closed-ok n (content i) N (content-ok i (a .1) (b .0))))
+    (ok-append (chars "<" ++ n ++ attributes i) (closed n (content i))
+    (ok-append (chars "<" ++ n) (attributes i) (ok-append (chars "<") n refl N) (attributes-ok i (a .1) (b .0)))
+    (closed-ok n (content i) N (content-ok i (a .1) (b .0))))
     (content-ok x (a .2) (b .1))
 
 state-ok : (a b : Bool) → ok (state a b) ≡ true
@@ -168,7 +181,8 @@ state-ok false true = refl
 state-ok false false = refl
 
 -- the document element
-pub element-ok : (a b : Bool) (n : Text) (i x : Xml) → misnamed (elem n i x) ≡ false → unwritable (elem n i x) ≡ false → ok (chars "<" ++ n ++ state a b ++ attributes i ++ closed n (content i)) ≡ true
+pub element-ok : (a b : Bool) (n : Text) (i x : Xml) → misnamed (elem n i x) ≡ false → unwritable (elem n i x) ≡ false
+    → ok (chars "<" ++ n ++ state a b ++ attributes i ++ closed n (content i)) ≡ true
 unfolding misnamed unwritable
 element-ok a b n i x p q =
     let m = three (not (xmlName n)) (misnamed i) (misnamed x) p in

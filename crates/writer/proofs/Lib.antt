@@ -1,7 +1,4 @@
-pub mod Trees
-pub mod Rows
-pub mod Steps
-pub mod Owed
-pub mod Contents
+pub mod Laws
+pub mod Folds
 pub mod Chars
 pub mod Whole

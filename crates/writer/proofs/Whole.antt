@@ -15,46 +15,37 @@ use Rattle.derive.specs.Derive.{Row, end, node, leftParse, alternative, root}
 use Rattle.plain.specs.Plain.{ruleMark}
 use Rattle.xml.specs.Document.{Xml, none, char, attr, elem, nodes, marked, markOf, asRoot, document, notOne, misnamed, unwritable}
 use Rattle.xml.specs.Bytes.{attributes, content, closed, bytes, state as stateText}
-use Rattle.ends.specs.Noted.{Noted, Parsed, Room}
-use Rattle.ends.specs.Walk.{Walk}
-use Rattle.ends.specs.Steps.{Found, Named}
-use Rattle.ends.proofs.Items.{tokens-in}
-use Rattle.ends.proofs.Walks.{spot}
-use Rattle.ends.proofs.Notes.{begins}
-use Rattle.spell.specs.Out.{State, state, puts, enc, Wrote}
-use Rattle.spell.specs.Tags.{closing, endOf, stateOf}
-use Rattle.spell.proofs.Puts.{puts-none, enc-none, and-then, wrote-text, dry, room}
-use Rattle.writer.specs.Rows.{Standing}
-use Rattle.writer.specs.Content.{late, startOf, stated, Came, Started}
+use Rattle.left_parse.specs.Noted.{Noted, Parsed, Room}
+use Rattle.left_parse.specs.Steps.{Found, Named}
+use Rattle.left_parse.proofs.Items.{tokens-in}
+use Rattle.left_parse.proofs.Notes.{begins}
+use Rattle.markup.specs.Out.{State, state, puts, enc, Wrote}
+use Rattle.markup.specs.Tags.{closing, endOf, stateOf}
+use Rattle.markup.proofs.Puts.{puts-none, enc-none, and-then, wrote-text, dry, room}
+use Rattle.cursor.specs.Ahead.{AtRow, SomeRow, rootAt}
+use Rattle.cursor.specs.declared.Cursor.{Cursor}
+use Rattle.cursor.proofs.Nodes.{ahead-begin}
+use Rattle.writer.specs.Markup.{late, startOf, stated, Came, Started}
 use Rattle.writer.specs.Whole.{Job, Some, Writable, Documented, Answered}
 use Rattle.writer.specs.declared.Written.{Written}
 use Rattle.writer.specs.declared.Written.the-variants.{Xml as Fits, TooLong}
-use Rattle.writer.specs.declared.Here.{Here}
-use Rattle.writer.proofs.Owed.{late-closed, stated-none}
+use Rattle.writer.specs.declared.Tag.{Tag}
+use Rattle.writer.proofs.Laws.{late-closed, stated-none}
 use Rattle.writer.proofs.Chars.{ok, enc-ok, element-ok}
 
 -- the root's row
 pub record Rooted (T P : List ℕ) (r : Text) (S : List ℕ) (item : ℕ) (g : Grammar) (t : Row) : Type 0 where
-  pub standing : Standing T P r S (spot item 1 0 0)
-  pub grammar : standing .g ≡ g
-  pub number : ℕ
   pub inner : Xml
-  pub same : inner ≡ nodes (standing .g) r (standing .row) (standing .ss) 0
+  pub stands : AtRow T P r S (rootAt item) inner
   pub is : document g r t ≡ marked (asRoot (markOf g (root g))) (g .root .name) inner []
 
-pub rooted : {T : List ℕ} {R : ℕ} {P : List ℕ} {r : Text} {S : List ℕ} {g : Grammar} {t : Row} → Room T P S → Job T R P r S g t → (item : ℕ) → Found T R (getD P 0 0) item → Rooted T P r S item g t
+pub rooted : {T : List ℕ} {R : ℕ} {P : List ℕ} {r : Text} {S : List ℕ} {g : Grammar} {t : Row} → Room T P S → Job T R P r S g t → (item : ℕ)
+    → Found T R (getD P 0 0) item → Rooted T P r S item g t
 rooted {T} {R} {P} {r} {S} {g} {t} room J item found =
     let B = begins room (J .parsed) item found in
     let tree = B .tree in
     let N : Noted S 0 (node (tree .number) (length r) (tree .children) end) = rw (tree .is) at (J .noted) in
-    record {
-      standing = record { g = g; starts = B .starts; e₁ = 1 + length (leftParse (tree .children)); i₁ = length r; row = tree .children; ss = alternative g (root g) (tree .number); walk = B .walk S (N .2); room = room .scratch };
-      grammar = refl;
-      number = tree .number;
-      inner = nodes g r (tree .children) (alternative g (root g) (tree .number)) 0;
-      same = refl;
-      is = ap (document g r) (tree .is);
-    }
+    record { inner = nodes g r (tree .children) (alternative g (root g) (tree .number)) 0; stands = ahead-begin (B .walk S (N .2)) (room .scratch); is = ap (document g r) (tree .is) }
 
 -- the root's mark is that of the first rule
 same-self : (t : Text) → same t t ≡ true
@@ -87,32 +78,33 @@ module _ {T P : List ℕ} {r : Text} {S : List ℕ} {item : ℕ} {g : Grammar} {
   pub document-element : (20 + markNumber (g .root .mark) ≡ 23 → ⊥) → document g r t ≡ elem (g .root .name) (R .inner) none
   document-element e = R .is ∙ ap (λ (m : Mark). marked (asRoot m) (g .root .name) (R .inner) []) (root-mark g) ∙ as-element (g .root .name) (R .inner) (g .root .mark) e
 
+  pub root-row : SomeRow T P r S (rootAt item)
+  root-row = record { x = R .inner; stands = R .stands }
+
   -- a deleted root: its contents are the document
-  pub wrote-deleted : {S′ out out′ : List ℕ} {limit due : ℕ} {s : Here} → Came T P r S S′ out out′ limit (record { at = spot item 1 0 0; pos = 0; ajar = false; due = due }) s → Wrote limit 0 out (s .pos) out′ (stated (stateOf due) (R .inner))
+  pub wrote-deleted : {S′ out out′ : List ℕ} {limit due : ℕ} {s : Tag}
+      → Came T P r S S′ out out′ limit (record { pos = 0; unclosed = false }) due (rootAt item) s
+      → Wrote limit 0 out (s .pos) out′ (stated (stateOf due) (R .inner))
   wrote-deleted {S′} {out} {out′} {limit} {due} {s} C =
-      let D = R .standing in
-      let w = C .wrote [] [] (D .g) (D .starts) (D .e₁) (D .i₁) (D .row) (D .ss) (D .walk) in
       let x = stated (stateOf due) (R .inner) in
-      let w′ : puts limit (state (s .pos) out′) (enc (endOf (s .ajar) [] [])) ≡ puts limit (state 0 out) (enc (x ++ [])) = rw (R .same) w in
-      record { is = sym (nothing (s .ajar)) ∙ w′ ∙ ap (λ (u : Text). puts limit (state 0 out) (enc u)) (append-nil x) }
+      record { is = sym (nothing (s .unclosed)) ∙ C .wrote (R .inner) (R .stands) [] [] ∙ ap (λ (u : Text). puts limit (state 0 out) (enc u)) (append-nil x) }
     where
       nothing : (b : Bool) → puts limit (state (s .pos) out′) (enc (endOf b [] [])) ≡ state (s .pos) out′
       nothing true = rw enc-none (puts-none limit (state (s .pos) out′))
       nothing false = rw enc-none (puts-none limit (state (s .pos) out′))
 
   -- an element: a start tag, its contents and its end
-  pub wrote-element : {S′ S″ out out₁ out₂ out₃ : List ℕ} {limit token due k q q₃ : ℕ} {s : Here} (n : Text) → Named T token k n → Started T P r S S′ out out₁ limit token due (record { at = spot item 1 0 0; pos = 0 }) q
-      → Came T P r S′ S″ out₁ out₂ limit (record { at = spot item 1 0 0; pos = q; ajar = true; due = 0 }) s → Wrote limit (s .pos) out₂ q₃ out₃ (endOf (s .ajar) (chars "/>") (closing n))
+  pub wrote-element : {S′ S″ out out₁ out₂ out₃ : List ℕ} {limit token due k q q₃ : ℕ} {s : Tag} (n : Text) → Named T token k n
+      → Started T P r S S′ out out₁ limit 0 token due (rootAt item) q
+      → Came T P r S′ S″ out₁ out₂ limit (record { pos = q; unclosed = true }) 0 (rootAt item) s → Wrote limit (s .pos) out₂ q₃ out₃ (endOf (s .unclosed) (chars "/>") (closing n))
       → Wrote limit 0 out q₃ out₃ (stated (stateOf due) (elem n (R .inner) none))
-  wrote-element {S′} {S″} {out} {out₁} {out₂} {out₃} {limit} {token} {due} {k} {q} {q₃} {s} n N St C E =
-      let D = R .standing in
+  wrote-element {out₁ = out₁} {out₃ = out₃} {limit = limit} {due = due} {k = k} {q = q} {q₃ = q₃} {s = s} n N St C E =
       let st = stateOf due in
       let x = R .inner in
       let L = late true (content x) (chars "/>") (closing n) in
-      let a : Wrote limit 0 out q out₁ (startOf n st x) = rw (R .same) (St .wrote k n N (D .g) (D .starts) (D .e₁) (D .i₁) (D .row) (D .ss) (D .walk)) in
-      let c = C .wrote (chars "/>") (closing n) (D .g) (D .starts) (D .e₁) (D .i₁) (D .row) (D .ss) (rw (St .kept) (D .walk)) in
-      let c′ : puts limit (state (s .pos) out₂) (enc (endOf (s .ajar) (chars "/>") (closing n))) ≡ puts limit (state q out₁) (enc (late true (stated [] x) (chars "/>") (closing n))) = rw (R .same) c in
-      let b : Wrote limit q out₁ q₃ out₃ L = record { is = E .is ∙ c′ ∙ ap (λ (u : Text). puts limit (state q out₁) (enc (late true u (chars "/>") (closing n)))) (stated-none x) } in
+      let a = St .wrote k n N x (R .stands) in
+      let c = C .wrote x (rw (St .kept) (R .stands)) (chars "/>") (closing n) in
+      let b : Wrote limit q out₁ q₃ out₃ L = record { is = E .is ∙ c ∙ ap (λ (u : Text). puts limit (state q out₁) (enc (late true u (chars "/>") (closing n)))) (stated-none x) } in
       wrote-text (ap (λ (u : Text). startOf n st x ++ u) (append-nil L)) (and-then a b)
 
 -- the bytes of one element
@@ -126,14 +118,19 @@ one (elem n i (char c x)) h = absurd (let z : _≡_ {A = ℕ} 0 1 = cc in omega 
 one (elem n i (attr m v x)) h = absurd (let z : _≡_ {A = ℕ} 0 1 = cc in omega arith)
 one (elem n i (elem m j x)) h = absurd (let z : _≡_ {A = ℕ} 0 1 = cc in omega arith)
 
-element-bytes : (a b : Bool) (due : ℕ) → stateOf due ≡ stateText a b → (n : Text) (i : Xml) → misnamed (elem n i none) ≡ false → unwritable (elem n i none) ≡ false → enc (stated (stateOf due) (elem n i none)) ≡ bytes a b (elem n i none)
+element-bytes : (a b : Bool) (due : ℕ) → stateOf due ≡ stateText a b → (n : Text) (i : Xml) → misnamed (elem n i none) ≡ false
+    → unwritable (elem n i none) ≡ false → enc (stated (stateOf due) (elem n i none)) ≡ bytes a b (elem n i none)
 unfolding bytes
 element-bytes a b due e n i p q =
     let t = chars "<" ++ n ++ stateText a b ++ attributes i ++ closed n (content i) in
-    let s : stated (stateOf due) (elem n i none) ≡ t = ap (λ (u : Text). startOf n u i ++ (late true (content i) (chars "/>") (closing n) ++ [])) e ∙ ap (λ (u : Text). startOf n (stateText a b) i ++ u) (append-nil (late true (content i) (chars "/>") (closing n)) ∙ late-closed n (content i)) in
+    let s : stated (stateOf due) (elem n i none) ≡ t = ap
+    (λ (u : Text). startOf n u i ++ (late true (content i) (chars "/>") (closing n) ++ [])) e
+    ∙ ap (λ (u : Text). startOf n (stateText a b) i ++ u)
+    (append-nil (late true (content i) (chars "/>") (closing n)) ∙ late-closed n (content i)) in
     ap enc s ∙ enc-ok t (element-ok a b n i none p q)
 
-pub document-bytes : {g : Grammar} {r : Text} {t : Row} (a b : Bool) (due : ℕ) → stateOf due ≡ stateText a b → Writable g r t → enc (stated (stateOf due) (document g r t)) ≡ bytes a b (document g r t)
+pub document-bytes : {g : Grammar} {r : Text} {t : Row} (a b : Bool) (due : ℕ) → stateOf due ≡ stateText a b → Writable g r t
+    → enc (stated (stateOf due) (document g r t)) ≡ bytes a b (document g r t)
 document-bytes {g} {r} {t} a b due e W =
     let o = one (document g r t) (W .one) in
     rw (o .2) (element-bytes a b due e (o .0) (o .1) (rw (o .2) at (W .names)) (rw (o .2) at (W .chars)))
@@ -148,7 +145,8 @@ too-long m o′ o bs e h =
     record { fits = λ f. absurd (omega arith); long = λ f. (refl, q) }
 
 -- measured and written
-pub written : (m n : ℕ) (o′ o″ o bs : List ℕ) → state m o′ ≡ puts 0 (state 0 o) bs → m ≤ length o′ → state n o″ ≡ puts (length o′) (state 0 o′) bs → Answered bs o o″ (Fits n)
+pub written : (m n : ℕ) (o′ o″ o bs : List ℕ) → state m o′ ≡ puts 0 (state 0 o) bs → m ≤ length o′
+    → state n o″ ≡ puts (length o′) (state 0 o′) bs → Answered bs o o″ (Fits n)
 written m n o′ o″ o bs e h w =
     let d = e ∙ dry 0 o bs (omega arith) in
     let p : m ≡ min (0 + length bs) (length o + 1) = ap (λ (s : State). s .pos) d in
@@ -166,3 +164,19 @@ room-again e R = rw e R
 
 pub job-again : {T : List ℕ} {R : ℕ} {P : List ℕ} {r : Text} {S S′ : List ℕ} → S′ ≡ S → Some T R P r S → Some T R P r S′
 job-again e J = rw e J
+
+-- at the root's row
+pub row-again : {T P : List ℕ} {r : Text} {S S′ : List ℕ} {c c′ : Cursor} → c ≡ c′ → S′ ≡ S → SomeRow T P r S c′ → SomeRow T P r S′ c
+row-again e q D = rw (e, q) D
+
+pub came-at : {T P : List ℕ} {r : Text} {S S′ out out′ : List ℕ} {limit : ℕ} {t : Tag} {due : ℕ} {c c′ : Cursor} {t′ : Tag} → c ≡ c′
+    → Came T P r S S′ out out′ limit t due c t′ → Came T P r S S′ out out′ limit t due c′ t′
+came-at e C = rw e at C
+
+pub started-at : {T P : List ℕ} {r : Text} {S S′ out out′ : List ℕ} {limit pos token due : ℕ} {c c′ : Cursor} {q : ℕ} → c ≡ c′
+    → Started T P r S S′ out out′ limit pos token due c q → Started T P r S S′ out out′ limit pos token due c′ q
+started-at e C = rw e at C
+
+-- the root's alternative is the first entry
+pub found-first : {T : List ℕ} {x a item : ℕ} (P : List ℕ) → a ≡ getD P 0 0 → Found T x a item → Found T x (getD P 0 0) item
+found-first P e F = rw e at F

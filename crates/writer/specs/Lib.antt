@@ -1,3 +1,2 @@
-pub mod Rows
-pub mod Content
+pub mod Markup
 pub mod Whole

@@ -11,10 +11,10 @@ use Rattle.derive.specs.Derive.{Row}
 use Rattle.items.specs.Items.{Reads}
 use Rattle.xml.specs.Document.{document, misnamed, unwritable, notOne}
 use Rattle.xml.specs.Bytes.{bytes}
-use Rattle.ends.specs.Noted.{Noted, Parsed}
-use Rattle.spell.specs.Out.{Wrote}
-use Rattle.spell.specs.Tags.{stateOf}
-use Rattle.writer.specs.Content.{stated}
+use Rattle.left_parse.specs.Noted.{Noted, Parsed}
+use Rattle.markup.specs.Out.{Wrote}
+use Rattle.markup.specs.Tags.{stateOf}
+use Rattle.writer.specs.Markup.{stated}
 use Rattle.writer.specs.declared.Written.{Written}
 use Rattle.writer.specs.declared.Written.the-variants.{Xml, TooLong}
 

@@ -1,168 +1,59 @@
-// The XML of a left parse: measured and written by the same walk, with no recursion.
+// The XML of a left parse: measured and written by the same folds over the events of a cursor, with no recursion.
 ghost use mathlib.Core.Path.{_≡_};
-ghost use mathlib.Core.Bool.{Bool, true, false};
-ghost use mathlib.Core.List.{List};
+ghost use mathlib.Core.Bool.{true, false};
+ghost use mathlib.Core.List.{List, _++_};
 ghost use Prim.Native.Nat.{ℕ, _<_, _≤_};
 ghost use lib.ListN.{length};
+ghost use Rattle.text.specs.Lists.{Text, chars, pick, concatMap};
+ghost use Rattle.xml.specs.Bytes.{escape, bytes};
+ghost use Rattle.left_parse.specs.Steps.{Named};
+ghost use Rattle.markup.specs.Out.{Wrote};
+ghost use Rattle.markup.specs.Pieces.{Says};
+ghost use Rattle.markup.specs.Tags.{leadOf};
+ghost use Rattle.items.specs.Items.{kindAt};
+ghost use Rattle.cursor.specs.Ahead.{SomeRow, SomeNode};
 ghost use Rattle.tree.specs.Tree.{Grammar};
 ghost use Rattle.derive.specs.Derive.{Row};
-ghost use Rattle.items.specs.Items.{kindAt};
 ghost use Rattle.xml.specs.Document.{document};
-ghost use Rattle.xml.specs.Bytes.{bytes};
-ghost use Rattle.ends.specs.Noted.{Room};
-ghost use Rattle.ends.specs.Walk.{Over};
-ghost use Rattle.ends.specs.Steps.{Small, Leaves, SomeNode};
-ghost use Rattle.spell.specs.Out.{State};
-ghost use Rattle.writer.specs.Rows.{values, exposed, Standing, Left, Stepped, Done, Valued, Attributed};
-ghost use Rattle.writer.specs.Content.{Some, Gone, Came, Lettered, Started, Closed};
+ghost use Rattle.left_parse.specs.Noted.{Room};
 ghost use Rattle.writer.specs.Whole.{Job, Writable, Documented, Answered};
 ghost use Rattle.writer.specs.Whole.{Some as SomeJob};
-use ends::Spot;
+ghost use Rattle.writer.specs.Markup.{Attributed, Started, Opened, Came};
+use cursor::Cursor;
+use cursor::Event;
+use markup::Piece;
 
-// A walk that writes.
-pub struct Pen {
-    pub at: Spot,
-    pub pos: usize,
-}
+// The head of a rule that is marked `-`.
+const DELETED_HEAD: usize = tokens::RULE_HEAD_DELETED as usize;
 
-fn more(table: &[u32], s: Pen) -> bool
-    ensures { λ r. ⌜ (r ≡ true → Over (now (table .entry)) (s .at) → ⊥) × (r ≡ false → Over (now (table .entry)) (s .at)) ⌝ }
-{
-    let h = s.at;
-    ends::more(table, h)
-}
-
-fn value_leaf(table: &[u32], record: &[u32], out: &mut [u8], limit: usize, s: Pen) -> Pen
-    requires { ⌜ (limit ≤ length (now out)) × Small (s .at) ⌝ }
-    ensures { λ r. ⌜ Valued (now (table .entry)) (now («record» .entry)) (now (out .entry)) (now (out .exit)) limit s r ⌝ }
-{
-    let h = s.at;
-    let token = ends::token_at(table, h.item);
-    let p = spell::piece_of(table, token, h.place);
-    let q = spell::put_piece(out, limit, s.pos, 2, table, record, p);
-    let n = ends::skip(table, h);
-    Pen { at: n, pos: q }
-}
-
-fn value_step(
+// Text, if it stands in an attribute's value.
+fn put_quoted(
     table: &[u32],
-    parse: &[u32],
     record: &[u32],
-    scratch: &mut [u32],
     out: &mut [u8],
     limit: usize,
-    s: Pen,
-) -> Pen
-    requires { ⌜ limit ≤ length (now out) ⌝ }
-    requires { ⌜ (Over (now table) (s .at) → ⊥) ⌝ }
-    requires { ⌜ ((S₀ : List ℕ) × (fin : State) × Left values (now table) (now parse) (now «record») S₀ (now scratch) (now out) limit s fin) ⌝ }
-    ensures { λ r. ⌜ Stepped values (now (table .entry)) (now (parse .entry)) (now («record» .entry)) (now (scratch .entry)) (now (scratch .exit)) (now (out .entry)) (now (out .exit)) limit s r ⌝ }
-{
-    let h = s.at;
-    let k = ends::kind_at(table, h.item);
-    if k == 1 {
-        return value_leaf(table, record, out, limit, s);
-    }
-    if k < 5 {
-        let child = ends::enter(table, parse, scratch, h);
-        return Pen {
-            at: child,
-            pos: s.pos,
-        };
-    }
-    let n = ends::leave(scratch, h);
-    Pen { at: n, pos: s.pos }
-}
-
-// All undeleted text of a row.
-fn put_value(
-    table: &[u32],
-    parse: &[u32],
-    record: &[u32],
-    scratch: &mut [u32],
-    out: &mut [u8],
-    limit: usize,
-    s: Pen,
+    pos: usize,
+    quoted: bool,
+    p: Piece,
 ) -> usize
     requires { ⌜ limit ≤ length (now out) ⌝ }
-    requires { ⌜ Standing (now table) (now parse) (now «record») (now scratch) (s .at) ⌝ }
-    ensures { λ r. ⌜ Done values (now (table .entry)) (now (parse .entry)) (now («record» .entry)) (now (scratch .entry)) (now (scratch .exit)) (now (out .entry)) (now (out .exit)) limit s r ⌝ }
+    ensures { λ q. ⌜ ((t : Text) → Says (now (table .entry)) (now («record» .entry)) p t
+        → Wrote limit pos (now (out .entry)) q (now (out .exit)) (pick quoted (concatMap (escape true) t) (chars ""))) ⌝ }
 {
-    let mut t = s;
-    while more(table, t) {
-        t = value_step(table, parse, record, scratch, out, limit, t);
+    if quoted {
+        return markup::put_piece(out, limit, pos, 2, table, record, p);
     }
-    t.pos
+    pos
 }
 
-fn put_attribute(
-    table: &[u32],
-    parse: &[u32],
-    record: &[u32],
-    scratch: &mut [u32],
-    out: &mut [u8],
-    limit: usize,
-    s: Pen,
-) -> usize
-    requires { ⌜ limit ≤ length (now out) ⌝ }
-    requires { ⌜ (kindAt (now table) (s .at .item) ≡ 3) × SomeNode (now table) (now parse) (now «record») (now scratch) (s .at) ⌝ }
-    ensures { λ r. ⌜ Attributed (now (table .entry)) (now (parse .entry)) (now («record» .entry)) (now (scratch .entry)) (now (scratch .exit)) (now (out .entry)) (now (out .exit)) limit s r ⌝ }
+// An attribute up to its value.
+fn put_equals(table: &[u32], out: &mut [u8], limit: usize, pos: usize, token: usize) -> usize
+    requires { ⌜ (limit ≤ length (now out)) × (token < 4294967298) ⌝ }
+    ensures { λ q. ⌜ ((k : ℕ) (n : Text) → Named (now (table .entry)) token k n → Wrote limit pos (now (out .entry)) q (now (out .exit)) (chars " " ++ (n ++ chars "='"))) ⌝ }
 {
-    let h = s.at;
-    let q = spell::put(out, limit, s.pos, b' ');
-    let q = spell::put_name(out, limit, q, table, ends::token_at(table, h.item));
-    let q = spell::put_all(out, limit, q, b"='");
-    let first = ends::inside(table, parse, h);
-    let q = put_value(
-        table,
-        parse,
-        record,
-        scratch,
-        out,
-        limit,
-        Pen { at: first, pos: q },
-    );
-    spell::put(out, limit, q, b'\'')
-}
-
-fn attributes_step(
-    table: &[u32],
-    parse: &[u32],
-    record: &[u32],
-    scratch: &mut [u32],
-    out: &mut [u8],
-    limit: usize,
-    s: Pen,
-) -> Pen
-    requires { ⌜ limit ≤ length (now out) ⌝ }
-    requires { ⌜ (Over (now table) (s .at) → ⊥) ⌝ }
-    requires { ⌜ ((S₀ : List ℕ) × (fin : State) × Left exposed (now table) (now parse) (now «record») S₀ (now scratch) (now out) limit s fin) ⌝ }
-    ensures { λ r. ⌜ Stepped exposed (now (table .entry)) (now (parse .entry)) (now («record» .entry)) (now (scratch .entry)) (now (scratch .exit)) (now (out .entry)) (now (out .exit)) limit s r ⌝ }
-{
-    let h = s.at;
-    let k = ends::kind_at(table, h.item);
-    if k == 1 {
-        let n = ends::skip(table, h);
-        return Pen { at: n, pos: s.pos };
-    }
-    if k == 2 {
-        let n = ends::jump(scratch, h);
-        return Pen { at: n, pos: s.pos };
-    }
-    if k == 3 {
-        let q = put_attribute(table, parse, record, scratch, out, limit, s);
-        let past = ends::jump(scratch, h);
-        return Pen { at: past, pos: q };
-    }
-    if k == 4 {
-        let into = ends::enter(table, parse, scratch, h);
-        return Pen {
-            at: into,
-            pos: s.pos,
-        };
-    }
-    let n = ends::leave(scratch, h);
-    Pen { at: n, pos: s.pos }
+    let q = markup::put(out, limit, pos, b' ');
+    let q = markup::put_name(out, limit, q, table, token);
+    markup::put_all(out, limit, q, b"='")
 }
 
 // The attributes that a row exposes.
@@ -173,25 +64,43 @@ fn put_attributes(
     scratch: &mut [u32],
     out: &mut [u8],
     limit: usize,
-    s: Pen,
+    from: usize,
+    first: Cursor,
 ) -> usize
     requires { ⌜ limit ≤ length (now out) ⌝ }
-    requires { ⌜ Standing (now table) (now parse) (now «record») (now scratch) (s .at) ⌝ }
-    ensures { λ r. ⌜ Done exposed (now (table .entry)) (now (parse .entry)) (now («record» .entry)) (now (scratch .entry)) (now (scratch .exit)) (now (out .entry)) (now (out .exit)) limit s r ⌝ }
+    requires { ⌜ SomeRow (now table) (now parse) (now «record») (now scratch) first ⌝ }
+    ensures { λ q. ⌜ Attributed (now (table .entry)) (now (parse .entry)) (now («record» .entry)) (now (scratch .entry))
+        (now (scratch .exit)) (now (out .entry)) (now (out .exit)) limit from first q ⌝ }
 {
-    let mut t = s;
-    while more(table, t) {
-        t = attributes_step(table, parse, record, scratch, out, limit, t);
+    let mut at = first;
+    let mut pos = from;
+    let mut quoted = false;
+    loop {
+        let event = cursor::next(table, parse, scratch, at);
+        match event {
+            Event::Text(n) => {
+                let p = cursor::text_at(table, n);
+                pos = put_quoted(table, record, out, limit, pos, quoted, p);
+                at = cursor::skip(table, parse, scratch, n);
+            }
+            Event::Open(_, n) => {
+                at = cursor::past(table, parse, scratch, n);
+            }
+            Event::Attribute(token, n) => {
+                pos = put_equals(table, out, limit, pos, token);
+                quoted = true;
+                at = cursor::enter(table, parse, scratch, n);
+            }
+            Event::Close(_, n) => {
+                pos = markup::put(out, limit, pos, b'\'');
+                quoted = false;
+                at = n;
+            }
+            Event::End => {
+                return pos;
+            }
+        }
     }
-    t.pos
-}
-
-// A walk over what stands in elements: whether the start tag is still open, and the state that is still due.
-pub struct Here {
-    pub at: Spot,
-    pub pos: usize,
-    pub ajar: bool,
-    pub due: usize,
 }
 
 // A start tag that is not shut yet: of the name that a token holds, with a state and the attributes of a row.
@@ -202,157 +111,79 @@ fn put_start(
     scratch: &mut [u32],
     out: &mut [u8],
     limit: usize,
+    pos: usize,
     token: usize,
     due: usize,
-    s: Pen,
+    first: Cursor,
 ) -> usize
     requires { ⌜ (limit ≤ length (now out)) × (token < 4294967298) ⌝ }
-    requires { ⌜ Standing (now table) (now parse) (now «record») (now scratch) (s .at) ⌝ }
-    ensures { λ r. ⌜ Started (now (table .entry)) (now (parse .entry)) (now («record» .entry)) (now (scratch .entry)) (now (scratch .exit)) (now (out .entry)) (now (out .exit)) limit token due s r ⌝ }
+    requires { ⌜ SomeRow (now table) (now parse) (now «record») (now scratch) first ⌝ }
+    ensures { λ q. ⌜ Started (now (table .entry)) (now (parse .entry)) (now («record» .entry)) (now (scratch .entry)) (now (scratch .exit))
+        (now (out .entry)) (now (out .exit)) limit pos token due first q ⌝ }
 {
-    let q = spell::put(out, limit, s.pos, b'<');
-    let q = spell::put_name(out, limit, q, table, token);
-    let q = spell::put_state(out, limit, q, due);
-    let first = s.at;
-    let p = Pen { at: first, pos: q };
-    put_attributes(table, parse, record, scratch, out, limit, p)
+    let q = markup::put(out, limit, pos, b'<');
+    let q = markup::put_name(out, limit, q, table, token);
+    let q = markup::put_state(out, limit, q, due);
+    put_attributes(table, parse, record, scratch, out, limit, q, first)
 }
 
-fn letter(table: &[u32], record: &[u32], out: &mut [u8], limit: usize, s: Here) -> Here
-    requires { ⌜ (limit ≤ length (now out)) × Small (s .at) ⌝ }
-    ensures { λ r. ⌜ Lettered (now (table .entry)) (now («record» .entry)) (now (out .entry)) (now (out .exit)) limit s r ⌝ }
+// Text in an element, whose start tag it shuts.
+fn put_text(
+    table: &[u32],
+    record: &[u32],
+    out: &mut [u8],
+    limit: usize,
+    pos: usize,
+    unclosed: bool,
+    p: Piece,
+) -> usize
+    requires { ⌜ limit ≤ length (now out) ⌝ }
+    ensures { λ q. ⌜ ((t : Text) → Says (now (table .entry)) (now («record» .entry)) p t
+        → Wrote limit pos (now (out .entry)) q (now (out .exit)) (leadOf unclosed ++ concatMap (escape false) t)) ⌝ }
 {
-    let h = s.at;
-    let token = ends::token_at(table, h.item);
-    let p = spell::piece_of(table, token, h.place);
-    let n = ends::skip(table, h);
-    if p.count == 0 {
-        return Here {
-            at: n,
-            pos: s.pos,
-            ajar: s.ajar,
-            due: s.due,
-        };
-    }
-    let q = spell::put_lead(out, limit, s.pos, s.ajar);
-    let q = spell::put_piece(out, limit, q, 1, table, record, p);
-    Here {
-        at: n,
-        pos: q,
-        ajar: false,
-        due: s.due,
-    }
+    let q = markup::put_lead(out, limit, pos, unclosed);
+    markup::put_piece(out, limit, q, 1, table, record, p)
 }
 
-fn open(
+// An element's start tag, in an element whose start tag it shuts.
+fn put_open(
     table: &[u32],
     parse: &[u32],
     record: &[u32],
     scratch: &mut [u32],
     out: &mut [u8],
     limit: usize,
-    s: Here,
-) -> Here
-    requires { ⌜ limit ≤ length (now out) ⌝ }
-    requires { ⌜ (kindAt (now table) (s .at .item) ≡ 2) × Some (now table) (now parse) (now «record») (now scratch) (now out) limit s ⌝ }
-    ensures { λ r. ⌜ Gone (now (table .entry)) (now (parse .entry)) (now («record» .entry)) (now (scratch .entry)) (now (scratch .exit)) (now (out .entry)) (now (out .exit)) limit s r ⌝ }
+    pos: usize,
+    unclosed: bool,
+    token: usize,
+    due: usize,
+    c: Cursor,
+) -> usize
+    requires { ⌜ (limit ≤ length (now out)) × (token < 4294967298) ⌝ }
+    requires { ⌜ (kindAt (now table) (c .at .item) ≡ 2) × SomeNode (now table) (now parse) (now «record») (now scratch) c ⌝ }
+    ensures { λ q. ⌜ Opened (now (table .entry)) (now (parse .entry)) (now («record» .entry)) (now (scratch .entry)) (now (scratch .exit))
+        (now (out .entry)) (now (out .exit)) limit pos unclosed token due c q ⌝ }
 {
-    let h = s.at;
-    let q = spell::put_lead(out, limit, s.pos, s.ajar);
-    let token = ends::token_at(table, h.item);
-    let first = ends::inside(table, parse, h);
-    let q = put_start(
+    let q = markup::put_lead(out, limit, pos, unclosed);
+    let first = cursor::inside(table, parse, scratch, c);
+    put_start(
         table,
         parse,
         record,
         scratch,
         out,
         limit,
+        q,
         token,
-        s.due,
-        Pen { at: first, pos: q },
-    );
-    let n = ends::enter(table, parse, scratch, h);
-    Here {
-        at: n,
-        pos: q,
-        ajar: true,
-        due: 0,
-    }
+        due,
+        first,
+    )
 }
 
-fn close(table: &[u32], scratch: &mut [u32], out: &mut [u8], limit: usize, s: Here) -> Here
-    requires { ⌜ (limit ≤ length (now out)) × Leaves (now scratch) (s .at) ⌝ }
-    ensures { λ r. ⌜ Closed (now (table .entry)) (now (scratch .entry)) (now (scratch .exit)) (now (out .entry)) (now (out .exit)) limit s r ⌝ }
-{
-    let h = s.at;
-    let item = ends::look(scratch, 2 * (h.inner - 1) + 1);
-    let n = ends::leave(scratch, h);
-    if ends::kind_at(table, item) == 2 {
-        let token = ends::token_at(table, item);
-        let q = spell::put_end(out, limit, s.pos, s.ajar, table, token);
-        return Here {
-            at: n,
-            pos: q,
-            ajar: false,
-            due: 0,
-        };
-    }
-    Here {
-        at: n,
-        pos: s.pos,
-        ajar: s.ajar,
-        due: s.due,
-    }
-}
-
-fn content_step(
-    table: &[u32],
-    parse: &[u32],
-    record: &[u32],
-    scratch: &mut [u32],
-    out: &mut [u8],
-    limit: usize,
-    s: Here,
-) -> Here
-    requires { ⌜ limit ≤ length (now out) ⌝ }
-    requires { ⌜ (Over (now table) (s .at) → ⊥) × Some (now table) (now parse) (now «record») (now scratch) (now out) limit s ⌝ }
-    ensures { λ r. ⌜ Gone (now (table .entry)) (now (parse .entry)) (now («record» .entry)) (now (scratch .entry)) (now (scratch .exit)) (now (out .entry)) (now (out .exit)) limit s r ⌝ }
-{
-    let h = s.at;
-    let k = ends::kind_at(table, h.item);
-    if k == 1 {
-        return letter(table, record, out, limit, s);
-    }
-    if k == 2 {
-        return open(table, parse, record, scratch, out, limit, s);
-    }
-    if k == 3 {
-        let n = ends::jump(scratch, h);
-        return Here {
-            at: n,
-            pos: s.pos,
-            ajar: s.ajar,
-            due: s.due,
-        };
-    }
-    if k == 4 {
-        let n = ends::enter(table, parse, scratch, h);
-        return Here {
-            at: n,
-            pos: s.pos,
-            ajar: s.ajar,
-            due: s.due,
-        };
-    }
-    close(table, scratch, out, limit, s)
-}
-
-fn busy(table: &[u32], s: Here) -> bool
-    ensures { λ r. ⌜ (r ≡ true → Over (now (table .entry)) (s .at) → ⊥) × (r ≡ false → Over (now (table .entry)) (s .at)) ⌝ }
-{
-    let h = s.at;
-    ends::more(table, h)
+// Where writing has come to: the start tag that is still open, if any, is not shut.
+pub struct Tag {
+    pub pos: usize,
+    pub unclosed: bool,
 }
 
 // What stands in elements.
@@ -363,17 +194,61 @@ fn put_content(
     scratch: &mut [u32],
     out: &mut [u8],
     limit: usize,
-    s: Here,
-) -> Here
+    from: Tag,
+    state: usize,
+    first: Cursor,
+) -> Tag
     requires { ⌜ limit ≤ length (now out) ⌝ }
-    requires { ⌜ Standing (now table) (now parse) (now «record») (now scratch) (s .at) ⌝ }
-    ensures { λ r. ⌜ Came (now (table .entry)) (now (parse .entry)) (now («record» .entry)) (now (scratch .entry)) (now (scratch .exit)) (now (out .entry)) (now (out .exit)) limit s r ⌝ }
+    requires { ⌜ SomeRow (now table) (now parse) (now «record») (now scratch) first ⌝ }
+    ensures { λ q. ⌜ Came (now (table .entry)) (now (parse .entry)) (now («record» .entry)) (now (scratch .entry)) (now (scratch .exit))
+        (now (out .entry)) (now (out .exit)) limit from state first q ⌝ }
 {
-    let mut t = s;
-    while busy(table, t) {
-        t = content_step(table, parse, record, scratch, out, limit, t);
+    let mut at = first;
+    let mut pos = from.pos;
+    let mut unclosed = from.unclosed;
+    let mut due = state;
+    loop {
+        let event = cursor::next(table, parse, scratch, at);
+        match event {
+            Event::Text(n) => {
+                let p = cursor::text_at(table, n);
+                pos = put_text(table, record, out, limit, pos, unclosed, p);
+                unclosed = false;
+                at = cursor::skip(table, parse, scratch, n);
+            }
+            Event::Open(token, n) => {
+                pos = put_open(
+                    table,
+                    parse,
+                    record,
+                    scratch,
+                    out,
+                    limit,
+                    pos,
+                    unclosed,
+                    token,
+                    due,
+                    n,
+                );
+                unclosed = true;
+                due = 0;
+                at = cursor::enter(table, parse, scratch, n);
+            }
+            Event::Attribute(_, n) => {
+                at = cursor::past(table, parse, scratch, n);
+            }
+            Event::Close(item, n) => {
+                let token = items::token_at(table, item);
+                pos = markup::put_end(out, limit, pos, unclosed, table, token);
+                unclosed = false;
+                due = 0;
+                at = n;
+            }
+            Event::End => {
+                return Tag { pos, unclosed };
+            }
+        }
     }
-    t
 }
 
 // The document, up to a limit; and how long it is.
@@ -389,32 +264,19 @@ fn put_document(
 ) -> usize
     requires { ⌜ limit ≤ length (now out) ⌝ }
     requires { ⌜ Room (now table) (now parse) (now scratch) × SomeJob (now table) root (now parse) (now «record») (now scratch) ⌝ }
-    ensures { λ r. ⌜ Documented (now (table .entry)) root (now (parse .entry)) (now («record» .entry)) due (now (scratch .entry)) (now (scratch .exit)) (now (out .entry)) (now (out .exit)) limit r ⌝ }
+    ensures { λ r. ⌜ Documented (now (table .entry)) root (now (parse .entry)) (now («record» .entry)) due (now (scratch .entry))
+        (now (scratch .exit)) (now (out .entry)) (now (out .exit)) limit r ⌝ }
 {
-    let head = spell::head_at(table);
-    let a = ends::look(parse, 0);
-    let item = ends::alternative(table, root, a);
-    let first = Spot {
-        item,
-        entry: 1,
-        place: 0,
-        inner: 0,
-    };
-    if ends::look(table, head) == 23 {
-        let s = put_content(
-            table,
-            parse,
-            record,
-            scratch,
-            out,
-            limit,
-            Here {
-                at: first,
-                pos: 0,
-                ajar: false,
-                due,
-            },
-        );
+    let head = markup::head_at(table);
+    let a = tokens::look(parse, 0);
+    let item = left_parse::alternative(table, root, a);
+    let first = cursor::at_root(item);
+    if tokens::look(table, head) == DELETED_HEAD {
+        let whole = Tag {
+            pos: 0,
+            unclosed: false,
+        };
+        let s = put_content(table, parse, record, scratch, out, limit, whole, due, first);
         return s.pos;
     }
     let q = put_start(
@@ -424,25 +286,17 @@ fn put_document(
         scratch,
         out,
         limit,
+        0,
         head,
         due,
-        Pen { at: first, pos: 0 },
+        first,
     );
-    let s = put_content(
-        table,
-        parse,
-        record,
-        scratch,
-        out,
-        limit,
-        Here {
-            at: first,
-            pos: q,
-            ajar: true,
-            due: 0,
-        },
-    );
-    spell::put_end(out, limit, s.pos, s.ajar, table, head)
+    let tag = Tag {
+        pos: q,
+        unclosed: true,
+    };
+    let s = put_content(table, parse, record, scratch, out, limit, tag, 0, first);
+    markup::put_end(out, limit, s.pos, s.unclosed, table, head)
 }
 
 // The count of bytes that were written, or that they do not fit.
@@ -462,9 +316,11 @@ pub fn write_xml(
     out: &mut [u8],
 ) -> Written
     requires { ⌜ Room (now table) (now parse) (now scratch) × SomeJob (now table) root (now parse) (now «record») (now scratch) ⌝ }
-    ensures { λ a. ⌜ ((g : Grammar) (t : Row) → Job (now (table .entry)) root (now (parse .entry)) (now («record» .entry)) (now (scratch .entry)) g t → Writable g (now («record» .entry)) t → Answered (bytes ambiguous mismatch (document g (now («record» .entry)) t)) (now (out .entry)) (now (out .exit)) a) ⌝ }
+    ensures { λ a. ⌜ ((g : Grammar) (t : Row) → Job (now (table .entry)) root (now (parse .entry)) (now («record» .entry))
+        (now (scratch .entry)) g t → Writable g (now («record» .entry)) t
+        → Answered (bytes ambiguous mismatch (document g (now («record» .entry)) t)) (now (out .entry)) (now (out .exit)) a) ⌝ }
 {
-    let due = spell::due_of(ambiguous, mismatch);
+    let due = markup::due_of(ambiguous, mismatch);
     let m = put_document(table, root, parse, record, due, scratch, out, 0);
     if m > out.len() {
         return Written::TooLong;

@@ -37,9 +37,11 @@ pub record Each (P : Bool → ℕ → Text → Type 0) : Type 0 where
   pub cr : (v : Bool) → P v 0xd (escape v 0xd)
   pub apos : P true 0x27 (escape true 0x27)
   pub lf : P true 0xa (escape true 0xa)
-  pub other : (v : Bool) (c : ℕ) → eqb c 0x26 ≡ false → eqb c 0x3c ≡ false → eqb c 0x3e ≡ false → eqb c 0xd ≡ false → v && eqb c 0x27 ≡ false → v && eqb c 0xa ≡ false → P v c (c ∷ [])
+  pub other : (v : Bool) (c : ℕ) → eqb c 0x26 ≡ false → eqb c 0x3c ≡ false → eqb c 0x3e ≡ false → eqb c 0xd ≡ false
+      → v && eqb c 0x27 ≡ false → v && eqb c 0xa ≡ false → P v c (c ∷ [])
 
-at-others : (v : Bool) (c : ℕ) → eqb c 0x26 ≡ false → eqb c 0x3c ≡ false → eqb c 0x3e ≡ false → eqb c 0xd ≡ false → v && eqb c 0x27 ≡ false → v && eqb c 0xa ≡ false → escape v c ≡ c ∷ []
+at-others : (v : Bool) (c : ℕ) → eqb c 0x26 ≡ false → eqb c 0x3c ≡ false → eqb c 0x3e ≡ false → eqb c 0xd ≡ false → v && eqb c 0x27 ≡ false
+    → v && eqb c 0xa ≡ false → escape v c ≡ c ∷ []
 unfolding escape
 at-others v c e1 e2 e3 e4 e5 e6 = simp (e1, e2, e3, e4, e5, e6)
 
@@ -70,7 +72,8 @@ pub no-markup : (v : Bool) (c : ℕ) → T (all (harmless v) (escape v c))
 unfolding harmless escape
 no-markup v c = by-each (λ v c t. T (all (harmless v) t)) each v c
   where
-    plain : (v : Bool) (c : ℕ) → eqb c 0x3c ≡ false → eqb c 0x3e ≡ false → eqb c 0xd ≡ false → v && eqb c 0x27 ≡ false → v && eqb c 0xa ≡ false → T (all (harmless v) (c ∷ []))
+    plain : (v : Bool) (c : ℕ) → eqb c 0x3c ≡ false → eqb c 0x3e ≡ false → eqb c 0xd ≡ false → v && eqb c 0x27 ≡ false
+        → v && eqb c 0xa ≡ false → T (all (harmless v) (c ∷ []))
     plain true c e2 e3 e4 e5 e6 = rw (e2, e3, e4, e5, e6) tt
     plain false c e2 e3 e4 e5 e6 = rw (e2, e3, e4) tt
 

@@ -10,7 +10,7 @@ use Rattle.xml.specs.Names.{xmlChar, xmlName}
 use Rattle.xml.specs.Document.{Xml, none, char, attr, elem, join, text, markOf, nameOf, leafText, stretch, value, marked, nodes, attributeNames, twice, misnamed, unwritable, namespaced}
 use Rattle.xml.specs.Bytes.{escape, attributes, closed, content}
 
--- one row behind another
+-- one row after another
 pub content-join : (x y : Xml) → content (join x y) ≡ content x ++ content y
 content-join none y = refl
 content-join (char c x) y = ap (λ (t : Text). escape false c ++ t) (content-join x y) ∙ sym (append-assoc (escape false c) (content x) (content y))

@@ -2,7 +2,7 @@
 
 use super::Job;
 
-/// A line of `tests/vectors/calls.tsv`.
+/// A line of `tests/vectors/calls.tsv` or `edges.tsv`.
 pub struct Vector {
     pub call: String,
     pub job: Job,
@@ -48,7 +48,8 @@ fn all() -> Vec<Vector> {
             output: fields[6..].join("\t"),
         }
     };
-    text("calls.tsv").lines().map(vector).collect()
+    let lines = text("calls.tsv") + &text("edges.tsv");
+    lines.lines().map(vector).collect()
 }
 
 /// The vectors of a call.

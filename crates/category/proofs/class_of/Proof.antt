@@ -21,24 +21,33 @@ abbrev μ-loop : tie.MeasureT-loop
 loop-holds : tie.Need-loop-holds Inv-loop μ-loop
 loop-holds c = (omega arith, below-none _)
 
-array-read-wide : tie.Need-array-read-wide Inv-loop μ-loop
-array-read-wide c = search needs
+array-read-wide-byte : tie.Need-array-read-wide-byte Inv-loop μ-loop
+array-read-wide-byte c = search needs
 
-wide-requires : tie.Need-wide-requires Inv-loop μ-loop
-wide-requires c κs = search needs
+wide-byte-requires : tie.Need-wide-byte-requires Inv-loop μ-loop
+wide-byte-requires c κs = search needs
 
-array-read-wide-2 : tie.Need-array-read-wide-2 Inv-loop μ-loop
-array-read-wide-2 c = search needs
+array-read-wide-byte-2 : tie.Need-array-read-wide-byte-2 Inv-loop μ-loop
+array-read-wide-byte-2 c = search needs
 
-wide-requires-2 : tie.Need-wide-requires-2 Inv-loop μ-loop
-wide-requires-2 c κs = search needs
+wide-byte-requires-2 : tie.Need-wide-byte-requires-2 Inv-loop μ-loop
+wide-byte-requires-2 c κs = search needs
 
 same-letters-requires : tie.Need-same-letters-requires Inv-loop μ-loop
 same-letters-requires c κs = search needs
 
 returns : tie.Need-returns Inv-loop μ-loop
 unfolding firstLetters secondLetters
-returns c = sym (place-is classes _ (c .before .before .before .before .before .loop .class) (omega (arith, listed)) (c .before .before .before .before .before .loop .inv .1) (class-here (c .before .before .before .before .before .before .args .first) (c .before .before .before .before .before .before .args .second) (c .before .before .before .before .before .loop .class) (c .before .before .before .wide .result) (c .before .before .wide2 .result) (c .before .same-letters .result) (c .before .before .before .before .loop-test .taken) (c .before .before .before .wide .ensures) (c .before .before .wide2 .ensures) (c .before .same-letters .ensures) ∙ c .if1 .taken))
+returns c =
+    let at-wide2 = c .before .before in
+    let at-wide = at-wide2 .before in
+    let at-loop-test = at-wide .before in
+    let at-loop = at-loop-test .before in
+    let start = at-loop .before in
+    sym (place-is classes _ (at-loop .loop .class) (omega (arith, listed)) (at-loop .loop .inv .1)
+    (class-here (start .args .first) (start .args .second) (at-loop .loop .class) (at-wide .wide-byte .result) (at-wide2 .wide-byte2 .result)
+    (c .before .same-letters .result) (at-loop-test .loop-test .taken) (at-wide .wide-byte .ensures) (at-wide2 .wide-byte2 .ensures)
+    (c .before .same-letters .ensures) ∙ c .if1 .taken))
 
 add-class : tie.Need-add-class Inv-loop μ-loop
 add-class c = omega arith
@@ -48,7 +57,18 @@ loop-less c = omega arith
 
 loop-again : tie.Need-loop-again Inv-loop μ-loop
 unfolding firstLetters secondLetters
-loop-again c = (omega arith, below-more _ _ (c .before .before .before .before .before .loop .inv .1) (class-here (c .before .before .before .before .before .before .args .first) (c .before .before .before .before .before .before .args .second) (c .before .before .before .before .before .loop .class) (c .before .before .before .wide .result) (c .before .before .wide2 .result) (c .before .same-letters .result) (c .before .before .before .before .loop-test .taken) (c .before .before .before .wide .ensures) (c .before .before .wide2 .ensures) (c .before .same-letters .ensures) ∙ c .if1 .left))
+loop-again c =
+    let at-wide2 = c .before .before in
+    let at-wide = at-wide2 .before in
+    let at-loop-test = at-wide .before in
+    let at-loop = at-loop-test .before in
+    let start = at-loop .before in (
+      omega arith,
+      below-more _ _ (at-loop .loop .inv .1)
+          (class-here (start .args .first) (start .args .second) (at-loop .loop .class) (at-wide .wide-byte .result) (at-wide2 .wide-byte2 .result)
+          (c .before .same-letters .result) (at-loop-test .loop-test .taken) (at-wide .wide-byte .ensures) (at-wide2 .wide-byte2 .ensures)
+          (c .before .same-letters .ensures) ∙ c .if1 .left),
+    )
 
 returns-2 : tie.Need-returns-2 Inv-loop μ-loop
 returns-2 c = sym (place-none classes _ (λ j h. c .before .loop .inv .1 j (omega (arith, listed))) ∙ listed)
@@ -60,10 +80,10 @@ class-of-spec =
     Inv-loop
     μ-loop
     loop-holds
-    array-read-wide
-    wide-requires
-    array-read-wide-2
-    wide-requires-2
+    array-read-wide-byte
+    wide-byte-requires
+    array-read-wide-byte-2
+    wide-byte-requires-2
     same-letters-requires
     returns
     add-class

@@ -10,14 +10,17 @@ slice-aggregate-note c = search needs
 note-requires : tie.Need-note-requires
 note-requires c κs = search needs
 
-slice-aggregate-judge : tie.Need-slice-aggregate-judge
-slice-aggregate-judge c = search needs
+slice-aggregate-first-error : tie.Need-slice-aggregate-first-error
+slice-aggregate-first-error c = search needs
 
-slice-aggregate-judge-2 : tie.Need-slice-aggregate-judge-2
-slice-aggregate-judge-2 c = search needs
+slice-aggregate-first-error-2 : tie.Need-slice-aggregate-first-error-2
+slice-aggregate-first-error-2 c = search needs
 
-judge-requires : tie.Need-judge-requires
-judge-requires c κs = (omega (arith, c .before .before .before .before .before .before .before .before .before .pre .few), (room (c .before .before .before .before .before .before .before .before .before .pre) (search needs), some-job (c .before .before .before .note .ensures) (c .before .before .before .before .before .before .before .before .before .pre)))
+first-error-requires : tie.Need-first-error-requires
+first-error-requires c κs =
+    let at-note = c .before .before .before in
+    let start = at-note .before .before .before .before .before .before in
+    (omega (arith, start .pre .few), (room (start .pre) (search needs), some-job (at-note .note .ensures) (start .pre)))
 
 enum-told : tie.Need-enum-told
 enum-told c = search needs
@@ -29,13 +32,20 @@ why-requires : tie.Need-why-requires
 why-requires c κs = search needs
 
 returns : tie.Need-returns
-returns c = λ g t p. forbidden (c .before .before .before .before .before .before .before .before .before .note .ensures) (c .before .before .before .before .before .judge .ensures) g t _ _ _ _ _ p (c .before .enum-told2 .given .1) (c .why .ensures)
+returns c =
+    let at-first-error = c .before .before .before .before .before in
+    let at-note = at-first-error .before .before .before .before in
+    λ g t p. forbidden (at-note .note .ensures) (at-first-error .first-error .ensures) g t _ _ _ _ _ p (c .before .enum-told2 .given .1) (c .why .ensures)
 
 slice-aggregate-write-xml : tie.Need-slice-aggregate-write-xml
 slice-aggregate-write-xml c = search needs
 
 write-xml-requires : tie.Need-write-xml-requires
-write-xml-requires c κs = (room (c .before .before .before .before .before .before .before .before .before .before .before .before .before .before .before .before .pre) (search needs), some-later (c .before .before .before .before .before .before .before .before .before .before .note .ensures) (c .before .before .before .before .before .before .judge .ensures) (c .before .before .before .before .before .before .before .before .before .before .before .before .before .before .before .before .pre))
+write-xml-requires c κs =
+    let at-first-error = c .before .before .before .before .before .before in
+    let at-note = at-first-error .before .before .before .before in
+    let start = at-note .before .before .before .before .before .before in
+    (room (start .pre) (search needs), some-later (at-note .note .ensures) (at-first-error .first-error .ensures) (start .pre))
 
 enum-known-written : tie.Need-enum-known-written
 enum-known-written c = search needs
@@ -47,13 +57,23 @@ same-length : tie.Need-same-length
 same-length c = search needs
 
 returns-2 : tie.Need-returns-2
-returns-2 c = λ g t p. too-long (c .before .before .before .before .before .before .before .before .before .before .before .before .before .before .before .before .note .ensures) (c .before .before .before .before .before .before .before .before .before .before .before .before .judge .ensures) g t _ _ _ _ _ p (c .before .before .before .before .before .before .before .before .enum-told .given .1) (c .before .before .before .before .before .write-xml .ensures g t) (c .enum-told3 .given .1)
+returns-2 c =
+    let at-write-xml = c .before .before .before .before .before in
+    let at-enum-told = at-write-xml .before .before .before in
+    let at-first-error = at-enum-told .before .before .before .before in
+    let at-note = at-first-error .before .before .before .before in
+    λ g t p. too-long (at-note .note .ensures) (at-first-error .first-error .ensures) g t _ _ _ _ _ p (at-enum-told .enum-told .given .1) (at-write-xml .write-xml .ensures g t) (c .enum-told3 .given .1)
 
 same-length-2 : tie.Need-same-length-2
 same-length-2 c = search needs
 
 returns-3 : tie.Need-returns-3
-returns-3 c = λ g t p. concluded (c .before .before .before .before .before .before .before .before .before .before .before .before .before .before .before .before .before .note .ensures) (c .before .before .before .before .before .before .before .before .before .before .before .before .before .judge .ensures) g t _ _ _ _ _ p (c .before .before .before .before .before .before .before .before .before .enum-told .given .1) (c .before .before .before .before .before .before .write-xml .ensures g t) _ (c .before .written .given .1)
+returns-3 c =
+    let at-write-xml = c .before .before .before .before .before .before in
+    let at-enum-told = at-write-xml .before .before .before in
+    let at-first-error = at-enum-told .before .before .before .before in
+    let at-note = at-first-error .before .before .before .before in
+    λ g t p. concluded (at-note .note .ensures) (at-first-error .first-error .ensures) g t _ _ _ _ _ p (at-enum-told .enum-told .given .1) (at-write-xml .write-xml .ensures g t) _ (c .before .written .given .1)
 
 pub convert-spec : {M : Type 1} → statement M
 convert-spec =
@@ -61,9 +81,9 @@ convert-spec =
     (tie.spec
     slice-aggregate-note
     note-requires
-    slice-aggregate-judge
-    slice-aggregate-judge-2
-    judge-requires
+    slice-aggregate-first-error
+    slice-aggregate-first-error-2
+    first-error-requires
     enum-told
     enum-told-2
     why-requires

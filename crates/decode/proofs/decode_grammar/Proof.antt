@@ -25,7 +25,11 @@ same-length : tie.Need-same-length
 same-length c = search needs
 
 returns : tie.Need-returns
-returns c = rw (← law.behind (now (c .before .before .before .before .before .before .before .before .before .args .bytes)) (sym (c .before .before .before .before .before .if1 .taken) ∙ c .before .before .before .before .before .before .marked .ensures)) (c .before .before .decode-text .ensures)
+returns c =
+    let at-if1 = c .before .before .before .before .before in
+    let at-marked = at-if1 .before in
+    let start = at-marked .before .before .before in
+    rw (← law.after-mark (now (start .args .bytes)) (sym (at-if1 .if1 .taken) ∙ at-marked .marked .ensures)) (c .before .before .decode-text .ensures)
 
 decode-text-requires-2 : tie.Need-decode-text-requires-2
 decode-text-requires-2 c κs = search needs
@@ -34,7 +38,11 @@ same-length-2 : tie.Need-same-length-2
 same-length-2 c = search needs
 
 returns-2 : tie.Need-returns-2
-returns-2 c = rw (law.keeps (now (c .before .before .before .before .before .before .before .before .args .bytes)) (sym (c .before .before .before .before .if1 .left) ∙ c .before .before .before .before .before .marked .ensures)) (c .before .before .decode-text2 .ensures)
+returns-2 c =
+    let at-if1 = c .before .before .before .before in
+    let at-marked = at-if1 .before in
+    let start = at-marked .before .before .before in
+    rw (law.keeps (now (start .args .bytes)) (sym (at-if1 .if1 .left) ∙ at-marked .marked .ensures)) (c .before .before .decode-text2 .ensures)
 
 pub decode-grammar-spec : {M : Type 1} → statement M
 decode-grammar-spec =

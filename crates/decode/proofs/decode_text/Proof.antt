@@ -23,10 +23,18 @@ enum-known-step : tie.Need-enum-known-step Inv-loop μ-loop
 enum-known-step c = search needs
 
 same-length : tie.Need-same-length Inv-loop μ-loop
-same-length c = law.same-len (now (c .before .before .before .before .before .before .before .args .bytes)) (now (c .before .before .before .before .before .before .before .args .out)) (c .before .before .before .before .loop .out) (c .before .before .before .before .loop .at .0) (c .before .before .before .before .loop .n .0) (c .before .before .before .before .loop .fine) (c .before .before .before .before .loop .inv)
+same-length c =
+    let at-loop = c .before .before .before .before in
+    let start = at-loop .before .before .before in
+    law.same-len (now (start .args .bytes)) (now (start .args .out)) (at-loop .loop .out) (at-loop .loop .at .0) (at-loop .loop .n .0) (at-loop .loop .fine) (at-loop .loop .inv)
 
 returns : tie.Need-returns Inv-loop μ-loop
-returns c = law.fault (now (c .before .before .before .before .before .before .before .args .bytes)) (now (c .before .before .before .before .before .before .before .args .out)) (c .before .before .before .before .loop .out) (c .before .before .before .before .loop .at .0) (c .before .before .before .before .loop .n .0) (c .before .before .before .before .loop .fine) (c .before .before .before .before .loop .inv) (c .before .before .if1 .taken) (c .before .step-at .result) (c .before .step-at .ensures) (c .match .keys2)
+returns c =
+    let at-loop = c .before .before .before .before in
+    let start = at-loop .before .before .before in
+    law.fault (now (start .args .bytes)) (now (start .args .out)) (at-loop .loop .out) (at-loop .loop .at .0) (at-loop .loop .n .0)
+    (at-loop .loop .fine) (at-loop .loop .inv) (c .before .before .if1 .taken) (c .before .step-at .result)
+    (c .before .step-at .ensures) (c .match .keys2)
 
 keep-requires : tie.Need-keep-requires Inv-loop μ-loop
 keep-requires c κs = search needs
@@ -38,25 +46,60 @@ both-requires : tie.Need-both-requires Inv-loop μ-loop
 both-requires c κs = search needs
 
 add-t10 : tie.Need-add-t10 Inv-loop μ-loop
-add-t10 c = let w = c .before .before .before .before .before .before .before .before .before .before .before .before .loop .inv .behind in let h = c .before .before .before .before .before .before .before .before .before .before .if1 .taken in omega arith
+add-t10 c =
+    let at-if1 = c .before .before .before .before .before .before .before .before .before .before in
+    let at-loop = at-if1 .before .before in
+    let w = at-loop .loop .inv .trails in let h = at-if1 .if1 .taken in omega arith
 
 loop-less : tie.Need-loop-less Inv-loop μ-loop
-loop-less c = law.less (now (c .before .before .before .before .before .before .before .before .before .before .before .before .before .before .before .args .bytes)) (now (c .before .before .before .before .before .before .before .before .before .before .before .before .before .before .before .args .out)) (c .before .before .before .before .before .before .before .before .before .before .before .before .loop .out) (c .before .before .before .before .before .before .before .before .before .before .before .before .loop .at .0) (c .before .before .before .before .before .before .before .before .before .before .before .before .loop .n .0) (c .before .before .before .before .before .before .before .before .before .before .before .before .loop .fine) (c .before .before .before .before .before .before .before .before .before .before .before .before .loop .inv) (c .before .before .before .before .before .before .before .before .before .before .if1 .taken) (c .before .before .before .before .before .before .before .before .before .step-at .result) (c .before .before .before .before .before .before .before .before .before .step-at .ensures) _ _ (c .before .before .before .before .before .before .before .step .given .1)
+loop-less c =
+    let at-step = c .before .before .before .before .before .before .before in
+    let at-step-at = at-step .before .before in
+    let at-if1 = at-step-at .before in
+    let at-loop = at-if1 .before .before in
+    let start = at-loop .before .before .before in
+    law.less (now (start .args .bytes)) (now (start .args .out)) (at-loop .loop .out) (at-loop .loop .at .0) (at-loop .loop .n .0)
+    (at-loop .loop .fine) (at-loop .loop .inv) (at-if1 .if1 .taken) (at-step-at .step-at .result) (at-step-at .step-at .ensures) _ _
+    (at-step .step .given .1)
 
 loop-again : tie.Need-loop-again Inv-loop μ-loop
-loop-again c = law.next (now (c .before .before .before .before .before .before .before .before .before .before .before .before .before .before .before .args .bytes)) (now (c .before .before .before .before .before .before .before .before .before .before .before .before .before .before .before .args .out)) (c .before .before .before .before .before .before .before .before .before .before .before .before .loop .out) (c .before .before .before .before .before .before .before .before .before .before .before .before .loop .at .0) (c .before .before .before .before .before .before .before .before .before .before .before .before .loop .n .0) (c .before .before .before .before .before .before .before .before .before .before .before .before .loop .fine) (c .before .before .before .before .before .before .before .before .before .before .before .before .loop .inv) (c .before .before .before .before .before .before .before .before .before .before .if1 .taken) (c .before .before .before .before .before .before .before .before .before .step-at .result) (c .before .before .before .before .before .before .before .before .before .step-at .ensures) _ _ (c .before .before .before .before .before .before .before .step .given .1) _ (c .before .before .before .before .keep .ensures) (c .before .known .result) (c .before .known .ensures) (c .both .result) (c .both .ensures)
+loop-again c =
+    let at-keep = c .before .before .before .before in
+    let at-step = at-keep .before .before .before in
+    let at-step-at = at-step .before .before in
+    let at-if1 = at-step-at .before in
+    let at-loop = at-if1 .before .before in
+    let start = at-loop .before .before .before in
+    law.next (now (start .args .bytes)) (now (start .args .out)) (at-loop .loop .out) (at-loop .loop .at .0) (at-loop .loop .n .0)
+    (at-loop .loop .fine) (at-loop .loop .inv) (at-if1 .if1 .taken) (at-step-at .step-at .result) (at-step-at .step-at .ensures) _ _
+    (at-step .step .given .1) _ (at-keep .keep .ensures) (c .before .known .result) (c .before .known .ensures) (c .both .result)
+    (c .both .ensures)
 
 same-length-2 : tie.Need-same-length-2 Inv-loop μ-loop
-same-length-2 c = law.same-len (now (c .before .before .before .before .before .before .args .bytes)) (now (c .before .before .before .before .before .before .args .out)) (c .before .before .before .loop .out) (c .before .before .before .loop .at .0) (c .before .before .before .loop .n .0) (c .before .before .before .loop .fine) (c .before .before .before .loop .inv)
+same-length-2 c =
+    let at-loop = c .before .before .before in
+    let start = at-loop .before .before .before in
+    law.same-len (now (start .args .bytes)) (now (start .args .out)) (at-loop .loop .out) (at-loop .loop .at .0) (at-loop .loop .n .0) (at-loop .loop .fine) (at-loop .loop .inv)
 
 returns-2 : tie.Need-returns-2 Inv-loop μ-loop
-returns-2 c = law.finish (now (c .before .before .before .before .before .before .args .bytes)) (now (c .before .before .before .before .before .before .args .out)) (c .before .before .before .loop .out) (c .before .before .before .loop .at .0) (c .before .before .before .loop .n .0) (c .before .before .before .loop .fine) (c .before .before .before .loop .inv) (c .before .if1 .left) (c .if2 .taken)
+returns-2 c =
+    let at-loop = c .before .before .before in
+    let start = at-loop .before .before .before in
+    law.finish (now (start .args .bytes)) (now (start .args .out)) (at-loop .loop .out) (at-loop .loop .at .0) (at-loop .loop .n .0)
+    (at-loop .loop .fine) (at-loop .loop .inv) (c .before .if1 .left) (c .if2 .taken)
 
 same-length-3 : tie.Need-same-length-3 Inv-loop μ-loop
-same-length-3 c = law.same-len (now (c .before .before .before .before .before .before .args .bytes)) (now (c .before .before .before .before .before .before .args .out)) (c .before .before .before .loop .out) (c .before .before .before .loop .at .0) (c .before .before .before .loop .n .0) (c .before .before .before .loop .fine) (c .before .before .before .loop .inv)
+same-length-3 c =
+    let at-loop = c .before .before .before in
+    let start = at-loop .before .before .before in
+    law.same-len (now (start .args .bytes)) (now (start .args .out)) (at-loop .loop .out) (at-loop .loop .at .0) (at-loop .loop .n .0) (at-loop .loop .fine) (at-loop .loop .inv)
 
 returns-3 : tie.Need-returns-3 Inv-loop μ-loop
-returns-3 c = law.outside (now (c .before .before .before .before .before .before .args .bytes)) (now (c .before .before .before .before .before .before .args .out)) (c .before .before .before .loop .out) (c .before .before .before .loop .at .0) (c .before .before .before .loop .n .0) (c .before .before .before .loop .fine) (c .before .before .before .loop .inv) (c .before .if1 .left) (c .if2 .left)
+returns-3 c =
+    let at-loop = c .before .before .before in
+    let start = at-loop .before .before .before in
+    law.outside (now (start .args .bytes)) (now (start .args .out)) (at-loop .loop .out) (at-loop .loop .at .0) (at-loop .loop .n .0)
+    (at-loop .loop .fine) (at-loop .loop .inv) (c .before .if1 .left) (c .if2 .left)
 
 pub decode-text-spec : {M : Type 1} → statement M
 decode-text-spec =

@@ -8,12 +8,12 @@ second-low-requires c κs = search needs
 second-high-requires : tie.Need-second-high-requires
 second-high-requires c κs = search needs
 
-wide-requires : tie.Need-wide-requires
-wide-requires c κs = search needs
+wide-byte-requires : tie.Need-wide-byte-requires
+wide-byte-requires c κs = search needs
 
 returns : tie.Need-returns
-returns c = λ i. record { more = c .before .before .before .args .more; low = c .before .before .second-low .ensures i; high = c .before .second-high .ensures i; bits = c .wide .ensures i }
+returns c = λ i. record { more = c .before .before .before .args .more; low = c .before .before .second-low .ensures i; high = c .before .second-high .ensures i; bits = c .wide-byte .ensures i }
 
 pub lead-with-spec : {M : Type 1} → statement M
 lead-with-spec =
-    tie.close (tie.spec second-low-requires second-high-requires wide-requires returns)
+    tie.close (tie.spec second-low-requires second-high-requires wide-byte-requires returns)

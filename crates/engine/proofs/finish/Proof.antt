@@ -7,7 +7,10 @@ settle-requires : tie.Need-settle-requires
 settle-requires c κs = search needs
 
 spread-requires : tie.Need-spread-requires
-spread-requires c κs = (rw (c .before .before .before .before .before .settle .kept .1 .1 .1 .0) (c .before .before .before .before .before .before .before .before .before .before .before .before .before .pre .0), c .before .before .before .before .before .before .before .before .before .before .before .before .before .pre .4, c .before .before .before .before .before .before .before .before .before .before .before .before .before .pre .5)
+spread-requires c κs =
+    let at-settle = c .before .before .before .before .before in
+    let start = at-settle .before .before .before .before .before .before .before .before in
+    (rw (at-settle .settle .kept .1 .1 .1 .0) (start .pre .0), start .pre .4, start .pre .5)
 
 same-length : tie.Need-same-length
 same-length c = search needs
@@ -16,7 +19,10 @@ same-length-2 : tie.Need-same-length-2
 same-length-2 c = search needs
 
 returns : tie.Need-returns
-returns c = finished _ _ _ _ _ _ (c .before .before .before .before .before .before .before .before .before .before .before .before .before .before .before .before .pre .4) (c .before .before .before .before .before .before .before .before .before .before .before .before .before .before .before .before .pre .5) (c .before .before .before .before .before .before .before .before .settle .ensures) (c .before .before .spread .ensures)
+returns c =
+    let at-settle = c .before .before .before .before .before .before .before .before in
+    let start = at-settle .before .before .before .before .before .before .before .before in
+    finished _ _ _ _ _ _ (start .pre .4) (start .pre .5) (at-settle .settle .ensures) (c .before .before .spread .ensures)
 
 pub finish-spec : {M : Type 1} → statement M
 finish-spec =

@@ -2,7 +2,7 @@ use mathlib.Core.Path.{subst}
 use Prim.Native.Nat.{ℕ}
 use native.Mathlib.Omega.{arith}
 use lib.ListN.{set}
-use Rattle.code.specs.Heights.{cellAt}
+use Rattle.chart.specs.Heights.{cellAt}
 use Rattle.engine.specs.Sweep.{Lowered, lowered, kept}
 use Rattle.engine.proofs.Cells.{at-room}
 use borrow.Author.Needs.{needs}

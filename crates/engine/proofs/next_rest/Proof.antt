@@ -35,7 +35,9 @@ value-requires c κs =
     (s .0, record { inside = s .0 .nexts (c .before .before .before .loop .p) (c .before .before .loop-test .taken) (c .if1 .taken); order = s .2; stop = s .3 })
 
 returns : tie.Need-returns Inv-loop μ-loop
-returns c = record { from = c .before .before .before .before .before .loop .inv .0; below = c .before .before .before .before .before .loop .inv .1; idle = c .before .before .before .before .before .loop .inv .2; busy = λ _. c .before .before .if1 .taken }
+returns c =
+    let at-loop = c .before .before .before .before .before in
+    record { from = at-loop .loop .inv .0; below = at-loop .loop .inv .1; idle = at-loop .loop .inv .2; busy = λ _. c .before .before .if1 .taken }
 
 add-p : tie.Need-add-p Inv-loop μ-loop
 add-p c = search needs
@@ -44,7 +46,15 @@ loop-less : tie.Need-loop-less Inv-loop μ-loop
 loop-less c = omega (arith, c .before .before .loop-test .taken)
 
 loop-again : tie.Need-loop-again Inv-loop μ-loop
-loop-again c = (omega (arith, c .before .before .before .loop .inv .0), omega (arith, c .before .before .loop-test .taken), idle-next (c .before .before .before .before .before .before .args .from) (c .before .before .before .loop .p) (c .before .before .before .loop .inv .2) (⊎-elim (λ w. idle-none (sym (w .1 .ensures) ∙ w .2 .left)) (λ w. idle-end (w .left)) (c .if1 .came)))
+loop-again c =
+    let at-loop = c .before .before .before in
+    let start = at-loop .before .before .before in (
+      omega (arith, at-loop .loop .inv .0),
+      omega (arith, c .before .before .loop-test .taken),
+      idle-next (start .args .from)
+          (at-loop .loop .p) (at-loop .loop .inv .2) (⊎-elim (λ w. idle-none (sym (w .1 .ensures) ∙ w .2 .left)) (λ w. idle-end (w .left))
+          (c .if1 .came)),
+    )
 
 returns-2 : tie.Need-returns-2 Inv-loop μ-loop
 returns-2 c = record { from = c .before .loop .inv .0; below = c .before .loop .inv .1; idle = c .before .loop .inv .2; busy = λ l. absurd (omega (arith, c .loop-test .left)) }

@@ -1,5 +1,6 @@
 use native.Mathlib.Nat.{le-of-lt}
-use Rattle.engine.proofs.Relaxing.{offer-none, offer-shifted, offer-left, offer-right}
+use Rattle.engine.proofs.Kept.{offer-none, offer-shifted}
+use Rattle.engine.proofs.Kept.{offer-left, offer-right}
 use borrow.Author.Needs.{needs}
 use Rattle.engine.proofs.offer.Statement.{statement}
 use Rattle.engine.proofs.offer.Tie as tie
@@ -18,8 +19,9 @@ shift-requires c κs = search needs
 
 returns : tie.Need-returns
 returns c =
-    let a = c .before .before .before .before .before .before .args in
-    offer-shifted (a .code .now) (a .fits .now) (a .size) (a .n) (a .main .now) (a .p) (a .i) (a .j) (c .shift .result) (c .before .if1 .taken) (c .before .before .before .before .before .before .pre .1 .order) (c .shift .ensures)
+    let start = c .before .before .before .before .before .before in
+    let a = start .args in
+    offer-shifted (a .code .now) (a .fits .now) (a .size) (a .n) (a .main .now) (a .p) (a .i) (a .j) (c .shift .result) (c .before .if1 .taken) (start .pre .1 .order) (c .shift .ensures)
 
 returns-2 : tie.Need-returns-2
 returns-2 c =
@@ -34,13 +36,23 @@ split-requires-2 c κs = search needs
 
 returns-3 : tie.Need-returns-3
 returns-3 c =
-    let a = c .before .before .before .before .before .before .before .before .before .args in
-    offer-left (a .code .now) (a .fits .now) (a .size) (a .n) (a .main .now) (a .p) (a .i) (a .j) (c .before .before .split .result) (c .before .split2 .result) (c .before .before .before .if2 .left) (c .before .before .before .before .before .before .before .before .before .pre .1 .order) (c .before .before .split .ensures) (c .before .split2 .ensures) (le-of-lt (c .if3 .taken))
+    let at-split = c .before .before in
+    let at-if2 = at-split .before in
+    let start = at-if2 .before .before .before .before .before .before in
+    let a = start .args in
+    offer-left (a .code .now) (a .fits .now) (a .size) (a .n) (a .main .now) (a .p) (a .i) (a .j) (at-split .split .result)
+    (c .before .split2 .result) (at-if2 .if2 .left) (start .pre .1 .order) (at-split .split .ensures) (c .before .split2 .ensures)
+    (le-of-lt (c .if3 .taken))
 
 returns-4 : tie.Need-returns-4
 returns-4 c =
-    let a = c .before .before .before .before .before .before .before .before .before .args in
-    offer-right (a .code .now) (a .fits .now) (a .size) (a .n) (a .main .now) (a .p) (a .i) (a .j) (c .before .before .split .result) (c .before .split2 .result) (c .before .before .before .if2 .left) (c .before .before .before .before .before .before .before .before .before .pre .1 .order) (c .before .before .split .ensures) (c .before .split2 .ensures) (c .if3 .left)
+    let at-split = c .before .before in
+    let at-if2 = at-split .before in
+    let start = at-if2 .before .before .before .before .before .before in
+    let a = start .args in
+    offer-right (a .code .now) (a .fits .now) (a .size) (a .n) (a .main .now) (a .p) (a .i) (a .j) (at-split .split .result)
+    (c .before .split2 .result) (at-if2 .if2 .left) (start .pre .1 .order) (at-split .split .ensures) (c .before .split2 .ensures)
+    (c .if3 .left)
 
 pub offer-spec : {M : Type 1} → statement M
 offer-spec =

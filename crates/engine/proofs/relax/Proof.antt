@@ -1,6 +1,6 @@
 use mathlib.Core.Path.{subst, sym}
 use Rattle.engine.specs.Table.{Shape}
-use Rattle.engine.proofs.Relaxing.{relaxed}
+use Rattle.engine.proofs.Kept.{relaxed}
 use borrow.Author.Needs.{needs}
 use Rattle.engine.proofs.relax.Statement.{statement}
 use Rattle.engine.proofs.relax.Tie as tie
@@ -11,8 +11,11 @@ offer-requires c κs = search needs
 lower-requires : tie.Need-lower-requires
 lower-requires c κs = search needs
 
-hand-requires : tie.Need-hand-requires
-hand-requires c κs = (subst (Shape (c .before .before .before .before .before .before .before .before .before .before .before .before .args .code .now) (c .before .before .before .before .before .before .before .before .before .before .before .before .args .size) (c .before .before .before .before .before .before .before .before .before .before .before .before .args .n)) (sym (c .before .before .before .before .lower .kept .0)) (c .before .before .before .before .before .before .before .before .before .before .before .before .pre .0 .shape), c .before .before .before .before .before .before .before .before .before .before .before .before .pre .1, c .before .before .before .before .before .before .before .before .before .before .before .before .pre .2)
+lower-owner-requires : tie.Need-lower-owner-requires
+lower-owner-requires c κs =
+    let at-lower = c .before .before .before .before in
+    let start = at-lower .before .before .before .before .before .before .before .before in
+    (subst (Shape (start .args .code .now) (start .args .size) (start .args .n)) (sym (at-lower .lower .kept .0)) (start .pre .0 .shape), start .pre .1, start .pre .2)
 
 same-length : tie.Need-same-length
 same-length c = search needs
@@ -22,10 +25,15 @@ same-length-2 c = search needs
 
 returns : tie.Need-returns
 returns c =
-    let a = c .before .before .before .before .before .before .before .before .before .before .before .before .before .before .before .before .before .args in
-    relaxed (a .code .now) (a .fits .now) (a .size) (a .n) (a .i) (a .j) (c .before .before .before .before .before .before .before .before .before .before .before .before .before .before .before .before .before .pre .1 .order) (c .before .before .before .before .before .before .before .before .before .before .before .before .before .before .before .before .before .pre .1 .stop) (c .before .before .before .before .before .before .before .before .before .before .before .before .before .before .before .before .before .pre .0 .shape) (a .p) (c .before .before .before .before .before .before .before .before .before .before .before .before .before .before .before .before .before .pre .1 .inside) (c .before .before .before .before .before .before .before .before .before .before .before .before .before .before .before .before .before .pre .2) (c .before .before .before .before .before .before .before .before .before .before .before .offer .ensures) (c .before .before .before .before .before .before .before .before .before .lower .ensures) (c .before .before .before .before .hand .ensures)
+    let at-lower-owner = c .before .before .before .before in
+    let at-lower = at-lower-owner .before .before .before .before .before in
+    let at-offer = at-lower .before .before in
+    let start = at-offer .before .before .before .before .before .before in
+    let a = start .args in
+    relaxed (a .code .now) (a .fits .now) (a .size) (a .n) (a .i) (a .j) (start .pre .1 .order) (start .pre .1 .stop) (start .pre .0 .shape)
+    (a .p) (start .pre .1 .inside) (start .pre .2) (at-offer .offer .ensures) (at-lower .lower .ensures) (at-lower-owner .lower-owner .ensures)
 
 pub relax-spec : {M : Type 1} → statement M
 relax-spec =
     tie.close
-    (tie.spec offer-requires lower-requires hand-requires same-length same-length-2 returns)
+    (tie.spec offer-requires lower-requires lower-owner-requires same-length same-length-2 returns)

@@ -7,10 +7,11 @@ use Rattle.engine.proofs.revisit.Statement.{statement}
 use Rattle.engine.proofs.revisit.Tie as tie
 
 abbrev Inv-loop : tie.InvT-loop
-Inv-loop code fits uses main₀ stale₀ size n e d i j x₀ main stale x = Revisiting code fits size n i j e x main₀ stale₀ main stale × (length main ≡ length main₀) × (length stale ≡ length stale₀)
+Inv-loop code fits uses main₀ pending₀ size n e d i j x₀ main pending x =
+    Revisiting code fits size n i j e x main₀ pending₀ main pending × (length main ≡ length main₀) × (length pending ≡ length pending₀)
 
 abbrev μ-loop : tie.MeasureT-loop
-μ-loop code fits uses main₀ stale₀ size n e d i j x₀ main stale x = x
+μ-loop code fits uses main₀ pending₀ size n e d i j x₀ main pending x = x
 
 mul-x : tie.Need-mul-x Inv-loop μ-loop
 mul-x c = omega (arith, c .before .before .before .before .before .pre .4, c .before .before .before .before .before .pre .0 .shape .cells .few)
@@ -26,11 +27,14 @@ cast-x c = omega (arith, c .shared-slice-known4 .given (2 * c .before .before .b
 
 loop-holds : tie.Need-loop-holds Inv-loop μ-loop
 loop-holds c =
-    let a = c .before .before .before .before .before .before .args in
-    (revisit-start (a .code .now) (a .fits .now) (a .size) (a .n) (a .i) (a .j) (a .main .now) (a .stale .now) (c .before .before .before .before .before .before .pre .1 .last (a .e) (c .before .before .before .before .before .before .pre .4)), refl, refl)
+    let start = c .before .before .before .before .before .before in
+    let a = start .args in
+    (revisit-start (a .code .now) (a .fits .now) (a .size) (a .n) (a .i) (a .j) (a .main .now) (a .pending .now) (start .pre .1 .last (a .e) (start .pre .4)), refl, refl)
 
 add-if1 : tie.Need-add-if1 Inv-loop μ-loop
-add-if1 c = omega (arith, c .before .loop .inv .0 .below, c .before .before .before .before .before .before .before .before .pre .0 .shape .cells .few, c .before .before .before .before .before .before .before .before .pre .5)
+add-if1 c =
+    let start = c .before .before .before .before .before .before .before .before in
+    omega (arith, c .before .loop .inv .0 .below, start .pre .0 .shape .cells .few, start .pre .5)
 
 same-length : tie.Need-same-length Inv-loop μ-loop
 same-length c = c .before .before .loop .inv .1
@@ -44,32 +48,63 @@ returns c =
     revisit-end (a .code .now) (a .fits .now) (a .size) (a .n) (a .i) (a .j) (λ q hq l. omega (arith, c .if1 .taken)) (c .before .before .loop .inv .0)
 
 descend-requires : tie.Need-descend-requires Inv-loop μ-loop
-descend-requires c κs = (rw (c .before .before .before .before .loop .inv .1) (c .before .before .before .before .before .before .before .before .before .before .before .pre .0), c .before .before .before .before .loop .inv .0 .below, c .before .before .before .before .before .before .before .before .before .before .before .pre .6, c .before .before .before .before .before .before .before .before .before .before .before .pre .7, omega (arith, c .before .before .before .before .loop .inv .2, c .before .before .before .before .before .before .before .before .before .before .before .pre .3))
+descend-requires c κs =
+    let at-loop = c .before .before .before .before in
+    let start = at-loop .before .before .before .before .before .before .before in
+    (rw (at-loop .loop .inv .1) (start .pre .0), at-loop .loop .inv .0 .below, start .pre .6, start .pre .7, omega (arith, at-loop .loop .inv .2, start .pre .3))
 
 mul-x-3 : tie.Need-mul-x-3 Inv-loop μ-loop
-mul-x-3 c = omega (arith, c .before .before .before .before .before .before .before .before .before .loop .inv .0 .below, c .before .before .before .before .before .before .before .before .before .before .before .before .before .before .before .before .pre .0 .shape .cells .few)
+mul-x-3 c =
+    let at-loop = c .before .before .before .before .before .before .before .before .before in
+    let start = at-loop .before .before .before .before .before .before .before in
+    omega (arith, at-loop .loop .inv .0 .below, start .pre .0 .shape .cells .few)
 
 sub-x : tie.Need-sub-x Inv-loop μ-loop
 sub-x c = omega (arith, c .before .before .before .before .before .before .before .before .loop-test .taken)
 
 mul-x-4 : tie.Need-mul-x-4 Inv-loop μ-loop
-mul-x-4 c = omega (arith, c .before .before .before .before .before .before .before .before .before .loop .inv .0 .below, c .before .before .before .before .before .before .before .before .before .before .before .before .before .before .before .before .pre .0 .shape .cells .few)
+mul-x-4 c =
+    let at-loop = c .before .before .before .before .before .before .before .before .before in
+    let start = at-loop .before .before .before .before .before .before .before in
+    omega (arith, at-loop .loop .inv .0 .below, start .pre .0 .shape .cells .few)
 
 shared-slice-read-x-2 : tie.Need-shared-slice-read-x-2 Inv-loop μ-loop
-shared-slice-read-x-2 c = omega (arith, c .before .before .before .before .before .before .before .before .before .loop-test .taken, c .before .before .before .before .before .before .before .before .before .before .loop .inv .0 .below, c .before .before .before .before .before .before .before .before .before .before .before .before .before .before .before .before .before .pre .2)
+shared-slice-read-x-2 c =
+    let at-loop-test = c .before .before .before .before .before .before .before .before .before in
+    let at-loop = at-loop-test .before in
+    let start = at-loop .before .before .before .before .before .before .before in
+    omega (arith, at-loop-test .loop-test .taken, at-loop .loop .inv .0 .below, start .pre .2)
 
 cast-x-2 : tie.Need-cast-x-2 Inv-loop μ-loop
 cast-x-2 c = omega (arith, c .shared-slice-known5 .given (2 * c .before .before .before .before .before .before .before .before .before .before .loop .x - 1))
 
 loop-less : tie.Need-loop-less Inv-loop μ-loop
 loop-less c =
-    let a = c .before .before .before .before .before .before .before .before .before .before .before .before .before .before .before .before .before .args in
-    omega (arith, (use-before (a .code .now) (a .fits .now) (a .size) (a .n) (a .i) (a .j) (c .before .before .before .before .before .before .before .before .before .before .before .before .before .before .before .before .before .pre .1) (c .before .before .before .before .before .before .before .before .before .loop-test .taken) refl (c .before .before .before .before .before .before .before .before .before .before .loop .inv .0)) .below, c .before .before .before .before .before .before .before .before .before .loop-test .taken)
+    let at-loop-test = c .before .before .before .before .before .before .before .before .before in
+    let at-loop = at-loop-test .before in
+    let start = at-loop .before .before .before .before .before .before .before in
+    let a = start .args in
+    omega (
+      arith,
+      (use-before (a .code .now) (a .fits .now) (a .size) (a .n) (a .i) (a .j) (start .pre .1) (at-loop-test .loop-test .taken)
+          refl (at-loop .loop .inv .0)) .below,
+      at-loop-test .loop-test .taken,
+    )
 
 loop-again : tie.Need-loop-again Inv-loop μ-loop
 loop-again c =
-    let a = c .before .before .before .before .before .before .before .before .before .before .before .before .before .before .before .before .before .args in
-    (revisit-next (a .code .now) (a .fits .now) (a .size) (a .n) (a .i) (a .j) (c .before .before .before .before .before .before .before .before .before .loop-test .taken) (use-before (a .code .now) (a .fits .now) (a .size) (a .n) (a .i) (a .j) (c .before .before .before .before .before .before .before .before .before .before .before .before .before .before .before .before .before .pre .1) (c .before .before .before .before .before .before .before .before .before .loop-test .taken) refl (c .before .before .before .before .before .before .before .before .before .before .loop .inv .0)) (c .before .before .before .before .before .before .before .before .before .before .loop .inv .0) (c .before .before .before .before .before .descend .ensures), c .before .before .before .before .before .descend .kept .1 .1 .0 ∙ c .before .before .before .before .before .before .before .before .before .before .loop .inv .1, c .before .before .before .before .before .descend .kept .1 .1 .1 .0 ∙ c .before .before .before .before .before .before .before .before .before .before .loop .inv .2)
+    let at-descend = c .before .before .before .before .before in
+    let at-loop-test = at-descend .before .before .before .before in
+    let at-loop = at-loop-test .before in
+    let start = at-loop .before .before .before .before .before .before .before in
+    let a = start .args in (
+      revisit-next (a .code .now) (a .fits .now) (a .size) (a .n) (a .i) (a .j) (at-loop-test .loop-test .taken)
+          (use-before (a .code .now) (a .fits .now) (a .size) (a .n) (a .i) (a .j) (start .pre .1) (at-loop-test .loop-test .taken) refl
+          (at-loop .loop .inv .0)) (at-loop .loop .inv .0) (at-descend .descend .ensures),
+      at-descend .descend .kept .1 .1 .0
+          ∙ at-loop .loop .inv .1,
+      at-descend .descend .kept .1 .1 .1 .0 ∙ at-loop .loop .inv .2,
+    )
 
 same-length-3 : tie.Need-same-length-3 Inv-loop μ-loop
 same-length-3 c = c .before .loop .inv .1

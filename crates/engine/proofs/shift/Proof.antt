@@ -35,7 +35,9 @@ add-value : tie.Need-add-value
 add-value c = search needs
 
 value-requires : tie.Need-value-requires
-value-requires c κs = (c .before .before .before .before .before .before .before .pre .0 .shape, next-place (c .before .before .before .before .before .before .before .pre .0 .shape) (c .before .before .before .before .before .before .before .pre .1) (c .before .before .before .before .before .before .before .args .i) (λ z. omega (arith, c .before .before .before .before .before .before .before .pre .2)) (omega arith) (c .before .before .before .before .before .before .before .pre .1 .order))
+value-requires c κs =
+    let start = c .before .before .before .before .before .before .before in
+    (start .pre .0 .shape, next-place (start .pre .0 .shape) (start .pre .1) (start .args .i) (λ z. omega (arith, start .pre .2)) (omega arith) (start .pre .1 .order))
 
 returns-3 : tie.Need-returns-3
 returns-3 c = search needs

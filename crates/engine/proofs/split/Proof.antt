@@ -10,7 +10,9 @@ add-value : tie.Need-add-value
 add-value c = search needs
 
 value-requires : tie.Need-value-requires
-value-requires c κs = (c .before .before .pre .0, next-place (c .before .before .pre .0) (c .before .before .pre .1) (c .before .before .args .m) (λ z. omega (arith, c .before .before .pre .4)) (c .before .before .pre .2) (c .before .before .pre .3))
+value-requires c κs =
+    let start = c .before .before in
+    (start .pre .0, next-place (start .pre .0) (start .pre .1) (start .args .m) (λ z. omega (arith, start .pre .4)) (start .pre .2) (start .pre .3))
 
 returns : tie.Need-returns
 returns c =
@@ -56,8 +58,13 @@ larger-requires c κs = search needs
 
 returns-2 : tie.Need-returns-2
 returns-2 c =
-    let a = c .before .before .before .before .before .before .before .before .before .args in
-    split-some (a .code .now) (a .main .now) (a .n) (a .p) (a .i) (a .j) (a .m) (c .before .before .before .before .before .before .value .result) (c .before .before .before .before .before .before .value .ensures) (c .before .up .result) (c .before .before .before .cell .result) (c .larger .result) (c .before .before .before .cell .ensures) (c .before .up .ensures) (c .larger .ensures)
+    let at-cell = c .before .before .before in
+    let at-value = at-cell .before .before .before in
+    let start = at-value .before .before .before in
+    let a = start .args in
+    split-some (a .code .now) (a .main .now) (a .n) (a .p) (a .i) (a .j) (a .m) (at-value .value .result) (at-value .value .ensures)
+    (c .before .up .result) (at-cell .cell .result) (c .larger .result) (at-cell .cell .ensures) (c .before .up .ensures)
+    (c .larger .ensures)
 
 pub split-spec : {M : Type 1} → statement M
 split-spec =

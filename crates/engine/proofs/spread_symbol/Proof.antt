@@ -42,34 +42,66 @@ loop-holds : tie.Need-loop-holds Inv-loop μ-loop
 loop-holds c = (omega arith, refl, record { steps = λ f. stay; below = λ k l. absurd (omega arith) })
 
 add-better : tie.Need-add-better Inv-loop μ-loop
-add-better c = omega (arith, rule-cell (c .before .before .before .before .before .before .before .pre .1) (c .loop-test .taken) (c .before .before .before .before .before .before .before .pre .0) (c .before .before .before .before .before .before .before .pre .3) (c .before .before .before .cell .ensures))
+add-better c =
+    let at-cell = c .before .before .before in
+    let start = at-cell .before .before .before .before in
+    omega (arith, rule-cell (start .pre .1) (c .loop-test .taken) (start .pre .0) (start .pre .3) (at-cell .cell .ensures))
 
 mul-better : tie.Need-mul-better Inv-loop μ-loop
-mul-better c = omega (arith, rule-cell (c .before .before .before .before .before .before .before .pre .1) (c .loop-test .taken) (c .before .before .before .before .before .before .before .pre .0) (c .before .before .before .before .before .before .before .pre .3) (c .before .before .before .cell .ensures))
+mul-better c =
+    let at-cell = c .before .before .before in
+    let start = at-cell .before .before .before .before in
+    omega (arith, rule-cell (start .pre .1) (c .loop-test .taken) (start .pre .0) (start .pre .3) (at-cell .cell .ensures))
 
 slice-read-better : tie.Need-slice-read-better Inv-loop μ-loop
-slice-read-better c = omega (arith, c .before .before .loop .inv .1, rule-cell (c .before .before .before .before .before .before .before .before .pre .1) (c .before .loop-test .taken) (c .before .before .before .before .before .before .before .before .pre .0) (c .before .before .before .before .before .before .before .before .pre .3) (c .before .before .before .before .cell .ensures))
+slice-read-better c =
+    let at-cell = c .before .before .before .before in
+    let start = at-cell .before .before .before .before in
+    omega (arith, c .before .before .loop .inv .1, rule-cell (start .pre .1) (c .before .loop-test .taken) (start .pre .0) (start .pre .3) (at-cell .cell .ensures))
 
 add-better-2 : tie.Need-add-better-2 Inv-loop μ-loop
-add-better-2 c = omega (arith, own-cell (c .before .before .before .before .before .before .before .before .pre .1) (c .before .loop-test .taken) (c .before .before .before .before .before .before .before .before .pre .0) (c .before .before .before .cell2 .ensures))
+add-better-2 c =
+    let at-cell2 = c .before .before .before in
+    let start = at-cell2 .before .before .before .before .before in
+    omega (arith, own-cell (start .pre .1) (c .before .loop-test .taken) (start .pre .0) (at-cell2 .cell2 .ensures))
 
 mul-better-2 : tie.Need-mul-better-2 Inv-loop μ-loop
-mul-better-2 c = omega (arith, own-cell (c .before .before .before .before .before .before .before .before .pre .1) (c .before .loop-test .taken) (c .before .before .before .before .before .before .before .before .pre .0) (c .before .before .before .cell2 .ensures))
+mul-better-2 c =
+    let at-cell2 = c .before .before .before in
+    let start = at-cell2 .before .before .before .before .before in
+    omega (arith, own-cell (start .pre .1) (c .before .loop-test .taken) (start .pre .0) (at-cell2 .cell2 .ensures))
 
 slice-read-better-2 : tie.Need-slice-read-better-2 Inv-loop μ-loop
-slice-read-better-2 c = omega (arith, c .before .before .before .loop .inv .1, own-cell (c .before .before .before .before .before .before .before .before .before .pre .1) (c .before .before .loop-test .taken) (c .before .before .before .before .before .before .before .before .before .pre .0) (c .before .before .before .before .cell2 .ensures))
+slice-read-better-2 c =
+    let at-loop = c .before .before .before in
+    let at-cell2 = at-loop .before in
+    let start = at-cell2 .before .before .before .before .before in
+    omega (arith, at-loop .loop .inv .1, own-cell (start .pre .1) (c .before .before .loop-test .taken) (start .pre .0) (at-cell2 .cell2 .ensures))
 
 better-requires : tie.Need-better-requires Inv-loop μ-loop
 better-requires c κs = search needs
 
 add-main : tie.Need-add-main Inv-loop μ-loop
-add-main c = omega (arith, own-cell (c .before .before .before .before .before .before .before .before .before .before .pre .1) (c .before .before .before .loop-test .taken) (c .before .before .before .before .before .before .before .before .before .before .pre .0) (c .before .before .before .before .before .cell2 .ensures))
+add-main c =
+    let at-loop-test = c .before .before .before in
+    let at-cell2 = at-loop-test .before .before in
+    let start = at-cell2 .before .before .before .before .before in
+    omega (arith, own-cell (start .pre .1) (at-loop-test .loop-test .taken) (start .pre .0) (at-cell2 .cell2 .ensures))
 
 mul-main : tie.Need-mul-main Inv-loop μ-loop
-mul-main c = omega (arith, own-cell (c .before .before .before .before .before .before .before .before .before .before .pre .1) (c .before .before .before .loop-test .taken) (c .before .before .before .before .before .before .before .before .before .before .pre .0) (c .before .before .before .before .before .cell2 .ensures))
+mul-main c =
+    let at-loop-test = c .before .before .before in
+    let at-cell2 = at-loop-test .before .before in
+    let start = at-cell2 .before .before .before .before .before in
+    omega (arith, own-cell (start .pre .1) (at-loop-test .loop-test .taken) (start .pre .0) (at-cell2 .cell2 .ensures))
 
 slice-write-main : tie.Need-slice-write-main Inv-loop μ-loop
-slice-write-main c = omega (arith, c .before .before .before .before .loop .inv .1, own-cell (c .before .before .before .before .before .before .before .before .before .before .pre .1) (c .before .before .before .loop-test .taken) (c .before .before .before .before .before .before .before .before .before .before .pre .0) (c .before .before .before .before .before .cell2 .ensures))
+slice-write-main c =
+    let at-loop-test = c .before .before .before in
+    let at-loop = at-loop-test .before in
+    let at-cell2 = at-loop .before in
+    let start = at-cell2 .before .before .before .before .before in
+    omega (arith, at-loop .loop .inv .1, own-cell (start .pre .1) (at-loop-test .loop-test .taken) (start .pre .0) (at-cell2 .cell2 .ensures))
 
 add-i : tie.Need-add-i Inv-loop μ-loop
 add-i c = search needs
@@ -79,11 +111,22 @@ loop-less c = omega (arith, c .before .before .before .loop-test .taken)
 
 loop-again : tie.Need-loop-again Inv-loop μ-loop
 loop-again c =
-    let s = c .before .before .before .before .before .before .before .before .before .before .pre in
-    let a = c .before .before .before .before .before .before .before .before .before .before .args in
-    let l = c .before .before .before .before .loop in
-    let y = c .before .before .before .before .before .cell2 .result in
-    (omega (arith, c .before .before .before .loop-test .taken), length-set (l .main) (y + l .i) (c .better .result) ∙ l .inv .1, symbol-turn (a .code .now) (a .size) (a .n) (a .p) (a .m) (a .j) (s .1) (s .2) (s .3) (a .main .now) (l .main) (l .i) (c .better .result) (c .before .before .before .before .before .before .cell .result) y (a .b) (c .before .before .before .loop-test .taken) (rw (l .inv .1) (s .0 .cells)) (l .inv .2) (c .before .before .before .before .before .before .cell .ensures) (c .before .before .before .before .before .cell2 .ensures) (s .4) (c .better .ensures))
+    let at-loop-test = c .before .before .before in
+    let at-loop = at-loop-test .before in
+    let at-cell2 = at-loop .before in
+    let at-cell = at-cell2 .before in
+    let start = at-cell .before .before .before .before in
+    let s = start .pre in
+    let a = start .args in
+    let l = at-loop .loop in
+    let y = at-cell2 .cell2 .result in (
+      omega (arith, at-loop-test .loop-test .taken),
+      length-set (l .main) (y + l .i) (c .better .result)
+          ∙ l .inv .1,
+      symbol-turn (a .code .now) (a .size) (a .n) (a .p) (a .m) (a .j) (s .1) (s .2) (s .3) (a .main .now) (l .main) (l .i)
+          (c .better .result) (at-cell .cell .result) y (a .b) (at-loop-test .loop-test .taken) (rw (l .inv .1) (s .0 .cells)) (l .inv .2)
+          (at-cell .cell .ensures) (at-cell2 .cell2 .ensures) (s .4) (c .better .ensures),
+    )
 
 same-length : tie.Need-same-length Inv-loop μ-loop
 same-length c = c .before .loop .inv .1

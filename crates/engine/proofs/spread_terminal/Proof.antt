@@ -1,7 +1,7 @@
 use mathlib.Core.Path.{_≡_, subst}
 use Prim.Native.Nat.{ℕ, _+_, _*_, _-_}
 use native.Mathlib.Omega.{arith}
-use Rattle.code.specs.Code.{goesAt, fitsAt}
+use Rattle.chart.specs.Code.{goesAt, fitsAt}
 use Rattle.engine.specs.Sweep.{stay}
 use Rattle.engine.proofs.Spreading.{astray-on, terminal-end}
 use borrow.Author.Needs.{needs}
@@ -25,13 +25,15 @@ cast-w c = omega (arith, c .shared-slice-known3 .given (4 * c .before .before .b
 
 returns : tie.Need-returns
 returns c =
-    let a = c .before .before .before .before .before .args in
-    record { steps = stay; closed = astray-on (a .code .now) (a .fits .now) (a .n) (a .m) (a .j) (a .main .now) (a .p) (c .before .before .before .before .before .pre .2) (λ i g l e. omega (arith, c .if1 .taken)) }
+    let start = c .before .before .before .before .before in
+    let a = start .args in
+    record { steps = stay; closed = astray-on (a .code .now) (a .fits .now) (a .n) (a .m) (a .j) (a .main .now) (a .p) (start .pre .2) (λ i g l e. omega (arith, c .if1 .taken)) }
 
 returns-2 : tie.Need-returns-2
 returns-2 c =
-    let a = c .before .before .before .before .before .before .args in
-    record { steps = stay; closed = astray-on (a .code .now) (a .fits .now) (a .n) (a .m) (a .j) (a .main .now) (a .p) (c .before .before .before .before .before .before .pre .2) (λ i g l e. omega (arith, c .if2 .taken)) }
+    let start = c .before .before .before .before .before .before in
+    let a = start .args in
+    record { steps = stay; closed = astray-on (a .code .now) (a .fits .now) (a .n) (a .m) (a .j) (a .main .now) (a .p) (start .pre .2) (λ i g l e. omega (arith, c .if2 .taken)) }
 
 mul-if3 : tie.Need-mul-if3
 mul-if3 c = search needs
@@ -60,9 +62,15 @@ same-length c = search needs
 
 returns-4 : tie.Need-returns-4
 returns-4 c =
-    let a = c .before .before .before .before .before .before .before .before .before .before .before .before .args in
-    let s = c .before .before .before .before .before .before .before .before .before .before .before .before .pre in
-    terminal-end (a .code .now) (a .fits .now) (a .size) (a .n) (a .p) (a .m) (a .j) (s .1) (s .2) (a .m - goesAt (a .code .now) (a .p)) (a .b) (c .before .before .before .before .if3 .left) (omega (arith, c .before .before .before .before .before .before .before .if1 .left, c .before .before .before .before .before .before .if2 .left)) (omega (arith, c .before .before .before .before .before .before .if2 .left)) (s .3) (c .before .before .lower .ensures)
+    let at-if3 = c .before .before .before .before in
+    let at-if2 = at-if3 .before .before in
+    let at-if1 = at-if2 .before in
+    let start = at-if1 .before .before .before .before .before in
+    let a = start .args in
+    let s = start .pre in
+    terminal-end (a .code .now) (a .fits .now) (a .size) (a .n) (a .p) (a .m) (a .j) (s .1) (s .2) (a .m - goesAt (a .code .now) (a .p))
+    (a .b) (at-if3 .if3 .left) (omega (arith, at-if1 .if1 .left, at-if2 .if2 .left)) (omega (arith, at-if2 .if2 .left)) (s .3)
+    (c .before .before .lower .ensures)
 
 pub spread-terminal-spec : {M : Type 1} → statement M
 spread-terminal-spec =

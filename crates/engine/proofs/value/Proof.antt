@@ -33,7 +33,10 @@ shared-slice-read-result : tie.Need-shared-slice-read-result
 shared-slice-read-result c = at-room (c .before .before .before .before .before .before .pre .0 .cells) (c .before .before .before .before .before .before .pre .1) (c .before .cell .ensures)
 
 returns-3 : tie.Need-returns-3
-returns-3 c = let a = c .before .before .before .before .before .before .args in ap (λ (z : ℕ). getD (a .main .now) z 0) (c .before .cell .ensures) ∙ sym (value-cell (a .code .now) (a .main .now) (a .n) (a .q) (a .i) (a .j) (c .before .before .if1 .left))
+returns-3 c =
+    let start = c .before .before .before .before .before .before in
+    let a = start .args in ap (λ (z : ℕ). getD (a .main .now) z 0) (c .before .cell .ensures)
+    ∙ sym (value-cell (a .code .now) (a .main .now) (a .n) (a .q) (a .i) (a .j) (c .before .before .if1 .left))
 
 pub value-spec : {M : Type 1} → statement M
 value-spec =

@@ -11,7 +11,10 @@ scan-requires : tie.Need-scan-requires
 scan-requires c κs = search needs
 
 link-requires : tie.Need-link-requires
-link-requires c κs = scanned-linkable (c .before .before .before .scan .ensures (c .before .before .before .before .before .before .pre .tree) (c .before .before .before .before .before .before .pre .readable))
+link-requires c κs =
+    let at-scan = c .before .before .before in
+    let start = at-scan .before .before .before in
+    scanned-linkable (at-scan .scan .ensures (start .pre .tree) (start .pre .readable))
 
 slice-read-result : tie.Need-slice-read-result
 slice-read-result c = search needs
@@ -23,7 +26,15 @@ same-length : tie.Need-same-length
 same-length c = search needs
 
 returns : tie.Need-returns
-returns c = λ g r. (scanned-tokens (c .before .before .before .before .before .before .before .scan .ensures g r) (c .before .before .before .link .ensures) (c .before .before .before .before .before .before .before .before .before .before .args .table .now) (c .before .before .before .before .before .before .before .before .before .before .args .end) refl (c .before .before .before .before .before .before .before .before .before .before .pre .inside), scanned-built (c .before .before .before .before .before .before .before .scan .ensures g r) (c .before .before .before .link .ensures) _ refl)
+returns c =
+    let at-link = c .before .before .before in
+    let at-scan = at-link .before .before .before .before in
+    let start = at-scan .before .before .before in
+    λ g r. (
+      scanned-tokens (at-scan .scan .ensures g r) (at-link .link .ensures) (start .args .table .now) (start .args .end) refl
+          (start .pre .inside),
+      scanned-built (at-scan .scan .ensures g r) (at-link .link .ensures) _ refl,
+    )
 
 pub build-items-spec : {M : Type 1} → statement M
 build-items-spec =

@@ -1,5 +1,5 @@
 use native.Mathlib.Omega.{arith}
-use mathlib.Core.Path.{refl, _∙_}
+use mathlib.Core.Path.{_∙_}
 use Rattle.answer.specs.Answer.{job}
 use Rattle.job.proofs.Starts.{ends-grammar, small, ends-record, few, ends-main, ends-second, begun}
 use borrow.Author.Needs.{needs}
@@ -22,7 +22,11 @@ same-length : tie.Need-same-length
 same-length c = search needs
 
 returns : tie.Need-returns
-returns c = ends-grammar (job (c .before .before .before .before .before .before .before .before .before .before .before .args .grammar .now) (c .before .before .before .before .before .before .before .before .before .before .before .args .record .now) (c .before .before .before .before .before .before .before .before .before .before .before .args .main) (c .before .before .before .before .before .before .before .before .before .before .before .args .second)) (c .before .before .before .before .before .load-grammar .last .1 .0) (c .before .before .before .before .before .before .before .before .before .before .before .args .text .now) _ _ _ (c .before .enum-told .given .1) (c .why-judged .ensures) (c .before .before .before .before .before .load-grammar .ensures)
+returns c =
+    let load-grammar = c .before .before .before .before .before .load-grammar in
+    let args = c .before .before .before .before .before .before .before .before .before .before .before .args in
+    ends-grammar (job (args .grammar .now) (args .record .now) (args .main) (args .second)) (load-grammar .last .1 .0) (args .text .now) _ _ _
+    (c .before .enum-told .given .1) (c .why-judged .ensures) (load-grammar .ensures)
 
 take-record-requires : tie.Need-take-record-requires
 take-record-requires c κs = search needs
@@ -43,13 +47,35 @@ same-length-3 : tie.Need-same-length-3
 same-length-3 c = search needs
 
 returns-2 : tie.Need-returns-2
-returns-2 c = ends-record (job (c .before .before .before .before .before .before .before .before .before .before .before .before .before .before .before .before .before .before .args .grammar .now) (c .before .before .before .before .before .before .before .before .before .before .before .before .before .before .before .before .before .before .args .record .now) (c .before .before .before .before .before .before .before .before .before .before .before .before .before .before .before .before .before .before .args .main) (c .before .before .before .before .before .before .before .before .before .before .before .before .before .before .before .before .before .before .args .second)) (c .before .before .before .before .before .before .before .before .before .before .before .before .load-grammar .last .1 .0) (c .before .before .before .before .before .take-record .last .1 .0) _ _ (c .before .before .before .before .before .before .before .before .judged .given .1) (c .before .before .before .before .before .before .before .before .before .before .before .before .load-grammar .ensures) _ _ _ (c .before .enum-told2 .given .1) (c .why-taken .ensures) (c .before .before .before .before .before .take-record .ensures)
+returns-2 c =
+    let take-record = c .before .before .before .before .before .take-record in
+    let judged = c .before .before .before .before .before .before .before .before .judged in
+    let load-grammar = c .before .before .before .before .before .before .before .before .before .before .before .before .load-grammar in
+    let args = c .before .before .before .before .before .before .before .before .before .before .before .before .before .before .before .before
+    .before .before .args in
+    ends-record (job (args .grammar .now) (args .record .now) (args .main) (args .second)) (load-grammar .last .1 .0) (take-record .last .1 .0) _
+    _ (judged .given .1) (load-grammar .ensures) _ _ _ (c .before .enum-told2 .given .1) (c .why-taken .ensures) (take-record .ensures)
 
 wide-requires : tie.Need-wide-requires
 wide-requires c κs = search needs
 
 need-requires : tie.Need-need-requires
-need-requires c κs = (omega (arith, c .wide .ensures, small (job (c .before .before .before .before .before .before .before .before .before .before .before .before .before .before .before .before .before .before .before .args .grammar .now) (c .before .before .before .before .before .before .before .before .before .before .before .before .before .before .before .before .before .before .before .args .record .now) (c .before .before .before .before .before .before .before .before .before .before .before .before .before .before .before .before .before .before .before .args .main) (c .before .before .before .before .before .before .before .before .before .before .before .before .before .before .before .before .before .before .before .args .second)) (c .before .before .before .before .before .before .before .before .before .before .before .before .before .load-grammar .last .1 .0) (c .before .before .before .before .before .before .take-record .last .1 .0) _ _ (c .before .before .before .before .before .before .before .before .before .judged .given .1) (c .before .before .before .before .before .before .before .before .before .before .before .before .before .load-grammar .ensures)), few (job (c .before .before .before .before .before .before .before .before .before .before .before .before .before .before .before .before .before .before .before .args .grammar .now) (c .before .before .before .before .before .before .before .before .before .before .before .before .before .before .before .before .before .before .before .args .record .now) (c .before .before .before .before .before .before .before .before .before .before .before .before .before .before .before .before .before .before .before .args .main) (c .before .before .before .before .before .before .before .before .before .before .before .before .before .before .before .before .before .before .before .args .second)) (c .before .before .before .before .before .before .before .before .before .before .before .before .before .load-grammar .last .1 .0) (c .before .before .before .before .before .before .take-record .last .1 .0) _ _ (c .before .before .before .before .before .before .before .before .before .judged .given .1) (c .before .before .before .before .before .before .before .before .before .before .before .before .before .load-grammar .ensures) _ _ (c .before .before .taken .given .1) (c .before .before .before .before .before .before .take-record .ensures))
+need-requires c κs =
+    let taken = c .before .before .taken in
+    let take-record = c .before .before .before .before .before .before .take-record in
+    let judged = c .before .before .before .before .before .before .before .before .before .judged in
+    let load-grammar = c .before .before .before .before .before .before .before .before .before .before .before .before .before .load-grammar in
+    let args = c .before .before .before .before .before .before .before .before .before .before .before .before .before .before .before .before
+    .before .before .before .args in (
+      omega (
+        arith,
+        c .wide .ensures,
+        small (job (args .grammar .now) (args .record .now) (args .main) (args .second)) (load-grammar .last .1 .0)
+            (take-record .last .1 .0) _ _ (judged .given .1) (load-grammar .ensures),
+      ),
+      few (job (args .grammar .now) (args .record .now) (args .main) (args .second)) (load-grammar .last .1 .0) (take-record .last .1 .0) _ _
+          (judged .given .1) (load-grammar .ensures) _ _ (taken .given .1) (take-record .ensures),
+    )
 
 same-length-4 : tie.Need-same-length-4
 same-length-4 c = search needs
@@ -58,7 +84,18 @@ same-length-5 : tie.Need-same-length-5
 same-length-5 c = search needs
 
 returns-3 : tie.Need-returns-3
-returns-3 c = ends-main (job (c .before .before .before .before .before .before .before .before .before .before .before .before .before .before .before .before .before .before .before .before .before .args .grammar .now) (c .before .before .before .before .before .before .before .before .before .before .before .before .before .before .before .before .before .before .before .before .before .args .record .now) (c .before .before .before .before .before .before .before .before .before .before .before .before .before .before .before .before .before .before .before .before .before .args .main) (c .before .before .before .before .before .before .before .before .before .before .before .before .before .before .before .before .before .before .before .before .before .args .second)) (c .before .before .before .before .before .before .before .before .before .before .before .before .before .before .before .load-grammar .last .1 .0) (c .before .before .before .before .before .before .before .before .take-record .last .1 .0) _ _ (c .before .before .before .before .before .before .before .before .before .before .before .judged .given .1) (c .before .before .before .before .before .before .before .before .before .before .before .before .before .before .before .load-grammar .ensures) _ _ (c .before .before .before .before .taken .given .1) (c .before .before .before .before .before .before .before .before .take-record .ensures) _ (c .before .need .ensures ∙ rw (c .before .before .wide .ensures)) (c .if1 .taken)
+returns-3 c =
+    let wide = c .before .before .wide in
+    let taken = c .before .before .before .before .taken in
+    let take-record = c .before .before .before .before .before .before .before .before .take-record in
+    let judged = c .before .before .before .before .before .before .before .before .before .before .before .judged in
+    let load-grammar = c .before .before .before .before .before .before .before .before .before .before .before .before .before .before .before
+    .load-grammar in
+    let args = c .before .before .before .before .before .before .before .before .before .before .before .before .before .before .before .before
+    .before .before .before .before .before .args in
+    ends-main (job (args .grammar .now) (args .record .now) (args .main) (args .second)) (load-grammar .last .1 .0) (take-record .last .1 .0) _ _
+    (judged .given .1) (load-grammar .ensures) _ _ (taken .given .1) (take-record .ensures) _ (c .before .need .ensures ∙ rw (wide .ensures))
+    (c .if1 .taken)
 
 same-length-6 : tie.Need-same-length-6
 same-length-6 c = search needs
@@ -67,7 +104,19 @@ same-length-7 : tie.Need-same-length-7
 same-length-7 c = search needs
 
 returns-4 : tie.Need-returns-4
-returns-4 c = ends-second (job (c .before .before .before .before .before .before .before .before .before .before .before .before .before .before .before .before .before .before .before .before .before .before .args .grammar .now) (c .before .before .before .before .before .before .before .before .before .before .before .before .before .before .before .before .before .before .before .before .before .before .args .record .now) (c .before .before .before .before .before .before .before .before .before .before .before .before .before .before .before .before .before .before .before .before .before .before .args .main) (c .before .before .before .before .before .before .before .before .before .before .before .before .before .before .before .before .before .before .before .before .before .before .args .second)) (c .before .before .before .before .before .before .before .before .before .before .before .before .before .before .before .before .load-grammar .last .1 .0) (c .before .before .before .before .before .before .before .before .before .take-record .last .1 .0) _ _ (c .before .before .before .before .before .before .before .before .before .before .before .before .judged .given .1) (c .before .before .before .before .before .before .before .before .before .before .before .before .before .before .before .before .load-grammar .ensures) _ _ (c .before .before .before .before .before .taken .given .1) (c .before .before .before .before .before .before .before .before .before .take-record .ensures) _ (c .before .before .need .ensures ∙ rw (c .before .before .before .wide .ensures)) (omega (arith, c .before .if1 .left)) (c .if2 .taken)
+returns-4 c =
+    let need = c .before .before .need in
+    let wide = c .before .before .before .wide in
+    let taken = c .before .before .before .before .before .taken in
+    let take-record = c .before .before .before .before .before .before .before .before .before .take-record in
+    let judged = c .before .before .before .before .before .before .before .before .before .before .before .before .judged in
+    let load-grammar = c .before .before .before .before .before .before .before .before .before .before .before .before .before .before .before
+    .before .load-grammar in
+    let args = c .before .before .before .before .before .before .before .before .before .before .before .before .before .before .before .before
+    .before .before .before .before .before .before .args in
+    ends-second (job (args .grammar .now) (args .record .now) (args .main) (args .second)) (load-grammar .last .1 .0) (take-record .last .1 .0) _
+    _ (judged .given .1) (load-grammar .ensures) _ _ (taken .given .1) (take-record .ensures) _ (need .ensures ∙ rw (wide .ensures))
+    (omega (arith, c .before .if1 .left)) (c .if2 .taken)
 
 same-length-8 : tie.Need-same-length-8
 same-length-8 c = search needs
@@ -76,7 +125,19 @@ same-length-9 : tie.Need-same-length-9
 same-length-9 c = search needs
 
 returns-5 : tie.Need-returns-5
-returns-5 c = begun (job (c .before .before .before .before .before .before .before .before .before .before .before .before .before .before .before .before .before .before .before .before .before .before .args .grammar .now) (c .before .before .before .before .before .before .before .before .before .before .before .before .before .before .before .before .before .before .before .before .before .before .args .record .now) (c .before .before .before .before .before .before .before .before .before .before .before .before .before .before .before .before .before .before .before .before .before .before .args .main) (c .before .before .before .before .before .before .before .before .before .before .before .before .before .before .before .before .before .before .before .before .before .before .args .second)) (c .before .before .before .before .before .before .before .before .before .before .before .before .before .before .before .before .load-grammar .last .1 .0) (c .before .before .before .before .before .before .before .before .before .take-record .last .1 .0) _ _ (c .before .before .before .before .before .before .before .before .before .before .before .before .judged .given .1) (c .before .before .before .before .before .before .before .before .before .before .before .before .before .before .before .before .load-grammar .ensures) _ _ (c .before .before .before .before .before .taken .given .1) (c .before .before .before .before .before .before .before .before .before .take-record .ensures) _ (c .before .before .need .ensures ∙ rw (c .before .before .before .wide .ensures)) (omega (arith, c .before .if1 .left)) (omega (arith, c .if2 .left))
+returns-5 c =
+    let need = c .before .before .need in
+    let wide = c .before .before .before .wide in
+    let taken = c .before .before .before .before .before .taken in
+    let take-record = c .before .before .before .before .before .before .before .before .before .take-record in
+    let judged = c .before .before .before .before .before .before .before .before .before .before .before .before .judged in
+    let load-grammar = c .before .before .before .before .before .before .before .before .before .before .before .before .before .before .before
+    .before .load-grammar in
+    let args = c .before .before .before .before .before .before .before .before .before .before .before .before .before .before .before .before
+    .before .before .before .before .before .before .args in
+    begun (job (args .grammar .now) (args .record .now) (args .main) (args .second)) (load-grammar .last .1 .0) (take-record .last .1 .0) _ _
+    (judged .given .1) (load-grammar .ensures) _ _ (taken .given .1) (take-record .ensures) _ (need .ensures ∙ rw (wide .ensures))
+    (omega (arith, c .before .if1 .left)) (omega (arith, c .if2 .left))
 
 pub begin-spec : {M : Type 1} → statement M
 begin-spec =

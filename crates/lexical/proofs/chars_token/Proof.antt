@@ -10,28 +10,59 @@ enum-known-c : tie.Need-enum-known-c
 enum-known-c c = search needs
 
 head-requires : tie.Need-head-requires
-head-requires c κs = rw (c .before .before .c .given .1) at (c .before .before .before .before .before .pre)
+head-requires c κs =
+    let chars = c .before .before .c in
+    let pre = c .before .before .before .before .before .pre in
+    rw (chars .given .1) at (pre)
 
 enum-known-c-2 : tie.Need-enum-known-c-2
 enum-known-c-2 c = search needs
 
 mul-out : tie.Need-mul-out
-mul-out c = let h : c .before .before .before .before .args .at .0 + 2 ≤ length (c .before .before .before .before .args .out .now) = rw (c .before .c2 .given .1) at (c .before .before .before .before .pre) in omega (arith, c .before .before .before .before .good .1 .1 .1 .0)
+mul-out c =
+    let args = c .before .before .before .before .args in
+    let good = c .before .before .before .before .good in
+    let pre = c .before .before .before .before .pre in
+    let h : args .at .0 + 2 ≤ length (args .out .now) = rw (c .before .c2 .given .1) at (pre) in
+    omega (arith, good .1 .1 .1 .0)
 
 slice-write-out : tie.Need-slice-write-out
-slice-write-out c = let h : c .before .before .before .before .args .at .0 + 2 ≤ length (c .before .before .before .before .args .out .now) = rw (c .before .c2 .given .1) at (c .before .before .before .before .pre) in omega arith
+slice-write-out c =
+    let args = c .before .before .before .before .args in
+    let pre = c .before .before .before .before .pre in
+    let h : args .at .0 + 2 ≤ length (args .out .now) = rw (c .before .c2 .given .1) at (pre) in
+    omega arith
 
 add-out : tie.Need-add-out
-add-out c = let h : c .before .before .before .before .args .at .0 + 2 ≤ length (c .before .before .before .before .args .out .now) = rw (c .before .c2 .given .1) at (c .before .before .before .before .pre) in omega (arith, c .before .before .before .before .good .1 .1 .1 .0)
+add-out c =
+    let args = c .before .before .before .before .args in
+    let good = c .before .before .before .before .good in
+    let pre = c .before .before .before .before .pre in
+    let h : args .at .0 + 2 ≤ length (args .out .now) = rw (c .before .c2 .given .1) at (pre) in
+    omega (arith, good .1 .1 .1 .0)
 
 mul-out-2 : tie.Need-mul-out-2
-mul-out-2 c = let h : c .before .before .before .before .args .at .0 + 2 ≤ length (c .before .before .before .before .args .out .now) = rw (c .before .c2 .given .1) at (c .before .before .before .before .pre) in omega (arith, c .before .before .before .before .good .1 .1 .1 .0)
+mul-out-2 c =
+    let args = c .before .before .before .before .args in
+    let good = c .before .before .before .before .good in
+    let pre = c .before .before .before .before .pre in
+    let h : args .at .0 + 2 ≤ length (args .out .now) = rw (c .before .c2 .given .1) at (pre) in
+    omega (arith, good .1 .1 .1 .0)
 
 slice-write-out-2 : tie.Need-slice-write-out-2
-slice-write-out-2 c = let h : c .before .before .before .before .args .at .0 + 2 ≤ length (c .before .before .before .before .args .out .now) = rw (c .before .c2 .given .1) at (c .before .before .before .before .pre) in simp length-set (omega arith)
+slice-write-out-2 c =
+    let args = c .before .before .before .before .args in
+    let pre = c .before .before .before .before .pre in
+    let h : args .at .0 + 2 ≤ length (args .out .now) = rw (c .before .c2 .given .1) at (pre) in
+    simp length-set (omega arith)
 
 add-t15 : tie.Need-add-t15
-add-t15 c = let h : c .before .before .before .before .args .at .0 + 2 ≤ length (c .before .before .before .before .args .out .now) = rw (c .before .c2 .given .1) at (c .before .before .before .before .pre) in omega (arith, c .before .before .before .before .good .1 .1 .1 .0)
+add-t15 c =
+    let args = c .before .before .before .before .args in
+    let good = c .before .before .before .before .good in
+    let pre = c .before .before .before .before .pre in
+    let h : args .at .0 + 2 ≤ length (args .out .now) = rw (c .before .c2 .given .1) at (pre) in
+    omega (arith, good .1 .1 .1 .0)
 
 enum-told : tie.Need-enum-told
 enum-told c = search needs
@@ -40,7 +71,10 @@ same-length : tie.Need-same-length
 same-length c = search needs
 
 returns : tie.Need-returns
-returns c = rw (c .before .before .before .before .before .c .given .1) (record { step = (refl, refl); table = c .before .before .head .ensures })
+returns c =
+    let head = c .before .before .head in
+    let chars = c .before .before .before .before .before .c in
+    rw (chars .given .1) (record { step = (refl, refl); table = head .ensures })
 
 same-length-2 : tie.Need-same-length-2
 same-length-2 c = search needs

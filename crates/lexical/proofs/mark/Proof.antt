@@ -13,13 +13,20 @@ is-mark-requires : tie.Need-is-mark-requires
 is-mark-requires c κs = search needs
 
 returns : tie.Need-returns
-returns c = no-mark _ _ _ (c .before .before .peek .ensures) (sym (c .before .is-mark .ensures) ∙ not-true _ (c .if1 .taken)) (c .before .before .before .before .pre)
+returns c =
+    let peek = c .before .before .peek in
+    let pre = c .before .before .before .before .pre in
+    no-mark _ _ _ (peek .ensures) (sym (c .before .is-mark .ensures) ∙ not-true _ (c .if1 .taken)) (pre)
 
 add-t9 : tie.Need-add-t9
 add-t9 c = search needs
 
 skip-requires : tie.Need-skip-requires
-skip-requires c κs = let h = mark-in (c .before .before .before .before .args .text .now) (c .before .before .before .before .args .p .0) _ (c .before .before .peek .ensures) (sym (c .before .is-mark .ensures) ∙ not-false _ (c .if1 .left)) in omega arith
+skip-requires c κs =
+    let peek = c .before .before .peek in
+    let args = c .before .before .before .before .args in
+    let h = mark-in (args .text .now) (args .p .0) _ (peek .ensures) (sym (c .before .is-mark .ensures) ∙ not-false _ (c .if1 .left)) in
+    omega arith
 
 enum-known-q : tie.Need-enum-known-q
 enum-known-q c = search needs
@@ -28,13 +35,28 @@ enum-told : tie.Need-enum-told
 enum-told c = search needs
 
 returns-2 : tie.Need-returns-2
-returns-2 c = mark-bad (c .before .before .before .before .before .before .before .args .text .now) (c .before .before .before .before .before .before .before .args .p .0) _ (c .before .before .before .before .before .peek .ensures) (sym (c .before .before .before .before .is-mark .ensures) ∙ not-false _ (c .before .before .before .if1 .left)) (rw (c .enum-told .given .1) at (c .before .before .skip .ensures))
+returns-2 c =
+    let skip = c .before .before .skip in
+    let if1 = c .before .before .before .if1 in
+    let is-mark = c .before .before .before .before .is-mark in
+    let peek = c .before .before .before .before .before .peek in
+    let args = c .before .before .before .before .before .before .before .args in
+    mark-bad (args .text .now) (args .p .0) _ (peek .ensures) (sym (is-mark .ensures) ∙ not-false _ (if1 .left))
+    (rw (c .enum-told .given .1) at (skip .ensures))
 
 mark-number-requires : tie.Need-mark-number-requires
 mark-number-requires c κs = search needs
 
 returns-3 : tie.Need-returns-3
-returns-3 c = mark-read (c .before .before .before .before .before .before .before .before .before .args .text .now) (c .before .before .before .before .before .before .before .before .before .args .p .0) _ (c .before .before .before .before .before .before .before .peek .ensures) (sym (c .before .before .before .before .before .before .is-mark .ensures) ∙ not-false _ (c .before .before .before .before .before .if1 .left)) _ _ (rw (c .before .before .q .given .1) at (c .before .before .before .before .skip .ensures)) (c .mark-number .ensures)
+returns-3 c =
+    let q = c .before .before .q in
+    let skip = c .before .before .before .before .skip in
+    let if1 = c .before .before .before .before .before .if1 in
+    let is-mark = c .before .before .before .before .before .before .is-mark in
+    let peek = c .before .before .before .before .before .before .before .peek in
+    let args = c .before .before .before .before .before .before .before .before .before .args in
+    mark-read (args .text .now) (args .p .0) _ (peek .ensures) (sym (is-mark .ensures) ∙ not-false _ (if1 .left)) _ _
+    (rw (q .given .1) at (skip .ensures)) (c .mark-number .ensures)
 
 pub mark-spec : {M : Type 1} → statement M
 mark-spec =

@@ -20,16 +20,29 @@ same-length : tie.Need-same-length
 same-length c = search needs
 
 returns : tie.Need-returns
-returns c = rw (c .enum-told .given .1) at (c .before .before .before .before .string .ensures)
+returns c =
+    let string = c .before .before .before .before .string in
+    rw (c .enum-told .given .1) at (string .ensures)
 
 head-requires : tie.Need-head-requires
-head-requires c κs = let k : Copied _ _ _ _ _ _ _ _ _ = rw (c .before .before .q .given .1) at (c .before .before .before .before .before .before .string .ensures) in headable _ _ _ _ (c .before .before .before .before .before .before .before .before .before .before .pre) _ (c .before .before .before .before .before .before .string .kept .1 .1 .0) _ 2 _ _ k (quoted-on _ _ _ _ (c .before .before .before .before .before .before .before .before .before .before .pre) _ (c .before .before .before .before .before .before .string .kept .1 .1 .0) _ _ _ k)
+head-requires c κs =
+    let q = c .before .before .q in
+    let string = c .before .before .before .before .before .before .string in
+    let pre = c .before .before .before .before .before .before .before .before .before .before .pre in
+    let k : Copied _ _ _ _ _ _ _ _ _ = rw (q .given .1) at (string .ensures) in
+    headable _ _ _ _ (pre) _ (string .kept .1 .1 .0) _ 2 _ _ k (quoted-on _ _ _ _ (pre) _ (string .kept .1 .1 .0) _ _ _ k)
 
 same-length-2 : tie.Need-same-length-2
 same-length-2 c = search needs
 
 returns-2 : tie.Need-returns-2
-returns-2 c = let k : Copied _ _ _ _ _ _ _ _ _ = rw (c .before .before .before .before .before .q .given .1) at (c .before .before .before .before .before .before .before .before .before .string .ensures) in counted-token _ _ _ _ (c .before .before .before .before .before .before .before .before .before .before .before .before .before .pre) _ (c .before .before .before .before .before .before .before .before .before .string .kept .1 .1 .0) _ 2 _ _ _ _ k (quoted-on _ _ _ _ (c .before .before .before .before .before .before .before .before .before .before .before .before .before .pre) _ (c .before .before .before .before .before .before .before .before .before .string .kept .1 .1 .0) _ _ _ k) (c .before .before .head .ensures)
+returns-2 c =
+    let head = c .before .before .head in
+    let q = c .before .before .before .before .before .q in
+    let string = c .before .before .before .before .before .before .before .before .before .string in
+    let pre = c .before .before .before .before .before .before .before .before .before .before .before .before .before .pre in
+    let k : Copied _ _ _ _ _ _ _ _ _ = rw (q .given .1) at (string .ensures) in
+    counted-token _ _ _ _ (pre) _ (string .kept .1 .1 .0) _ 2 _ _ _ _ k (quoted-on _ _ _ _ (pre) _ (string .kept .1 .1 .0) _ _ _ k) (head .ensures)
 
 pub read-string-spec : {M : Type 1} → statement M
 read-string-spec =

@@ -17,19 +17,41 @@ why-broken-requires : tie.Need-why-broken-requires
 why-broken-requires c κs = search needs
 
 returns : tie.Need-returns
-returns c = λ g h. broken g (c .before .before .before .static-refusal .result) _ (c .why-broken .result) (c .before .enum-told2 .given .1) (c .why-broken .ensures) (c .before .before .before .static-refusal .ensures g (to-static (c .before .before .before .before .before .args .table .now) (c .before .before .before .before .before .args .end) g (c .before .before .before .before .before .pre .within) h))
+returns c =
+    let at-static-refusal = c .before .before .before in
+    let start = at-static-refusal .before .before in
+    λ g h. broken g (at-static-refusal .static-refusal .result) _ (c .why-broken .result) (c .before .enum-told2 .given .1)
+    (c .why-broken .ensures) (at-static-refusal .static-refusal .ensures g
+    (to-static (start .args .table .now) (start .args .end) g (start .pre .within) h))
 
 grammar-size-requires : tie.Need-grammar-size-requires
 grammar-size-requires c κs = size-asks (c .before .before .before .before .args .table .now) (c .before .before .before .before .args .end) (c .before .before .before .before .pre)
 
 returns-2 : tie.Need-returns-2
-returns-2 c = λ g h. size-refuses g (c .before .grammar-size .result) (kept g (c .before .before .before .before .static-refusal .result) (c .before .before .enum-told .given .1) (c .before .before .before .before .static-refusal .ensures g (to-static (c .before .before .before .before .before .before .args .table .now) (c .before .before .before .before .before .before .args .end) g (c .before .before .before .before .before .before .pre .within) h))) (c .before .grammar-size .ensures g (to-size (c .before .before .before .before .before .before .args .table .now) (c .before .before .before .before .before .before .args .end) g h)) (search needs)
+returns-2 c =
+    let at-static-refusal = c .before .before .before .before in
+    let start = at-static-refusal .before .before in
+    λ g h. size-refuses g (c .before .grammar-size .result)
+    (kept g (at-static-refusal .static-refusal .result) (c .before .before .enum-told .given .1)
+    (at-static-refusal .static-refusal .ensures g (to-static (start .args .table .now) (start .args .end) g (start .pre .within) h)))
+    (c .before .grammar-size .ensures g (to-size (start .args .table .now) (start .args .end) g h)) (search needs)
 
 version-mismatch-requires : tie.Need-version-mismatch-requires
-version-mismatch-requires c κs = static-asks (c .before .before .before .before .before .before .args .table .now) (c .before .before .before .before .before .before .args .end) (c .before .before .before .before .before .before .pre)
+version-mismatch-requires c κs =
+    let start = c .before .before .before .before .before .before in
+    static-asks (start .args .table .now) (start .args .end) (start .pre)
 
 returns-3 : tie.Need-returns-3
-returns-3 c = λ g h. passes g (c .before .before .before .before .before .before .before .args .end) (c .before .before .grammar-size .result) (c .version-mismatch .result) (kept g (c .before .before .before .before .before .static-refusal .result) (c .before .before .before .enum-told .given .1) (c .before .before .before .before .before .static-refusal .ensures g (to-static (c .before .before .before .before .before .before .before .args .table .now) (c .before .before .before .before .before .before .before .args .end) g (c .before .before .before .before .before .before .before .pre .within) h))) (c .before .before .grammar-size .ensures g (to-size (c .before .before .before .before .before .before .before .args .table .now) (c .before .before .before .before .before .before .before .args .end) g h)) (search needs) (c .version-mismatch .ensures g (to-static (c .before .before .before .before .before .before .before .args .table .now) (c .before .before .before .before .before .before .before .args .end) g (c .before .before .before .before .before .before .before .pre .within) h))
+returns-3 c =
+    let at-grammar-size = c .before .before in
+    let at-enum-told = at-grammar-size .before in
+    let at-static-refusal = at-enum-told .before .before in
+    let start = at-static-refusal .before .before in
+    λ g h. passes g (start .args .end) (at-grammar-size .grammar-size .result) (c .version-mismatch .result)
+    (kept g (at-static-refusal .static-refusal .result) (at-enum-told .enum-told .given .1)
+    (at-static-refusal .static-refusal .ensures g (to-static (start .args .table .now) (start .args .end) g (start .pre .within) h)))
+    (at-grammar-size .grammar-size .ensures g (to-size (start .args .table .now) (start .args .end) g h)) (search needs)
+    (c .version-mismatch .ensures g (to-static (start .args .table .now) (start .args .end) g (start .pre .within) h))
 
 pub judge-spec : {M : Type 1} → statement M
 judge-spec =

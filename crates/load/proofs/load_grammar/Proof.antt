@@ -23,22 +23,63 @@ why-requires : tie.Need-why-requires
 why-requires c κs = search needs
 
 returns-2 : tie.Need-returns-2
-returns-2 c = subst (λ (n : ℕ). Turned (c .before .before .before .before .before .before .before .before .args .grammar .now) n) (sym (c .why .ensures)) (turned (c .before .before .before .before .before .before .before .before .args .grammar .now) _ (c .before .before .before .decode-grammar .last .1 .0) (c .before .before .before .decode-grammar .result) (c .before .before .before .decode-grammar .ensures) (omega (arith, c .before .before .before .before .before .if1 .left)) (some-refusal (c .before .before .before .decode-grammar .result) (c .before .match .keys2)))
+returns-2 c =
+    let at-decode-grammar = c .before .before .before in
+    let at-if1 = at-decode-grammar .before .before in
+    let start = at-if1 .before .before .before in
+    subst (λ (n : ℕ). Turned (start .args .grammar .now) n) (sym (c .why .ensures))
+    (turned (start .args .grammar .now) _ (at-decode-grammar .decode-grammar .last .1 .0) (at-decode-grammar .decode-grammar .result)
+    (at-decode-grammar .decode-grammar .ensures) (omega (arith, at-if1 .if1 .left))
+    (some-refusal (at-decode-grammar .decode-grammar .result) (c .before .match .keys2)))
 
 array-share-prefix-text : tie.Need-array-share-prefix-text
-array-share-prefix-text c = omega (arith, (got (c .before .before .before .before .before .before .before .before .before .args .grammar .now) _ (c .before .before .before .before .decode-grammar .last .1 .0) (c .before .before .before .before .decode-grammar .result) (c .before .before .before .before .decode-grammar .ensures) _ (c .before .decoded .given .1) (omega (arith, c .before .before .before .before .before .before .if1 .left)) (omega arith)) .few, c .before .before .before .before .decode-grammar .kept .1 .0)
+array-share-prefix-text c =
+    let at-decode-grammar = c .before .before .before .before in
+    let at-if1 = at-decode-grammar .before .before in
+    let start = at-if1 .before .before .before in
+    omega (
+      arith,
+      (got (start .args .grammar .now) _ (at-decode-grammar .decode-grammar .last .1 .0)
+          (at-decode-grammar .decode-grammar .result) (at-decode-grammar .decode-grammar .ensures) _ (c .before .decoded .given .1)
+          (omega (arith, at-if1 .if1 .left)) (omega arith)) .few,
+      at-decode-grammar .decode-grammar .kept .1 .0,
+    )
 
 slice-aggregate-read-text : tie.Need-slice-aggregate-read-text
-slice-aggregate-read-text c = whole-part (c .before .before .before .before .before .before .before .before .before .before .args .grammar .now) (c .before .before .before .before .before .decode-grammar .last .1 .0) _ (got (c .before .before .before .before .before .before .before .before .before .before .args .grammar .now) _ (c .before .before .before .before .before .decode-grammar .last .1 .0) (c .before .before .before .before .before .decode-grammar .result) (c .before .before .before .before .before .decode-grammar .ensures) _ (c .before .before .decoded .given .1) (omega (arith, c .before .before .before .before .before .before .before .if1 .left)) (omega arith))
+slice-aggregate-read-text c =
+    let at-decode-grammar = c .before .before .before .before .before in
+    let at-if1 = at-decode-grammar .before .before in
+    let start = at-if1 .before .before .before in
+    whole-part (start .args .grammar .now) (at-decode-grammar .decode-grammar .last .1 .0) _
+    (got (start .args .grammar .now) _ (at-decode-grammar .decode-grammar .last .1 .0) (at-decode-grammar .decode-grammar .result)
+    (at-decode-grammar .decode-grammar .ensures) _ (c .before .before .decoded .given .1) (omega (arith, at-if1 .if1 .left))
+    (omega arith))
 
 read-text-requires : tie.Need-read-text-requires
-read-text-requires c κs = roomy (c .before .before .before .before .before .before .before .before .before .before .before .args .grammar .now) (c .before .before .before .before .before .before .decode-grammar .last .1 .0) _ _ (got (c .before .before .before .before .before .before .before .before .before .before .before .args .grammar .now) _ (c .before .before .before .before .before .before .decode-grammar .last .1 .0) (c .before .before .before .before .before .before .decode-grammar .result) (c .before .before .before .before .before .before .decode-grammar .ensures) _ (c .before .before .before .decoded .given .1) (omega (arith, c .before .before .before .before .before .before .before .before .if1 .left)) (omega arith)) (search needs)
+read-text-requires c κs =
+    let at-decoded = c .before .before .before in
+    let at-decode-grammar = at-decoded .before .before .before in
+    let at-if1 = at-decode-grammar .before .before in
+    let start = at-if1 .before .before .before in
+    roomy (start .args .grammar .now) (at-decode-grammar .decode-grammar .last .1 .0) _ _
+    (got (start .args .grammar .now) _ (at-decode-grammar .decode-grammar .last .1 .0) (at-decode-grammar .decode-grammar .result)
+    (at-decode-grammar .decode-grammar .ensures) _ (at-decoded .decoded .given .1) (omega (arith, at-if1 .if1 .left)) (omega arith))
+    (search needs)
 
 same-length : tie.Need-same-length
 same-length c = search needs
 
 returns-3 : tie.Need-returns-3
-returns-3 c = loaded (c .before .before .before .before .before .before .before .before .before .before .before .before .before .before .args .grammar .now) (c .before .before .before .before .before .before .before .before .before .decode-grammar .last .1 .0) _ _ (omega (arith, c .before .before .before .before .before .before .before .before .before .before .before .if1 .left)) (got (c .before .before .before .before .before .before .before .before .before .before .before .before .before .before .args .grammar .now) _ (c .before .before .before .before .before .before .before .before .before .decode-grammar .last .1 .0) (c .before .before .before .before .before .before .before .before .before .decode-grammar .result) (c .before .before .before .before .before .before .before .before .before .decode-grammar .ensures) _ (c .before .before .before .before .before .before .decoded .given .1) (omega (arith, c .before .before .before .before .before .before .before .before .before .before .before .if1 .left)) (omega arith)) (c .before .before .read-text .result) (c .before .before .read-text .ensures)
+returns-3 c =
+    let at-read-text = c .before .before in
+    let at-decoded = at-read-text .before .before .before .before in
+    let at-decode-grammar = at-decoded .before .before .before in
+    let at-if1 = at-decode-grammar .before .before in
+    let start = at-if1 .before .before .before in
+    loaded (start .args .grammar .now) (at-decode-grammar .decode-grammar .last .1 .0) _ _ (omega (arith, at-if1 .if1 .left))
+    (got (start .args .grammar .now) _ (at-decode-grammar .decode-grammar .last .1 .0) (at-decode-grammar .decode-grammar .result)
+    (at-decode-grammar .decode-grammar .ensures) _ (at-decoded .decoded .given .1) (omega (arith, at-if1 .if1 .left)) (omega arith))
+    (at-read-text .read-text .result) (at-read-text .read-text .ensures)
 
 pub load-grammar-spec : {M : Type 1} → statement M
 load-grammar-spec =

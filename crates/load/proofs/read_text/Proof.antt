@@ -16,16 +16,28 @@ same-length : tie.Need-same-length
 same-length c = search needs
 
 returns : tie.Need-returns
-returns c = no-tree (c .before .before .before .before .before .before .before .before .args .text .now) (c .before .before .before .before .read-grammar .last .1 .0) (c .before .before .before .before .read-grammar .result) (c .enum-told .given .1) (c .before .before .before .before .read-grammar .ensures)
+returns c =
+    let at-read-grammar = c .before .before .before .before in
+    let start = at-read-grammar .before .before .before .before in
+    no-tree (start .args .text .now) (at-read-grammar .read-grammar .last .1 .0) (at-read-grammar .read-grammar .result) (c .enum-told .given .1) (at-read-grammar .read-grammar .ensures)
 
 judge-requires : tie.Need-judge-requires
-judge-requires c κs = standing (c .before .before .before .before .before .before .before .before .before .before .args .text .now) (c .before .before .before .before .before .before .read-grammar .last .1 .0) (c .before .before .before .before .before .before .read-grammar .result) _ (c .before .before .read .given .1) (c .before .before .before .before .before .before .read-grammar .ensures) (c .before .before .before .before .before .before .before .before .before .before .pre .chars) (search needs)
+judge-requires c κs =
+    let at-read-grammar = c .before .before .before .before .before .before in
+    let start = at-read-grammar .before .before .before .before in
+    standing (start .args .text .now) (at-read-grammar .read-grammar .last .1 .0) (at-read-grammar .read-grammar .result) _
+    (c .before .before .read .given .1) (at-read-grammar .read-grammar .ensures) (start .pre .chars) (search needs)
 
 same-length-2 : tie.Need-same-length-2
 same-length-2 c = search needs
 
 returns-2 : tie.Need-returns-2
-returns-2 c = judged (c .before .before .before .before .before .before .before .before .before .before .before .args .text .now) (c .before .before .before .before .before .before .before .read-grammar .last .1 .0) (c .before .before .before .before .before .before .before .read-grammar .result) _ (c .before .before .before .read .given .1) (c .before .before .before .before .before .before .before .read-grammar .ensures) (c .before .before .before .before .before .before .before .before .before .before .before .pre .chars) (c .judge .result) (c .judge .ensures)
+returns-2 c =
+    let at-read = c .before .before .before in
+    let at-read-grammar = at-read .before .before .before .before in
+    let start = at-read-grammar .before .before .before .before in
+    judged (start .args .text .now) (at-read-grammar .read-grammar .last .1 .0) (at-read-grammar .read-grammar .result) _
+    (at-read .read .given .1) (at-read-grammar .read-grammar .ensures) (start .pre .chars) (c .judge .result) (c .judge .ensures)
 
 pub read-text-spec : {M : Type 1} → statement M
 read-text-spec =

@@ -3,9 +3,8 @@ use borrow.Author.Needs.{needs}
 use Prim.Native.Nat.{_*_, _≤_, _-_, _<_, _+_}
 use mathlib.Core.Path.{sym, ap, _∙_}
 use Rattle.tree.specs.Tree.{Grammar}
-use Rattle.measure.specs.Walk.{Holds}
-use Rattle.measure.proofs.Walk.{here-below}
-use Rattle.measure.proofs.Sizes.{Summing, sum-start, sum-here, sum-steps, sum-next, sum-done}
+use Rattle.tokens.specs.Lengths.{Holds}
+use Rattle.measure.proofs.Sizes.{Summing, sum-start, sum-steps, sum-next, sum-done}
 use Rattle.measure.proofs.grammar_size.Statement.{statement}
 use Rattle.measure.proofs.grammar_size.Tie as tie
 
@@ -28,18 +27,34 @@ token-cost-requires : tie.Need-token-cost-requires Inv-loop μ-loop
 token-cost-requires c κs = search needs
 
 add-sum : tie.Need-add-sum Inv-loop μ-loop
-add-sum c = omega (arith, c .before .before .before .before .before .pre .small, c .before .before .before .before .before .pre .inside, c .token-cost .ensures .1, c .before .before .before .loop .inv .1, c .before .before .loop-test .taken)
+add-sum c =
+    let at-loop = c .before .before .before in
+    let start = at-loop .before .before in
+    omega (arith, start .pre .small, start .pre .inside, c .token-cost .ensures .1, at-loop .loop .inv .1, c .before .before .loop-test .taken)
 
 token-end-requires : tie.Need-token-end-requires Inv-loop μ-loop
-token-end-requires c κs = sum-here (c .before .before .loop-test .taken) (c .before .before .before .before .before .pre .inside) (c .before .before .before .loop .inv .0 (c .before .before .before .before .before .pre .tree) (c .before .before .before .before .before .pre .holds)) (c .before .before .before .before .before .pre .small)
+token-end-requires c κs =
+    let b = c .before .before .before in
+    let p = b .before .before .pre in
+    let s = sum-steps (c .before .before .loop-test .taken) (p .inside) (b .loop .inv .0 (p .tree) (p .holds)) in
+    omega (arith, s .within, p .inside)
 
 loop-less : tie.Need-loop-less Inv-loop μ-loop
-loop-less c = let s = sum-steps (c .before .before .before .loop-test .taken) (c .before .before .before .before .before .before .pre .inside) (c .before .before .before .before .loop .inv .0 (c .before .before .before .before .before .before .pre .tree) (c .before .before .before .before .before .before .pre .holds)) in omega (arith, c .token-end .ensures, s .forward, s .within)
+loop-less c =
+    let b = c .before .before .before in
+    let p = b .before .before .before .pre in
+    let s = sum-steps (b .loop-test .taken) (p .inside) (b .before .loop .inv .0 (p .tree) (p .holds)) in
+    omega (arith, c .token-end .ensures, s .forward, s .within)
 
 loop-again : tie.Need-loop-again Inv-loop μ-loop
 loop-again c =
-    let s = sum-steps (c .before .before .before .loop-test .taken) (c .before .before .before .before .before .before .pre .inside) (c .before .before .before .before .loop .inv .0 (c .before .before .before .before .before .before .pre .tree) (c .before .before .before .before .before .before .pre .holds)) in
-    (λ g h. rw (c .token-end .ensures, c .before .token-cost .ensures .0) (sum-next (c .before .before .before .loop-test .taken) (c .before .before .before .before .before .before .pre .inside) (c .before .before .before .before .loop .inv .0 g h)), omega (arith, c .token-end .ensures, s .forward, c .before .token-cost .ensures .1, c .before .before .before .before .loop .inv .1), omega (arith, c .token-end .ensures, s .within))
+    let b = c .before .before .before in
+    let p = b .before .before .before .pre in
+    let s = sum-steps (b .loop-test .taken) (p .inside) (b .before .loop .inv .0 (p .tree) (p .holds)) in (
+      λ g h. rw (c .token-end .ensures, c .before .token-cost .ensures .0) (sum-next (b .loop-test .taken) (p .inside) (b .before .loop .inv .0 g h)),
+      omega (arith, c .token-end .ensures, s .forward, c .before .token-cost .ensures .1, b .before .loop .inv .1),
+      omega (arith, c .token-end .ensures, s .within),
+    )
 
 returns : tie.Need-returns Inv-loop μ-loop
 returns c = λ g h. sum-done (c .loop-test .left) (c .before .before .before .pre .inside) (c .before .loop .inv .0 g h)

@@ -1,6 +1,6 @@
 use native.Mathlib.Omega.{arith}
 use borrow.Author.Tests.{lt-ltb, le-ltb, eq-eqb, ne-eqb}
-use Rattle.measure.specs.Walk.{repeatCostOf}
+use Rattle.measure.specs.Costs.{repeatCostOf}
 use Rattle.measure.proofs.repeat_cost.Statement.{statement}
 use Rattle.measure.proofs.repeat_cost.Tie as tie
 
@@ -22,11 +22,17 @@ returns-4 c = (simp (ne-eqb _ _ (c .before .before .before .if1 .left), ne-eqb _
 
 returns-5 : tie.Need-returns-5
 unfolding repeatCostOf
-returns-5 c = (simp (ne-eqb _ _ (c .before .before .before .before .if1 .left), ne-eqb _ _ (c .before .before .before .if2 .left), ne-eqb _ _ (c .before .before .if3 .left), ne-eqb _ _ (c .before .if4 .left), eq-eqb _ _ (c .if5 .taken)), omega arith)
+returns-5 c =
+    let at-if2 = c .before .before .before in
+    let at-if1 = at-if2 .before in
+    (simp (ne-eqb _ _ (at-if1 .if1 .left), ne-eqb _ _ (at-if2 .if2 .left), ne-eqb _ _ (c .before .before .if3 .left), ne-eqb _ _ (c .before .if4 .left), eq-eqb _ _ (c .if5 .taken)), omega arith)
 
 returns-6 : tie.Need-returns-6
 unfolding repeatCostOf
-returns-6 c = (simp (ne-eqb _ _ (c .before .before .before .before .if1 .left), ne-eqb _ _ (c .before .before .before .if2 .left), ne-eqb _ _ (c .before .before .if3 .left), ne-eqb _ _ (c .before .if4 .left), ne-eqb _ _ (c .if5 .left)), omega arith)
+returns-6 c =
+    let at-if2 = c .before .before .before in
+    let at-if1 = at-if2 .before in
+    (simp (ne-eqb _ _ (at-if1 .if1 .left), ne-eqb _ _ (at-if2 .if2 .left), ne-eqb _ _ (c .before .before .if3 .left), ne-eqb _ _ (c .before .if4 .left), ne-eqb _ _ (c .if5 .left)), omega arith)
 
 pub repeat-cost-spec : {M : Type 1} → statement M
 repeat-cost-spec = tie.close (tie.spec returns returns-2 returns-3 returns-4 returns-5 returns-6)

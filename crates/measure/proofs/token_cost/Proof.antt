@@ -1,6 +1,6 @@
 use native.Mathlib.Omega.{arith}
 use borrow.Author.Tests.{lt-ltb, le-ltb, eq-eqb, ne-eqb}
-use Rattle.measure.specs.Walk.{costOf}
+use Rattle.measure.specs.Costs.{costOf}
 use borrow.Author.Needs.{needs}
 use Rattle.measure.proofs.token_cost.Statement.{statement}
 use Rattle.measure.proofs.token_cost.Tie as tie
@@ -23,14 +23,30 @@ returns-4 c = (simp (le-ltb _ _ (c .before .before .before .if1 .left), le-ltb _
 
 returns-5 : tie.Need-returns-5
 unfolding costOf
-returns-5 c = (simp (le-ltb _ _ (c .before .before .before .before .if1 .left), le-ltb _ _ (c .before .before .before .if2 .left), le-ltb _ _ (c .before .before .if3 .left), ne-eqb _ _ (c .before .if4 .left), eq-eqb _ _ (c .if5 .taken)), omega arith)
+returns-5 c =
+    let at-if2 = c .before .before .before in
+    let at-if1 = at-if2 .before in
+    (simp (le-ltb _ _ (at-if1 .if1 .left), le-ltb _ _ (at-if2 .if2 .left), le-ltb _ _ (c .before .before .if3 .left), ne-eqb _ _ (c .before .if4 .left), eq-eqb _ _ (c .if5 .taken)), omega arith)
 
 repeat-cost-requires : tie.Need-repeat-cost-requires
 repeat-cost-requires c κs = search needs
 
 returns-6 : tie.Need-returns-6
 unfolding costOf
-returns-6 c = (simp (le-ltb _ _ (c .before .before .before .before .before .if1 .left), le-ltb _ _ (c .before .before .before .before .if2 .left), le-ltb _ _ (c .before .before .before .if3 .left), ne-eqb _ _ (c .before .before .if4 .left), ne-eqb _ _ (c .before .if5 .left)) (c .repeat-cost .ensures .0), omega arith)
+returns-6 c =
+    let at-if3 = c .before .before .before in
+    let at-if2 = at-if3 .before in
+    let at-if1 = at-if2 .before in (
+      simp (
+        le-ltb _ _ (at-if1 .if1 .left),
+        le-ltb _ _ (at-if2 .if2 .left),
+        le-ltb _ _ (at-if3 .if3 .left),
+        ne-eqb _ _
+            (c .before .before .if4 .left),
+        ne-eqb _ _ (c .before .if5 .left),
+      ) (c .repeat-cost .ensures .0),
+      omega arith,
+    )
 
 pub token-cost-spec : {M : Type 1} → statement M
 token-cost-spec =

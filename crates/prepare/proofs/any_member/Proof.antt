@@ -2,8 +2,8 @@ use native.Mathlib.Omega.{arith}
 use mathlib.Core.Path.{_≡_, sym, _∙_, ap}
 use Prim.Native.Nat.{_-_}
 use lib.ListN.{length}
-use Rattle.measure.proofs.Walk.{here-inside}
-use Rattle.prepare.proofs.Places.{Going, go-start, go-end, go-head, go-found, go-next, go-steps, members-some, head-here, head-token}
+use Rattle.prepare.proofs.MemberPlaces.{Going, go-start, go-end, members-some, go-head, go-found, go-next, head-here, head-inside}
+use Rattle.prepare.proofs.Places.{go-steps}
 use Rattle.prepare.proofs.any_member.Statement.{statement}
 use Rattle.prepare.proofs.any_member.Tie as tie
 
@@ -29,13 +29,20 @@ returns : tie.Need-returns Inv-loop μ-loop
 returns c = go-found (c .before .before .before .before .loop .inv) (c .before .before .if1 .taken) (c .before .member-matches .result) (c .before .member-matches .ensures) (c .if2 .taken)
 
 token-end-requires : tie.Need-token-end-requires Inv-loop μ-loop
-token-end-requires c κs = head-token (go-head (c .before .before .before .before .loop .inv) (c .before .before .if1 .taken)) (c .before .before .before .before .loop .inv .here .small)
+token-end-requires c κs = head-inside (go-head (c .before .before .before .before .loop .inv) (c .before .before .if1 .taken))
 
 loop-less : tie.Need-loop-less Inv-loop μ-loop
-loop-less c = omega (arith, c .token-end .ensures, go-steps (c .before .before .before .before .before .loop .inv) (c .before .before .before .if1 .taken), here-inside _ _ (head-token (go-head (c .before .before .before .before .before .loop .inv) (c .before .before .before .if1 .taken)) (c .before .before .before .before .before .loop .inv .here .small)))
+loop-less c =
+    let at-if1 = c .before .before .before in
+    let at-loop = at-if1 .before .before in
+    omega (arith, c .token-end .ensures, go-steps (at-loop .loop .inv) (at-if1 .if1 .taken), head-inside (go-head (at-loop .loop .inv) (at-if1 .if1 .taken)))
 
 loop-again : tie.Need-loop-again Inv-loop μ-loop
-loop-again c = rw (c .token-end .ensures) (go-next (c .before .before .before .before .before .loop .inv) (c .before .before .before .if1 .taken) (c .before .before .member-matches .result) (c .before .before .member-matches .ensures) (c .before .if2 .left))
+loop-again c =
+    let at-member-matches = c .before .before in
+    let at-if1 = at-member-matches .before in
+    let at-loop = at-if1 .before .before in
+    rw (c .token-end .ensures) (go-next (at-loop .loop .inv) (at-if1 .if1 .taken) (at-member-matches .member-matches .result) (at-member-matches .member-matches .ensures) (c .before .if2 .left))
 
 returns-2 : tie.Need-returns-2 Inv-loop μ-loop
 returns-2 c = go-end (c .before .before .loop .inv) (c .if1 .left)

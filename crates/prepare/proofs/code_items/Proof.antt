@@ -15,13 +15,30 @@ loop-holds : tie.Need-loop-holds Inv-loop μ-loop
 loop-holds c = code-start (c .before .before .args .table .now) (c .before .before .args .size) (c .before .before .args .code .now)
 
 code-item-requires : tie.Need-code-item-requires Inv-loop μ-loop
-code-item-requires c κs = record { long = c .before .before .before .before .before .pre .long; small = c .before .before .before .before .before .pre .small; room = omega (arith, c .before .before .before .before .before .pre .room, c .before .before .loop .inv .long); inside = c .before .loop-test .taken; reach = c .before .before .before .before .before .pre .reach (c .before .before .loop .p) (c .before .loop-test .taken) }
+code-item-requires c κs =
+    let at-loop = c .before .before in
+    let start = at-loop .before .before .before in
+    record {
+      long = start .pre .long;
+      small = start .pre .small;
+      room = omega (arith, start .pre .room, at-loop .loop .inv .long);
+      inside = c .before .loop-test .taken;
+      reach = start .pre .reach (at-loop .loop .p) (c .before .loop-test .taken);
+    }
 
 add-p : tie.Need-add-p Inv-loop μ-loop
-add-p c = omega (arith, c .before .before .before .before .before .before .before .before .pre .long, c .before .before .before .before .before .before .before .before .pre .small, c .before .before .before .before .before .before .before .before .pre .room, c .before .before .before .before .before .loop .inv .low, c .before .before .before .before .before .loop .inv .long, c .before .before .before .before .loop-test .taken)
+add-p c =
+    let at-loop-test = c .before .before .before .before in
+    let at-loop = at-loop-test .before in
+    let start = at-loop .before .before .before in
+    omega (arith, start .pre .long, start .pre .small, start .pre .room, at-loop .loop .inv .low, at-loop .loop .inv .long, at-loop-test .loop-test .taken)
 
 loop-less : tie.Need-loop-less Inv-loop μ-loop
-loop-less c = omega (arith, c .before .before .before .before .before .before .before .before .pre .long, c .before .before .before .before .before .before .before .before .pre .small, c .before .before .before .before .before .before .before .before .pre .room, c .before .before .before .before .before .loop .inv .low, c .before .before .before .before .before .loop .inv .long, c .before .before .before .before .loop-test .taken)
+loop-less c =
+    let at-loop-test = c .before .before .before .before in
+    let at-loop = at-loop-test .before in
+    let start = at-loop .before .before .before in
+    omega (arith, start .pre .long, start .pre .small, start .pre .room, at-loop .loop .inv .low, at-loop .loop .inv .long, at-loop-test .loop-test .taken)
 
 loop-again : tie.Need-loop-again Inv-loop μ-loop
 loop-again c = code-next (c .before .before .before .before .before .loop .inv) (c .before .before .before .before .loop-test .taken) (c .before .before .code-item .ensures)

@@ -39,13 +39,24 @@ mul-fit-row : tie.Need-mul-fit-row
 mul-fit-row c = search needs
 
 fit-row-requires : tie.Need-fit-row-requires
-fit-row-requires c κs = record { small = omega (arith, c .before .before .before .before .before .before .before .before .pre .0 .long); short = c .before .before .before .before .before .before .before .before .pre .0 .short; here = rw (c .before .wide .ensures) (c .before .before .before .before .before .before .before .before .pre .0 .here (c .before .before .before .before .before .before .before .before .args .p) (c .before .before .before .before .before .before .before .before .pre .1) (c .before .before .before .if1 .left)); room = omega (arith, c .before .before .before .before .before .before .before .before .pre .0 .short, c .before .before .before .before .before .before .before .before .pre .0 .room, c .before .before .before .before .before .before .before .before .pre .1) }
+fit-row-requires c κs =
+    let at-if1 = c .before .before .before in
+    let start = at-if1 .before .before .before .before .before in
+    record {
+      small = omega (arith, start .pre .0 .long);
+      short = start .pre .0 .short;
+      here = rw (c .before .wide .ensures) (start .pre .0 .here (start .args .p) (start .pre .1) (at-if1 .if1 .left));
+      room = omega (arith, start .pre .0 .short, start .pre .0 .room, start .pre .1);
+    }
 
 same-length : tie.Need-same-length
 same-length c = search needs
 
 returns-2 : tie.Need-returns-2
-returns-2 c = item-row (c .before .before .before .before .wide .ensures) (c .before .before .before .before .before .before .before .before .before .before .before .pre .0 .short) (c .before .before .fit-row .ensures)
+returns-2 c =
+    let at-wide = c .before .before .before .before in
+    let start = at-wide .before .before .before .before .before .before .before in
+    item-row (at-wide .wide .ensures) (start .pre .0 .short) (c .before .before .fit-row .ensures)
 
 pub fit-item-spec : {M : Type 1} → statement M
 fit-item-spec =

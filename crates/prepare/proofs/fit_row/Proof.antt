@@ -14,28 +14,50 @@ abbrev μ-loop : tie.MeasureT-loop
 μ-loop table at text fits₀ base n i₀ fits i = n + 1 - i
 
 loop-holds : tie.Need-loop-holds Inv-loop μ-loop
-loop-holds c = (row-start (c .before .before .before .args .table .now) (c .before .before .before .args .text .now) (c .before .before .before .args .fits .now) (c .before .before .before .args .at) (c .before .before .before .args .base), refl)
+loop-holds c =
+    let start = c .before .before .before in
+    (row-start (start .args .table .now) (start .args .text .now) (start .args .fits .now) (start .args .at) (start .args .base), refl)
 
 terminal-fits-requires : tie.Need-terminal-fits-requires Inv-loop μ-loop
-terminal-fits-requires c κs = record { small = c .before .before .before .before .before .pre .small; short = c .before .before .before .before .before .pre .short; here = c .before .before .before .before .before .pre .here; on = omega (arith, c .before .loop .inv .1, c .loop-test .taken) }
+terminal-fits-requires c κs =
+    let start = c .before .before .before .before .before in
+    record { small = start .pre .small; short = start .pre .short; here = start .pre .here; on = omega (arith, c .before .loop .inv .1, c .loop-test .taken) }
 
 flag-of-requires : tie.Need-flag-of-requires Inv-loop μ-loop
 flag-of-requires c κs = search needs
 
 add-fits : tie.Need-add-fits Inv-loop μ-loop
-add-fits c = omega (arith, c .before .before .before .before .before .before .before .pre .small, c .before .before .before .before .before .before .before .pre .short, c .before .before .before .before .before .before .before .pre .room, c .before .before .before .loop .inv .0 .long, c .before .before .before .loop .inv .1, c .before .before .loop-test .taken)
+add-fits c =
+    let at-loop = c .before .before .before in
+    let start = at-loop .before .before .before .before in
+    omega (arith, start .pre .small, start .pre .short, start .pre .room, at-loop .loop .inv .0 .long, at-loop .loop .inv .1, c .before .before .loop-test .taken)
 
 slice-write-fits : tie.Need-slice-write-fits Inv-loop μ-loop
-slice-write-fits c = omega (arith, c .before .before .before .before .before .before .before .pre .small, c .before .before .before .before .before .before .before .pre .short, c .before .before .before .before .before .before .before .pre .room, c .before .before .before .loop .inv .0 .long, c .before .before .before .loop .inv .1, c .before .before .loop-test .taken)
+slice-write-fits c =
+    let at-loop = c .before .before .before in
+    let start = at-loop .before .before .before .before in
+    omega (arith, start .pre .small, start .pre .short, start .pre .room, at-loop .loop .inv .0 .long, at-loop .loop .inv .1, c .before .before .loop-test .taken)
 
 add-i : tie.Need-add-i Inv-loop μ-loop
-add-i c = omega (arith, c .before .before .before .before .before .before .before .pre .small, c .before .before .before .before .before .before .before .pre .short, c .before .before .before .before .before .before .before .pre .room, c .before .before .before .loop .inv .0 .long, c .before .before .before .loop .inv .1, c .before .before .loop-test .taken)
+add-i c =
+    let at-loop = c .before .before .before in
+    let start = at-loop .before .before .before .before in
+    omega (arith, start .pre .small, start .pre .short, start .pre .room, at-loop .loop .inv .0 .long, at-loop .loop .inv .1, c .before .before .loop-test .taken)
 
 loop-less : tie.Need-loop-less Inv-loop μ-loop
-loop-less c = omega (arith, c .before .before .before .before .before .before .before .pre .small, c .before .before .before .before .before .before .before .pre .short, c .before .before .before .before .before .before .before .pre .room, c .before .before .before .loop .inv .0 .long, c .before .before .before .loop .inv .1, c .before .before .loop-test .taken)
+loop-less c =
+    let at-loop = c .before .before .before in
+    let start = at-loop .before .before .before .before in
+    omega (arith, start .pre .small, start .pre .short, start .pre .room, at-loop .loop .inv .0 .long, at-loop .loop .inv .1, c .before .before .loop-test .taken)
 
 loop-again : tie.Need-loop-again Inv-loop μ-loop
-loop-again c = (rw (c .flag-of .ensures) (row-next (c .before .before .before .loop .inv .0) (omega (arith, c .before .before .before .loop .inv .1, c .before .before .loop-test .taken)) (c .before .before .before .before .before .before .before .pre .room) (c .before .terminal-fits .result) (c .before .terminal-fits .ensures)), c .before .before .before .loop .inv .1)
+loop-again c =
+    let at-loop = c .before .before .before in
+    let start = at-loop .before .before .before .before in (
+      rw (c .flag-of .ensures) (row-next (at-loop .loop .inv .0) (omega (arith, at-loop .loop .inv .1, c .before .before .loop-test .taken))
+          (start .pre .room) (c .before .terminal-fits .result) (c .before .terminal-fits .ensures)),
+      at-loop .loop .inv .1,
+    )
 
 same-length : tie.Need-same-length Inv-loop μ-loop
 same-length c = c .before .loop .inv .0 .long

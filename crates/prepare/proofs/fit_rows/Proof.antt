@@ -12,16 +12,36 @@ abbrev μ-loop : tie.MeasureT-loop
 μ-loop table size text fits₀ p₀ fits p = size - p
 
 loop-holds : tie.Need-loop-holds Inv-loop μ-loop
-loop-holds c = rows-start (c .before .before .before .args .table .now) (c .before .before .before .args .size) (c .before .before .before .args .text .now) (c .before .before .before .args .fits .now)
+loop-holds c =
+    let start = c .before .before .before in
+    rows-start (start .args .table .now) (start .args .size) (start .args .text .now) (start .args .fits .now)
 
 fit-item-requires : tie.Need-fit-item-requires Inv-loop μ-loop
-fit-item-requires c κs = (record { long = c .before .before .before .before .before .before .pre .long; small = c .before .before .before .before .before .before .pre .small; short = c .before .before .before .before .before .before .pre .short; room = omega (arith, c .before .before .before .before .before .before .pre .room, c .before .before .loop .inv .long); here = c .before .before .before .before .before .before .pre .here }, c .before .loop-test .taken)
+fit-item-requires c κs =
+    let start = c .before .before .before .before .before .before in (
+      record {
+        long = start .pre .long;
+        small = start .pre .small;
+        short = start .pre .short;
+        room = omega (arith, start .pre .room, c .before .before .loop .inv .long);
+        here = start .pre .here;
+      },
+      c .before .loop-test .taken,
+    )
 
 add-p : tie.Need-add-p Inv-loop μ-loop
-add-p c = omega (arith, c .before .before .before .before .before .before .before .before .before .pre .small, c .before .before .before .before .before .loop .inv .low, c .before .before .before .before .before .loop .inv .long, c .before .before .before .before .loop-test .taken)
+add-p c =
+    let at-loop-test = c .before .before .before .before in
+    let at-loop = at-loop-test .before in
+    let start = at-loop .before .before .before .before in
+    omega (arith, start .pre .small, at-loop .loop .inv .low, at-loop .loop .inv .long, at-loop-test .loop-test .taken)
 
 loop-less : tie.Need-loop-less Inv-loop μ-loop
-loop-less c = omega (arith, c .before .before .before .before .before .before .before .before .before .pre .small, c .before .before .before .before .before .loop .inv .low, c .before .before .before .before .before .loop .inv .long, c .before .before .before .before .loop-test .taken)
+loop-less c =
+    let at-loop-test = c .before .before .before .before in
+    let at-loop = at-loop-test .before in
+    let start = at-loop .before .before .before .before in
+    omega (arith, start .pre .small, at-loop .loop .inv .low, at-loop .loop .inv .long, at-loop-test .loop-test .taken)
 
 loop-again : tie.Need-loop-again Inv-loop μ-loop
 loop-again c = rows-next (c .before .before .before .before .before .loop .inv) (c .before .before .before .before .loop-test .taken) (c .before .before .fit-item .ensures)

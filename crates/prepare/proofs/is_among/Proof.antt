@@ -29,10 +29,16 @@ add-k : tie.Need-add-k Inv-loop μ-loop
 add-k c = omega (arith, c .before .before .before .before .pre .small, c .before .before .before .before .pre .inside, c .before .before .before .loop .inv .low, c .before .before .loop-test .taken)
 
 loop-less : tie.Need-loop-less Inv-loop μ-loop
-loop-less c = omega (arith, c .before .before .before .before .pre .small, c .before .before .before .before .pre .inside, c .before .before .before .loop .inv .low, c .before .before .loop-test .taken)
+loop-less c =
+    let at-loop = c .before .before .before in
+    let start = at-loop .before in
+    omega (arith, start .pre .small, start .pre .inside, at-loop .loop .inv .low, c .before .before .loop-test .taken)
 
 loop-again : tie.Need-loop-again Inv-loop μ-loop
-loop-again c = seek-more (c .before .before .before .before .pre) (c .before .before .before .before .args .c) (c .before .before .before .loop .inv) (c .before .before .loop-test .taken) (c .if1 .left)
+loop-again c =
+    let at-loop = c .before .before .before in
+    let start = at-loop .before in
+    seek-more (start .pre) (start .args .c) (at-loop .loop .inv) (c .before .before .loop-test .taken) (c .if1 .left)
 
 returns-2 : tie.Need-returns-2 Inv-loop μ-loop
 returns-2 c = seek-end (c .before .before .pre) (c .before .before .args .c) (c .before .loop .inv) (c .loop-test .left)

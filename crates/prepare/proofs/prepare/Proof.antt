@@ -6,25 +6,48 @@ use Rattle.prepare.proofs.prepare.Statement.{statement}
 use Rattle.prepare.proofs.prepare.Tie as tie
 
 owners-requires : tie.Need-owners-requires
-owners-requires c κs = record { long = c .before .before .before .before .before .pre .long; small = c .before .before .before .before .before .pre .small; room = omega (arith, c .before .before .before .before .before .pre .room); reach = reach (c .before .before .before .before .before .pre .ready) }
+owners-requires c κs =
+    let start = c .before .before .before .before .before in
+    record { long = start .pre .long; small = start .pre .small; room = omega (arith, start .pre .room); reach = reach (start .pre .ready) }
 
 code-items-requires : tie.Need-code-items-requires
-code-items-requires c κs = record { long = c .before .before .before .before .before .before .before .before .before .pre .long; small = c .before .before .before .before .before .before .before .before .before .pre .small; room = omega (arith, c .before .before .before .before .before .before .before .before .before .pre .room, c .before .before .before .owners .ensures .long); reach = reach (c .before .before .before .before .before .before .before .before .before .pre .ready) }
+code-items-requires c κs =
+    let at-owners = c .before .before .before in
+    let start = at-owners .before .before .before .before .before .before in
+    record { long = start .pre .long; small = start .pre .small; room = omega (arith, start .pre .room, at-owners .owners .ensures .long); reach = reach (start .pre .ready) }
 
 fit-rows-requires : tie.Need-fit-rows-requires
-fit-rows-requires c κs = record { long = c .before .before .before .before .before .before .before .before .before .before .before .before .before .pre .long; small = c .before .before .before .before .before .before .before .before .before .before .before .before .before .pre .small; short = c .before .before .before .before .before .before .before .before .before .before .before .before .before .pre .short; room = c .before .before .before .before .before .before .before .before .before .before .before .before .before .pre .fits-room; here = here (c .before .before .before .before .before .before .before .before .before .before .before .before .before .pre .ready) }
+fit-rows-requires c κs =
+    let start = c .before .before .before .before .before .before .before .before .before .before .before .before .before in
+    record { long = start .pre .long; small = start .pre .small; short = start .pre .short; room = start .pre .fits-room; here = here (start .pre .ready) }
 
 mul-less-one : tie.Need-mul-less-one
-mul-less-one c = omega (arith, c .before .before .before .before .before .before .before .before .before .before .before .before .before .before .before .before .pre .small, c .before .before .before .before .before .before .before .before .before .before .before .before .before .before .before .before .pre .room, first-inside (c .before .before .before .before .before .before .before .before .before .before .before .before .before .before .before .before .pre .ready), c .before .before .before .before .before .before .code-items .ensures .long, c .before .before .before .before .before .before .before .before .before .before .owners .ensures .long)
+mul-less-one c =
+    let at-code-items = c .before .before .before .before .before .before in
+    let at-owners = at-code-items .before .before .before .before in
+    let start = at-owners .before .before .before .before .before .before in
+    omega (arith, start .pre .small, start .pre .room, first-inside (start .pre .ready), at-code-items .code-items .ensures .long, at-owners .owners .ensures .long)
 
 add-less-one : tie.Need-add-less-one
-add-less-one c = omega (arith, c .before .before .before .before .before .before .before .before .before .before .before .before .before .before .before .before .pre .small, c .before .before .before .before .before .before .before .before .before .before .before .before .before .before .before .before .pre .room, first-inside (c .before .before .before .before .before .before .before .before .before .before .before .before .before .before .before .before .pre .ready), c .before .before .before .before .before .before .code-items .ensures .long, c .before .before .before .before .before .before .before .before .before .before .owners .ensures .long)
+add-less-one c =
+    let at-code-items = c .before .before .before .before .before .before in
+    let at-owners = at-code-items .before .before .before .before in
+    let start = at-owners .before .before .before .before .before .before in
+    omega (arith, start .pre .small, start .pre .room, first-inside (start .pre .ready), at-code-items .code-items .ensures .long, at-owners .owners .ensures .long)
 
 mul-less-one-2 : tie.Need-mul-less-one-2
-mul-less-one-2 c = omega (arith, c .before .before .before .before .before .before .before .before .before .before .before .before .before .before .before .before .pre .small, c .before .before .before .before .before .before .before .before .before .before .before .before .before .before .before .before .pre .room, first-inside (c .before .before .before .before .before .before .before .before .before .before .before .before .before .before .before .before .pre .ready), c .before .before .before .before .before .before .code-items .ensures .long, c .before .before .before .before .before .before .before .before .before .before .owners .ensures .long)
+mul-less-one-2 c =
+    let at-code-items = c .before .before .before .before .before .before in
+    let at-owners = at-code-items .before .before .before .before in
+    let start = at-owners .before .before .before .before .before .before in
+    omega (arith, start .pre .small, start .pre .room, first-inside (start .pre .ready), at-code-items .code-items .ensures .long, at-owners .owners .ensures .long)
 
 slice-read-less-one : tie.Need-slice-read-less-one
-slice-read-less-one c = omega (arith, c .before .before .before .before .before .before .before .before .before .before .before .before .before .before .before .before .before .pre .small, c .before .before .before .before .before .before .before .before .before .before .before .before .before .before .before .before .before .pre .room, first-inside (c .before .before .before .before .before .before .before .before .before .before .before .before .before .before .before .before .before .pre .ready), c .before .before .before .before .before .before .before .code-items .ensures .long, c .before .before .before .before .before .before .before .before .before .before .before .owners .ensures .long)
+slice-read-less-one c =
+    let at-code-items = c .before .before .before .before .before .before .before in
+    let at-owners = at-code-items .before .before .before .before in
+    let start = at-owners .before .before .before .before .before .before in
+    omega (arith, start .pre .small, start .pre .room, first-inside (start .pre .ready), at-code-items .code-items .ensures .long, at-owners .owners .ensures .long)
 
 less-one-requires : tie.Need-less-one-requires
 less-one-requires c κs = search needs
@@ -39,7 +62,15 @@ same-length-2 : tie.Need-same-length-2
 same-length-2 c = search needs
 
 returns : tie.Need-returns
-returns c = λ g w. coded w (c .before .before .before .before .before .before .before .before .before .before .before .before .before .owners .ensures) (c .before .before .before .before .before .before .before .before .before .code-items .ensures) (c .before .before .before .before .before .fit-rows .ensures) (c .before .before .before .before .before .before .before .before .before .before .before .before .before .before .before .before .before .before .before .pre .small) (omega (arith, c .before .before .before .before .before .before .before .before .before .before .before .before .before .before .before .before .before .before .before .pre .room, c .before .before .before .before .before .before .before .before .before .before .before .before .before .owners .ensures .long, c .before .before .before .before .before .before .before .before .before .code-items .ensures .long)) (c .before .before .before .before .before .before .before .before .before .before .before .before .before .before .before .before .before .before .before .pre .short) (omega (arith, c .before .before .before .before .before .before .before .before .before .before .before .before .before .before .before .before .before .before .before .pre .fits-room, c .before .before .before .before .before .fit-rows .ensures .long)) (c .wide .result) (c .wide .ensures ∙ c .before .less-one .ensures)
+returns c =
+    let at-fit-rows = c .before .before .before .before .before in
+    let at-code-items = at-fit-rows .before .before .before .before in
+    let at-owners = at-code-items .before .before .before .before in
+    let start = at-owners .before .before .before .before .before .before in
+    λ g w. coded w (at-owners .owners .ensures) (at-code-items .code-items .ensures) (at-fit-rows .fit-rows .ensures) (start .pre .small)
+    (omega (arith, start .pre .room, at-owners .owners .ensures .long, at-code-items .code-items .ensures .long)) (start .pre .short)
+    (omega (arith, start .pre .fits-room, at-fit-rows .fit-rows .ensures .long)) (c .wide .result)
+    (c .wide .ensures ∙ c .before .less-one .ensures)
 
 pub prepare-spec : {M : Type 1} → statement M
 prepare-spec =

@@ -20,31 +20,55 @@ loop-holds : tie.Need-loop-holds Inv-loop μ-loop
 loop-holds c = spell-start (c .before .pre) (c .if1 .left)
 
 add-if2 : tie.Need-add-if2 Inv-loop μ-loop
-add-if2 c = omega (arith, c .before .before .before .pre .small, c .before .before .before .pre .inside, c .before .before .before .pre .short, c .before .before .before .pre .on, c .before .loop .inv .low, c .before .loop .inv .enough, c .loop-test .taken)
+add-if2 c =
+    let start = c .before .before .before in
+    omega (arith, start .pre .small, start .pre .inside, start .pre .short, start .pre .on, c .before .loop .inv .low, c .before .loop .inv .enough, c .loop-test .taken)
 
 mul-if2 : tie.Need-mul-if2 Inv-loop μ-loop
-mul-if2 c = omega (arith, c .before .before .before .pre .small, c .before .before .before .pre .inside, c .before .before .before .pre .short, c .before .before .before .pre .on, c .before .loop .inv .low, c .before .loop .inv .enough, c .loop-test .taken)
+mul-if2 c =
+    let start = c .before .before .before in
+    omega (arith, start .pre .small, start .pre .inside, start .pre .short, start .pre .on, c .before .loop .inv .low, c .before .loop .inv .enough, c .loop-test .taken)
 
 shared-slice-read-if2 : tie.Need-shared-slice-read-if2 Inv-loop μ-loop
-shared-slice-read-if2 c = omega (arith, c .before .before .before .before .pre .small, c .before .before .before .before .pre .inside, c .before .before .before .before .pre .short, c .before .before .before .before .pre .on, c .before .before .loop .inv .low, c .before .before .loop .inv .enough, c .before .loop-test .taken)
+shared-slice-read-if2 c =
+    let at-loop = c .before .before in
+    let start = at-loop .before .before in
+    omega (arith, start .pre .small, start .pre .inside, start .pre .short, start .pre .on, at-loop .loop .inv .low, at-loop .loop .inv .enough, c .before .loop-test .taken)
 
 add-if2-2 : tie.Need-add-if2-2 Inv-loop μ-loop
-add-if2-2 c = omega (arith, c .before .before .before .before .pre .small, c .before .before .before .before .pre .inside, c .before .before .before .before .pre .short, c .before .before .before .before .pre .on, c .before .before .loop .inv .low, c .before .before .loop .inv .enough, c .before .loop-test .taken)
+add-if2-2 c =
+    let at-loop = c .before .before in
+    let start = at-loop .before .before in
+    omega (arith, start .pre .small, start .pre .inside, start .pre .short, start .pre .on, at-loop .loop .inv .low, at-loop .loop .inv .enough, c .before .loop-test .taken)
 
 mul-if2-2 : tie.Need-mul-if2-2 Inv-loop μ-loop
-mul-if2-2 c = omega (arith, c .before .before .before .before .pre .small, c .before .before .before .before .pre .inside, c .before .before .before .before .pre .short, c .before .before .before .before .pre .on, c .before .before .loop .inv .low, c .before .before .loop .inv .enough, c .before .loop-test .taken)
+mul-if2-2 c =
+    let at-loop = c .before .before in
+    let start = at-loop .before .before in
+    omega (arith, start .pre .small, start .pre .inside, start .pre .short, start .pre .on, at-loop .loop .inv .low, at-loop .loop .inv .enough, c .before .loop-test .taken)
 
 shared-slice-read-if2-2 : tie.Need-shared-slice-read-if2-2 Inv-loop μ-loop
-shared-slice-read-if2-2 c = omega (arith, c .before .before .before .before .before .pre .small, c .before .before .before .before .before .pre .inside, c .before .before .before .before .before .pre .short, c .before .before .before .before .before .pre .on, c .before .before .before .loop .inv .low, c .before .before .before .loop .inv .enough, c .before .before .loop-test .taken)
+shared-slice-read-if2-2 c =
+    let at-loop = c .before .before .before in
+    let start = at-loop .before .before in
+    omega (arith, start .pre .small, start .pre .inside, start .pre .short, start .pre .on, at-loop .loop .inv .low, at-loop .loop .inv .enough, c .before .before .loop-test .taken)
 
 returns-2 : tie.Need-returns-2 Inv-loop μ-loop
 returns-2 c = spell-differs (c .before .before .before .before .before .before .pre) (c .before .before .before .before .loop .inv) (c .before .before .before .loop-test .taken) (c .if2 .taken)
 
 add-k : tie.Need-add-k Inv-loop μ-loop
-add-k c = omega (arith, c .before .before .before .before .before .before .pre .small, c .before .before .before .before .before .before .pre .inside, c .before .before .before .before .before .before .pre .short, c .before .before .before .before .before .before .pre .on, c .before .before .before .before .loop .inv .low, c .before .before .before .before .loop .inv .enough, c .before .before .before .loop-test .taken)
+add-k c =
+    let at-loop-test = c .before .before .before in
+    let at-loop = at-loop-test .before in
+    let start = at-loop .before .before in
+    omega (arith, start .pre .small, start .pre .inside, start .pre .short, start .pre .on, at-loop .loop .inv .low, at-loop .loop .inv .enough, at-loop-test .loop-test .taken)
 
 loop-less : tie.Need-loop-less Inv-loop μ-loop
-loop-less c = omega (arith, c .before .before .before .before .before .before .pre .small, c .before .before .before .before .before .before .pre .inside, c .before .before .before .before .before .before .pre .short, c .before .before .before .before .before .before .pre .on, c .before .before .before .before .loop .inv .low, c .before .before .before .before .loop .inv .enough, c .before .before .before .loop-test .taken)
+loop-less c =
+    let at-loop-test = c .before .before .before in
+    let at-loop = at-loop-test .before in
+    let start = at-loop .before .before in
+    omega (arith, start .pre .small, start .pre .inside, start .pre .short, start .pre .on, at-loop .loop .inv .low, at-loop .loop .inv .enough, at-loop-test .loop-test .taken)
 
 loop-again : tie.Need-loop-again Inv-loop μ-loop
 loop-again c = spell-more (c .before .before .before .before .before .before .pre) (c .before .before .before .before .loop .inv) (c .before .before .before .loop-test .taken) (c .if2 .left)

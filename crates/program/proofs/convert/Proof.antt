@@ -1,7 +1,7 @@
 use Prim.Native.Nat.{ℕ}
 use mathlib.Core.Path.{refl}
 use lib.ListN.{length-replicate}
-use Rattle.desk.proofs.Law.{job-shown}
+use Rattle.cli.proofs.Law.{job-shown}
 use borrow.Author.Needs.{needs}
 use Rattle.program.proofs.convert.Statement.{statement}
 use Rattle.program.proofs.convert.Tie as tie

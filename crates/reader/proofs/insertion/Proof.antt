@@ -17,19 +17,39 @@ enum-told : tie.Need-enum-told
 enum-told c = search needs
 
 returns : tie.Need-returns
-returns c = insertion-bad (c .before .before .before .before .before .args .text .now) (c .before .before .before .before .before .args .p .0) (c .before .before .before .before .before .pre .1) (rw (c .enum-told .given .1) at (c .before .before .skip .ensures))
+returns c =
+    let skip = c .before .before .skip in
+    let args = c .before .before .before .before .before .args in
+    let pre = c .before .before .before .before .before .pre in
+    insertion-bad (args .text .now) (args .p .0) (pre .1) (rw (c .enum-told .given .1) at (skip .ensures))
 
 read-chars-requires : tie.Need-read-chars-requires
-read-chars-requires c κs = room-past (c .before .before .before .before .before .before .before .args .text .now) (c .before .before .before .before .before .before .before .args .p .0) _ _ _ (c .before .before .before .before .before .before .before .pre .0) (rw (c .before .before .q .given .1) at (c .before .before .before .before .skip .ensures))
+read-chars-requires c κs =
+    let q = c .before .before .q in
+    let skip = c .before .before .before .before .skip in
+    let args = c .before .before .before .before .before .before .before .args in
+    let pre = c .before .before .before .before .before .before .before .pre in
+    room-past (args .text .now) (args .p .0) _ _ _ (pre .0) (rw (q .given .1) at (skip .ensures))
 
 spaced-requires : tie.Need-spaced-requires
-spaced-requires c κs = chars-step 29 30 (c .before .before .before .before .before .before .before .before .before .before .args .text .now) (c .before .before .before .before .before .q .given .0 .0 .0) _ _ (c .before .before .read-chars .result) _ (c .before .before .read-chars .ensures)
+spaced-requires c κs =
+    let read-chars = c .before .before .read-chars in
+    let q = c .before .before .before .before .before .q in
+    let args = c .before .before .before .before .before .before .before .before .before .before .args in
+    chars-step 29 30 (args .text .now) (q .given .0 .0 .0) _ _ (read-chars .result) _ (read-chars .ensures)
 
 same-length : tie.Need-same-length
 same-length c = search needs
 
 returns-2 : tie.Need-returns-2
-returns-2 c = inserted (c .before .before .before .before .before .before .before .before .before .before .before .args .text .now) (c .before .before .before .before .before .before .before .before .before .before .before .args .p .0) (c .before .before .before .before .before .before .before .before .before .before .before .pre .1) _ (rw (c .before .before .before .before .before .before .q .given .1) at (c .before .before .before .before .before .before .before .before .skip .ensures)) _ _ (c .before .before .before .read-chars .result) _ (c .spaced .result) (c .before .before .before .read-chars .ensures) (c .spaced .ensures)
+returns-2 c =
+    let read-chars = c .before .before .before .read-chars in
+    let q = c .before .before .before .before .before .before .q in
+    let skip = c .before .before .before .before .before .before .before .before .skip in
+    let args = c .before .before .before .before .before .before .before .before .before .before .before .args in
+    let pre = c .before .before .before .before .before .before .before .before .before .before .before .pre in
+    inserted (args .text .now) (args .p .0) (pre .1) _ (rw (q .given .1) at (skip .ensures)) _ _ (read-chars .result) _ (c .spaced .result)
+    (read-chars .ensures) (c .spaced .ensures)
 
 pub insertion-spec : {M : Type 1} → statement M
 insertion-spec =

@@ -1,10 +1,8 @@
-use mathlib.Core.Path.{_≡_, _∙_}
-use Prim.Native.Nat.{_-_, _+_}
-use lib.ListN.{length, drop}
+use Rattle.reader.proofs.Loops.{got, skipped}
+use mathlib.Core.Path.{_∙_}
+use Prim.Native.Nat.{_-_}
+use lib.ListN.{length}
 use borrow.Author.Needs.{needs}
-use Rattle.syntax.specs.Parser.{read-rule}
-use Rattle.lexical.specs.Answers.{Skipped, Read}
-use Rattle.reader.specs.Answers.{ruleCode}
 use Rattle.reader.proofs.RulesLoop.{Context, context-start, context-room, loop-bad, loop-end, loop-close, loop-none, loop-on}
 use Rattle.reader.proofs.RulesLoop as laws
 use Rattle.reader.proofs.rules.Statement.{statement}
@@ -32,22 +30,47 @@ same-length : tie.Need-same-length Inv-loop μ-loop
 same-length c = c .before .before .before .loop .inv .len
 
 returns : tie.Need-returns Inv-loop μ-loop
-returns c = loop-bad (c .before .before .before .before .before .before .args .text .now) (c .before .before .before .before .before .before .args .p .0) (c .before .before .before .before .before .before .args .out .now) (c .before .before .before .before .before .before .args .at .0) (c .before .before .before .loop .out) (c .before .before .before .loop .i) (c .before .before .before .loop .j) (c .before .before .before .loop .inv) (rw (c .enum-told .given .1) at (c .before .before .skip .ensures))
+returns c =
+    let skip = c .before .before .skip in
+    let loop = c .before .before .before .loop in
+    let args = c .before .before .before .before .before .before .args in
+    loop-bad (args .text .now) (args .p .0) (args .out .now) (args .at .0) (loop .out) (loop .i) (loop .j) (loop .inv)
+    (rw (c .enum-told .given .1) at (skip .ensures))
 
 same-length-2 : tie.Need-same-length-2 Inv-loop μ-loop
-same-length-2 c = c .before .before .before .before .before .loop .inv .len
+same-length-2 c =
+    let loop = c .before .before .before .before .before .loop in
+    loop .inv .len
 
 returns-2 : tie.Need-returns-2 Inv-loop μ-loop
-returns-2 c = let k : Skipped (c .before .before .before .before .before .before .before .before .args .text .now) (c .before .before .before .before .before .loop .i) (c .before .before .u .given .0 .0 .0) = rw (c .before .before .u .given .1) at (c .before .before .before .before .skip .ensures) in loop-end (c .before .before .before .before .before .before .before .before .args .text .now) (c .before .before .before .before .before .before .before .before .args .p .0) (c .before .before .before .before .before .before .before .before .args .out .now) (c .before .before .before .before .before .before .before .before .args .at .0) (c .before .before .before .before .before .loop .out) (c .before .before .before .before .before .loop .i) (c .before .before .before .before .before .loop .j) (c .before .before .before .before .before .loop .inv) (c .before .before .u .given .0 .0 .0) k (c .if1 .taken)
+returns-2 c =
+    let u = c .before .before .u in
+    let skip = c .before .before .before .before .skip in
+    let loop = c .before .before .before .before .before .loop in
+    let k = skipped (u .given .1) (skip .ensures) in
+    loop-end _ _ _ _ _ (loop .i) (loop .j) (loop .inv) _ k (c .if1 .taken)
 
 same-length-3 : tie.Need-same-length-3 Inv-loop μ-loop
-same-length-3 c = c .before .before .before .before .before .before .loop .inv .len
+same-length-3 c =
+    let loop = c .before .before .before .before .before .before .loop in
+    loop .inv .len
 
 returns-3 : tie.Need-returns-3 Inv-loop μ-loop
-returns-3 c = let k : Skipped (c .before .before .before .before .before .before .before .before .before .args .text .now) (c .before .before .before .before .before .before .loop .i) (c .before .before .before .u .given .0 .0 .0) = rw (c .before .before .before .u .given .1) at (c .before .before .before .before .before .skip .ensures) in loop-close (c .before .before .before .before .before .before .before .before .before .args .text .now) (c .before .before .before .before .before .before .before .before .before .args .p .0) (c .before .before .before .before .before .before .before .before .before .args .out .now) (c .before .before .before .before .before .before .before .before .before .args .at .0) (c .before .before .before .before .before .before .loop .out) (c .before .before .before .before .before .before .loop .i) (c .before .before .before .before .before .before .loop .j) (c .before .before .before .before .before .before .loop .inv) (c .before .before .before .u .given .0 .0 .0) k (c .before .if1 .left) (c .if2 .taken)
+returns-3 c =
+    let u = c .before .before .before .u in
+    let skip = c .before .before .before .before .before .skip in
+    let loop = c .before .before .before .before .before .before .loop in
+    let k = skipped (u .given .1) (skip .ensures) in
+    loop-close _ _ _ _ _ (loop .i) (loop .j) (loop .inv) _ k (c .before .if1 .left) (c .if2 .taken)
 
 rule-requires : tie.Need-rule-requires Inv-loop μ-loop
-rule-requires c κs = let k : Skipped (c .before .before .before .before .before .before .before .before .before .before .args .text .now) (c .before .before .before .before .before .before .before .loop .i) (c .before .before .before .before .u .given .0 .0 .0) = rw (c .before .before .before .before .u .given .1) at (c .before .before .before .before .before .before .skip .ensures) in context-room (c .before .before .before .before .before .before .before .before .before .before .args .text .now) (c .before .before .before .before .before .before .before .before .before .before .args .p .0) (c .before .before .before .before .before .before .before .before .before .before .args .out .now) (c .before .before .before .before .before .before .before .before .before .before .args .at .0) (c .before .before .before .before .before .before .before .loop .out) (c .before .before .before .before .before .before .before .loop .i) (c .before .before .before .before .before .before .before .loop .j) (c .before .before .before .before .before .before .before .loop .inv) (c .before .before .before .before .u .given .0 .0 .0) (c .before .before .before .before .before .before .before .before .before .before .pre) k
+rule-requires c κs =
+    let u = c .before .before .before .before .u in
+    let skip = c .before .before .before .before .before .before .skip in
+    let loop = c .before .before .before .before .before .before .before .loop in
+    let pre = c .before .before .before .before .before .before .before .before .before .before .pre in
+    let k = skipped (u .given .1) (skip .ensures) in
+    context-room _ _ _ _ _ (loop .i) (loop .j) (loop .inv) _ (pre) k
 
 enum-known-w : tie.Need-enum-known-w Inv-loop μ-loop
 enum-known-w c = search needs
@@ -56,16 +79,44 @@ enum-told-2 : tie.Need-enum-told-2 Inv-loop μ-loop
 enum-told-2 c = search needs
 
 same-length-4 : tie.Need-same-length-4 Inv-loop μ-loop
-same-length-4 c = (c .before .before .before .before .rule .kept .1 .1 .0) ∙ (c .before .before .before .before .before .before .before .before .before .before .before .before .loop .inv .len)
+same-length-4 c =
+    let rule = c .before .before .before .before .rule in
+    let loop = c .before .before .before .before .before .before .before .before .before .before .before .before .loop in
+    (rule .kept .1 .1 .0) ∙ (loop .inv .len)
 
 returns-4 : tie.Need-returns-4 Inv-loop μ-loop
-returns-4 c = let k : Skipped (c .before .before .before .before .before .before .before .before .before .before .before .before .before .before .before .args .text .now) (c .before .before .before .before .before .before .before .before .before .before .before .before .loop .i) (c .before .before .before .before .before .before .before .before .before .u .given .0 .0 .0) = rw (c .before .before .before .before .before .before .before .before .before .u .given .1) at (c .before .before .before .before .before .before .before .before .before .before .before .skip .ensures) in loop-none (c .before .before .before .before .before .before .before .before .before .before .before .before .before .before .before .args .text .now) (c .before .before .before .before .before .before .before .before .before .before .before .before .before .before .before .args .p .0) (c .before .before .before .before .before .before .before .before .before .before .before .before .before .before .before .args .out .now) (c .before .before .before .before .before .before .before .before .before .before .before .before .before .before .before .args .at .0) (c .before .before .before .before .before .before .before .before .before .before .before .before .loop .out) (c .before .before .before .before .before .before .before .before .before .before .before .before .loop .i) (c .before .before .before .before .before .before .before .before .before .before .before .before .loop .j) (c .before .before .before .before .before .before .before .before .before .before .before .before .loop .inv) (c .before .before .before .before .before .before .before .before .before .u .given .0 .0 .0) k (c .before .before .before .before .before .before .before .if1 .left) (c .before .before .before .before .before .before .if2 .left) (rw (c .enum-told2 .given .1) at (c .before .before .before .before .rule .ensures))
+returns-4 c =
+    let rule = c .before .before .before .before .rule in
+    let if2 = c .before .before .before .before .before .before .if2 in
+    let if1 = c .before .before .before .before .before .before .before .if1 in
+    let u = c .before .before .before .before .before .before .before .before .before .u in
+    let skip = c .before .before .before .before .before .before .before .before .before .before .before .skip in
+    let loop = c .before .before .before .before .before .before .before .before .before .before .before .before .loop in
+    let k = skipped (u .given .1) (skip .ensures) in
+    loop-none _ _ _ _ _ (loop .i) (loop .j) (loop .inv) _ k (if1 .left) (if2 .left) (rw (c .enum-told2 .given .1) at (rule .ensures))
 
 loop-less : tie.Need-loop-less Inv-loop μ-loop
-loop-less c = let k : Skipped (c .before .before .before .before .before .before .before .before .before .before .before .before .before .before .before .before .args .text .now) (c .before .before .before .before .before .before .before .before .before .before .before .before .before .loop .i) (c .before .before .before .before .before .before .before .before .before .before .u .given .0 .0 .0) = rw (c .before .before .before .before .before .before .before .before .before .before .u .given .1) at (c .before .before .before .before .before .before .before .before .before .before .before .before .skip .ensures) in let a : Read (λ x. read-rule (drop (c .before .before .before .before .before .before .before .before .before .before .u .given .0 .0 .0) (c .before .before .before .before .before .before .before .before .before .before .before .before .before .before .before .before .args .text .now)) ≡ x) ruleCode (c .before .before .before .before .before .before .before .before .before .before .before .before .before .before .before .before .args .text .now) (c .before .before .before .before .before .before .before .before .before .before .u .given .0 .0 .0) ((c .before .before .before .before .before .before .before .before .before .before .u .given .0 .0 .0) + 1) (c .before .before .before .before .before .before .before .before .before .before .before .before .before .loop .out) (c .before .before .before .before .before .before .before .before .before .before .before .before .before .loop .j) (c .before .before .before .before .before .rule .last .1 .1 .0) (c .before .w .given .0 .0 .0) (c .before .w .given .0 .1 .0 .0) = rw (c .before .w .given .1) at (c .before .before .before .before .before .rule .ensures) in laws.loop-less (c .before .before .before .before .before .before .before .before .before .before .before .before .before .before .before .before .args .text .now) (c .before .before .before .before .before .before .before .before .before .before .before .before .before .before .before .before .args .p .0) (c .before .before .before .before .before .before .before .before .before .before .before .before .before .before .before .before .args .out .now) (c .before .before .before .before .before .before .before .before .before .before .before .before .before .before .before .before .args .at .0) (c .before .before .before .before .before .before .before .before .before .before .before .before .before .loop .out) (c .before .before .before .before .before .before .before .before .before .before .before .before .before .loop .i) (c .before .before .before .before .before .before .before .before .before .before .before .before .before .loop .j) (c .before .before .before .before .before .before .before .before .before .before .before .before .before .loop .inv) (c .before .before .before .before .before .before .before .before .before .before .u .given .0 .0 .0) k (c .before .before .before .before .before .before .before .before .if1 .left) (c .before .before .before .before .before .rule .last .1 .1 .0) (c .before .w .given .0 .0 .0) (c .before .w .given .0 .1 .0 .0) a
+loop-less c =
+    let rule = c .before .before .before .before .before .rule in
+    let if1 = c .before .before .before .before .before .before .before .before .if1 in
+    let u = c .before .before .before .before .before .before .before .before .before .before .u in
+    let skip = c .before .before .before .before .before .before .before .before .before .before .before .before .skip in
+    let loop = c .before .before .before .before .before .before .before .before .before .before .before .before .before .loop in
+    let k = skipped (u .given .1) (skip .ensures) in
+    let a = got (c .before .w .given .1) (rule .ensures) in
+    laws.loop-less _ _ _ _ _ (loop .i) (loop .j) (loop .inv) _ k (if1 .left) _ _ _ a
 
 loop-again : tie.Need-loop-again Inv-loop μ-loop
-loop-again c = let k : Skipped (c .before .before .before .before .before .before .before .before .before .before .before .before .before .before .before .before .args .text .now) (c .before .before .before .before .before .before .before .before .before .before .before .before .before .loop .i) (c .before .before .before .before .before .before .before .before .before .before .u .given .0 .0 .0) = rw (c .before .before .before .before .before .before .before .before .before .before .u .given .1) at (c .before .before .before .before .before .before .before .before .before .before .before .before .skip .ensures) in let a : Read (λ x. read-rule (drop (c .before .before .before .before .before .before .before .before .before .before .u .given .0 .0 .0) (c .before .before .before .before .before .before .before .before .before .before .before .before .before .before .before .before .args .text .now)) ≡ x) ruleCode (c .before .before .before .before .before .before .before .before .before .before .before .before .before .before .before .before .args .text .now) (c .before .before .before .before .before .before .before .before .before .before .u .given .0 .0 .0) ((c .before .before .before .before .before .before .before .before .before .before .u .given .0 .0 .0) + 1) (c .before .before .before .before .before .before .before .before .before .before .before .before .before .loop .out) (c .before .before .before .before .before .before .before .before .before .before .before .before .before .loop .j) (c .before .before .before .before .before .rule .last .1 .1 .0) (c .before .w .given .0 .0 .0) (c .before .w .given .0 .1 .0 .0) = rw (c .before .w .given .1) at (c .before .before .before .before .before .rule .ensures) in loop-on (c .before .before .before .before .before .before .before .before .before .before .before .before .before .before .before .before .args .text .now) (c .before .before .before .before .before .before .before .before .before .before .before .before .before .before .before .before .args .p .0) (c .before .before .before .before .before .before .before .before .before .before .before .before .before .before .before .before .args .out .now) (c .before .before .before .before .before .before .before .before .before .before .before .before .before .before .before .before .args .at .0) (c .before .before .before .before .before .before .before .before .before .before .before .before .before .loop .out) (c .before .before .before .before .before .before .before .before .before .before .before .before .before .loop .i) (c .before .before .before .before .before .before .before .before .before .before .before .before .before .loop .j) (c .before .before .before .before .before .before .before .before .before .before .before .before .before .loop .inv) (c .before .before .before .before .before .before .before .before .before .before .u .given .0 .0 .0) k (c .before .before .before .before .before .before .before .before .if1 .left) (c .before .before .before .before .before .rule .last .1 .1 .0) (c .before .w .given .0 .0 .0) (c .before .w .given .0 .1 .0 .0) a (c .before .before .before .before .before .before .before .if2 .left) (c .before .before .before .before .before .rule .kept .1 .1 .0)
+loop-again c =
+    let rule = c .before .before .before .before .before .rule in
+    let if2 = c .before .before .before .before .before .before .before .if2 in
+    let if1 = c .before .before .before .before .before .before .before .before .if1 in
+    let u = c .before .before .before .before .before .before .before .before .before .before .u in
+    let skip = c .before .before .before .before .before .before .before .before .before .before .before .before .skip in
+    let loop = c .before .before .before .before .before .before .before .before .before .before .before .before .before .loop in
+    let k = skipped (u .given .1) (skip .ensures) in
+    let a = got (c .before .w .given .1) (rule .ensures) in
+    loop-on _ _ _ _ _ (loop .i) (loop .j) (loop .inv) _ k (if1 .left) _ _ _ a (if2 .left) (rule .kept .1 .1 .0)
 
 pub rules-spec : {M : Type 1} → statement M
 rules-spec =

@@ -1,7 +1,7 @@
 use Prim.Native.Nat.{_+_}
 use native.Mathlib.Omega.{arith}
-use Rattle.lexical.proofs.Places.{is-ch, not-ch}
-use Rattle.lexical.proofs.Sets.{seen-in}
+use Rattle.spacing.proofs.Places.{is-ch, not-ch}
+use Rattle.sets.proofs.Sets.{seen-in}
 use Rattle.reader.proofs.Terminals.{chars-step, room-past, exclude-bad, excluded, included-set, a-literal}
 use borrow.Author.Needs.{needs}
 use Rattle.reader.proofs.terminal.Statement.{statement}
@@ -14,7 +14,9 @@ add-t11 : tie.Need-add-t11
 add-t11 c = search needs
 
 skip-requires : tie.Need-skip-requires
-skip-requires c κs = omega (arith, seen-in (c .before .before .before .before .args .text .now) (c .before .before .before .before .args .p .0) _ 0x7e (c .before .peek .ensures) (c .if1 .taken) (omega arith))
+skip-requires c κs =
+    let args = c .before .before .before .before .args in
+    omega (arith, seen-in (args .text .now) (args .p .0) _ 0x7e (c .before .peek .ensures) (c .if1 .taken) (omega arith))
 
 enum-known-q : tie.Need-enum-known-q
 enum-known-q c = search needs
@@ -23,19 +25,38 @@ enum-told : tie.Need-enum-told
 enum-told c = search needs
 
 returns : tie.Need-returns
-returns c = exclude-bad (c .before .before .before .before .before .before .before .args .text .now) (c .before .before .before .before .before .before .before .args .p .0) (c .before .before .before .before .before .before .before .args .m) (c .before .before .before .before .before .before .before .args .out .now) (c .before .before .before .before .before .before .before .args .at .0) (is-ch (c .before .before .before .before .peek .ensures) 0x7e (c .before .before .before .if1 .taken)) (rw (c .enum-told .given .1) at (c .before .before .skip .ensures))
+returns c =
+    let skip = c .before .before .skip in
+    let if1 = c .before .before .before .if1 in
+    let peek = c .before .before .before .before .peek in
+    let args = c .before .before .before .before .before .before .before .args in
+    exclude-bad (args .text .now) (args .p .0) (args .m) (args .out .now) (args .at .0) (is-ch (peek .ensures) 0x7e (if1 .taken))
+    (rw (c .enum-told .given .1) at (skip .ensures))
 
 add-set : tie.Need-add-set
 add-set c = search needs
 
 set-requires : tie.Need-set-requires
-set-requires c κs = room-past (c .before .before .before .before .before .before .before .before .before .args .text .now) (c .before .before .before .before .before .before .before .before .before .args .p .0) _ _ _ (c .before .before .before .before .before .before .before .before .before .pre .0) (rw (c .before .before .q .given .1) at (c .before .before .before .before .skip .ensures))
+set-requires c κs =
+    let q = c .before .before .q in
+    let skip = c .before .before .before .before .skip in
+    let args = c .before .before .before .before .before .before .before .before .before .args in
+    let pre = c .before .before .before .before .before .before .before .before .before .pre in
+    room-past (args .text .now) (args .p .0) _ _ _ (pre .0) (rw (q .given .1) at (skip .ensures))
 
 same-length : tie.Need-same-length
 same-length c = search needs
 
 returns-2 : tie.Need-returns-2
-returns-2 c = excluded (c .before .before .before .before .before .before .before .before .before .before .before .before .args .text .now) (c .before .before .before .before .before .before .before .before .before .before .before .before .args .p .0) (c .before .before .before .before .before .before .before .before .before .before .before .before .args .m) (c .before .before .before .before .before .before .before .before .before .before .before .before .args .out .now) (c .before .before .before .before .before .before .before .before .before .before .before .before .args .at .0) (is-ch (c .before .before .before .before .before .before .before .before .before .peek .ensures) 0x7e (c .before .before .before .before .before .before .before .before .if1 .taken)) _ (rw (c .before .before .before .before .before .q .given .1) at (c .before .before .before .before .before .before .before .skip .ensures)) (c .before .before .set .result) _ (c .before .before .set .ensures)
+returns-2 c =
+    let set = c .before .before .set in
+    let q = c .before .before .before .before .before .q in
+    let skip = c .before .before .before .before .before .before .before .skip in
+    let if1 = c .before .before .before .before .before .before .before .before .if1 in
+    let peek = c .before .before .before .before .before .before .before .before .before .peek in
+    let args = c .before .before .before .before .before .before .before .before .before .before .before .before .args in
+    excluded (args .text .now) (args .p .0) (args .m) (args .out .now) (args .at .0) (is-ch (peek .ensures) 0x7e (if1 .taken)) _
+    (rw (q .given .1) at (skip .ensures)) (set .result) _ (set .ensures)
 
 add-set-2 : tie.Need-add-set-2
 add-set-2 c = search needs
@@ -47,7 +68,14 @@ same-length-2 : tie.Need-same-length-2
 same-length-2 c = search needs
 
 returns-3 : tie.Need-returns-3
-returns-3 c = included-set (c .before .before .before .before .before .before .before .before .before .args .text .now) (c .before .before .before .before .before .before .before .before .before .args .p .0) (c .before .before .before .before .before .before .before .before .before .args .m) (c .before .before .before .before .before .before .before .before .before .args .out .now) (c .before .before .before .before .before .before .before .before .before .args .at .0) (not-ch (c .before .before .before .before .before .before .peek .ensures) 0x7e (c .before .before .before .before .before .if1 .left)) (is-ch (c .before .before .before .before .before .before .peek .ensures) 0x5b (c .before .before .before .before .if2 .taken)) (c .before .before .set2 .result) _ (c .before .before .set2 .ensures)
+returns-3 c =
+    let set2 = c .before .before .set2 in
+    let if2 = c .before .before .before .before .if2 in
+    let if1 = c .before .before .before .before .before .if1 in
+    let peek = c .before .before .before .before .before .before .peek in
+    let args = c .before .before .before .before .before .before .before .before .before .args in
+    included-set (args .text .now) (args .p .0) (args .m) (args .out .now) (args .at .0) (not-ch (peek .ensures) 0x7e (if1 .left))
+    (is-ch (peek .ensures) 0x5b (if2 .taken)) (set2 .result) _ (set2 .ensures)
 
 add-read-chars : tie.Need-add-read-chars
 add-read-chars c = search needs
@@ -59,13 +87,23 @@ read-chars-requires : tie.Need-read-chars-requires
 read-chars-requires c κs = search needs
 
 spaced-requires : tie.Need-spaced-requires
-spaced-requires c κs = chars-step (4 + c .before .before .before .before .before .before .before .before .before .args .m) (8 + c .before .before .before .before .before .before .before .before .before .args .m) (c .before .before .before .before .before .before .before .before .before .args .text .now) (c .before .before .before .before .before .before .before .before .before .args .p .0) _ _ (c .before .before .read-chars .result) _ (c .before .before .read-chars .ensures)
+spaced-requires c κs =
+    let read-chars = c .before .before .read-chars in
+    let args = c .before .before .before .before .before .before .before .before .before .args in
+    chars-step (4 + args .m) (8 + args .m) (args .text .now) (args .p .0) _ _ (read-chars .result) _ (read-chars .ensures)
 
 same-length-3 : tie.Need-same-length-3
 same-length-3 c = search needs
 
 returns-4 : tie.Need-returns-4
-returns-4 c = a-literal (c .before .before .before .before .before .before .before .before .before .before .args .text .now) (c .before .before .before .before .before .before .before .before .before .before .args .p .0) (c .before .before .before .before .before .before .before .before .before .before .args .m) (c .before .before .before .before .before .before .before .before .before .before .args .out .now) (c .before .before .before .before .before .before .before .before .before .before .args .at .0) (not-ch (c .before .before .before .before .before .before .before .peek .ensures) 0x7e (c .before .before .before .before .before .before .if1 .left)) (not-ch (c .before .before .before .before .before .before .before .peek .ensures) 0x5b (c .before .before .before .before .before .if2 .left)) (c .before .before .before .read-chars .result) _ (c .spaced .result) (c .before .before .before .read-chars .ensures) (c .spaced .ensures)
+returns-4 c =
+    let read-chars = c .before .before .before .read-chars in
+    let if2 = c .before .before .before .before .before .if2 in
+    let if1 = c .before .before .before .before .before .before .if1 in
+    let peek = c .before .before .before .before .before .before .before .peek in
+    let args = c .before .before .before .before .before .before .before .before .before .before .args in
+    a-literal (args .text .now) (args .p .0) (args .m) (args .out .now) (args .at .0) (not-ch (peek .ensures) 0x7e (if1 .left))
+    (not-ch (peek .ensures) 0x5b (if2 .left)) (read-chars .result) _ (c .spaced .result) (read-chars .ensures) (c .spaced .ensures)
 
 pub terminal-spec : {M : Type 1} → statement M
 terminal-spec =

@@ -1,4 +1,4 @@
-use mathlib.Core.Path.{_≡_, refl, sym, subst}
+use mathlib.Core.Path.{refl, sym, subst}
 use Prim.Native.Nat.{ℕ, _+_}
 use native.Mathlib.Omega.{arith}
 use denote.Ref.{now}
@@ -8,17 +8,25 @@ use borrow.Author.Needs.{needs}
 use Rattle.reading.proofs.enter.Statement.{statement}
 use Rattle.reading.proofs.enter.Tie as tie
 
-add-t15 : tie.Need-add-t15
-add-t15 c = search needs
+add-t14 : tie.Need-add-t14
+add-t14 c = search needs
 
 returns : tie.Need-returns
-returns c = full (omega (arith, c .before .before .before .before .pre .most)) refl refl (omega (arith, c .before .before .before .before .pre .most)) refl
+returns c =
+    let pre = c .before .before .before .before .pre in
+    full (omega (arith, pre .most)) refl refl (omega (arith, pre .most)) refl
 
 height-requires : tie.Need-height-requires
 height-requires c κs = search needs
 
 find-alternative-requires : tie.Need-find-alternative-requires
-find-alternative-requires c κs = let a = c .before .before .before .before .before .args in (c .before .before .before .before .before .pre .stretch, subst (λ (z : ℕ). SomeLow (now (a .code)) (now (a .main)) (a .n) (a .q) (a .h .i) (a .h .j) z) (sym (c .height .ensures)) (c .before .before .before .before .before .pre .some))
+find-alternative-requires c κs =
+    let args = c .before .before .before .before .before .args in
+    let pre = c .before .before .before .before .before .pre in
+    let a = args in (
+      pre .stretch,
+      subst (λ (z : ℕ). SomeLow (now (a .code)) (now (a .main)) (a .n) (a .first) (a .h .i) (a .h .j) z) (sym (c .height .ensures)) (pre .some),
+    )
 
 other-alternative-requires : tie.Need-other-alternative-requires
 other-alternative-requires c κs = search needs
@@ -32,8 +40,8 @@ mul-out c = search needs
 slice-write-out : tie.Need-slice-write-out
 slice-write-out c = search needs
 
-add-t17 : tie.Need-add-t17
-add-t17 c = search needs
+add-t16 : tie.Need-add-t16
+add-t16 c = search needs
 
 either-requires : tie.Need-either-requires
 either-requires c κs = search needs
@@ -43,15 +51,25 @@ same-length c = search needs
 
 returns-2 : tie.Need-returns-2
 returns-2 c =
-    let a = c .before .before .before .before .before .before .before .before .before .args in let r = c .before .before .before .find-alternative .result in
-    wrote r (c .before .before .other-alternative .result) (c .before .before .before .before .before .if1 .left) (subst (λ (z : ℕ). FirstLow (now (a .code)) (now (a .main)) (a .n) (a .q) (a .h .i) (a .h .j) z r) (c .before .before .before .before .height .ensures) (c .before .before .before .find-alternative .ensures)) (c .before .before .other-alternative .ensures) refl
-    (λ ι. record { p = r .place; i = a .h .i; j = a .h .j; k = c .before .before .before .before .height .ensures ι; at = a .h .at + 1; deep = a .h .deep; mark = c .either .ensures ι })
+    let other-alternative = c .before .before .other-alternative in
+    let find-alternative = c .before .before .before .find-alternative in
+    let height = c .before .before .before .before .height in
+    let if1 = c .before .before .before .before .before .if1 in
+    let args = c .before .before .before .before .before .before .before .before .before .args in
+    let a = args in
+    let r = find-alternative .result in
+    wrote r (other-alternative .result) (if1 .left)
+    (subst (λ (z : ℕ). FirstLow (now (a .code)) (now (a .main)) (a .n) (a .first) (a .h .i) (a .h .j) z r) (height .ensures)
+    (find-alternative .ensures))
+    (other-alternative .ensures) refl
+    (λ ι. record
+    { p = r .place; i = a .h .i; j = a .h .j; k = height .ensures ι; at = a .h .at + 1; depth = a .h .depth; mark = c .either .ensures ι })
 
 pub enter-spec : {M : Type 1} → statement M
 enter-spec =
     tie.close
     (tie.spec
-    add-t15
+    add-t14
     returns
     height-requires
     find-alternative-requires
@@ -59,7 +77,7 @@ enter-spec =
     cast-out
     mul-out
     slice-write-out
-    add-t17
+    add-t16
     either-requires
     same-length
     returns-2)

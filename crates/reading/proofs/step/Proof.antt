@@ -1,4 +1,4 @@
-use mathlib.Core.Path.{_≡_, refl, sym, _∙_}
+use mathlib.Core.Path.{refl, sym, _∙_}
 use Prim.Native.Nat.{_+_}
 use native.Mathlib.Omega.{arith}
 use Rattle.reading.specs.Walk.{at-end, at-terminal}
@@ -6,29 +6,32 @@ use borrow.Author.Needs.{needs}
 use Rattle.reading.proofs.step.Statement.{statement}
 use Rattle.reading.proofs.step.Tie as tie
 
-mul-look : tie.Need-mul-look
-mul-look c = search needs
+mul-number-at : tie.Need-mul-number-at
+mul-number-at c = search needs
 
-look-requires : tie.Need-look-requires
-look-requires c κs = search needs
+number-at-requires : tie.Need-number-at-requires
+number-at-requires c κs = search needs
 
-leave-requires : tie.Need-leave-requires
-leave-requires c κs = (c .before .before .before .before .before .before .before .pre .back (sym (c .before .before .look .ensures .0) ∙ c .before .if1 .taken), omega (arith, c .before .before .before .before .before .before .before .pre .written, c .before .before .before .before .before .before .before .pre .most, c .before .before .before .before .before .before .before .pre .stack))
+pop-requires : tie.Need-pop-requires
+pop-requires c κs =
+    let number-at = c .before .before .number-at in
+    let pre = c .before .before .before .before .before .before .before .pre in
+    (pre .back (sym (number-at .ensures .0) ∙ c .before .if1 .taken), omega (arith, pre .written, pre .most, pre .stack))
 
 same-length : tie.Need-same-length
 same-length c = search needs
 
 returns : tie.Need-returns
-returns c = at-end (sym (c .before .before .before .look .ensures .0) ∙ c .before .before .if1 .taken) refl refl (c .leave .ensures)
+returns c = at-end (sym (c .before .before .before .number-at .ensures .0) ∙ c .before .before .if1 .taken) refl refl (c .pop .ensures)
 
-mul-look-2 : tie.Need-mul-look-2
-mul-look-2 c = search needs
+mul-number-at-2 : tie.Need-mul-number-at-2
+mul-number-at-2 c = search needs
 
-add-look : tie.Need-add-look
-add-look c = search needs
+add-number-at : tie.Need-add-number-at
+add-number-at c = search needs
 
-look-requires-2 : tie.Need-look-requires-2
-look-requires-2 c κs = search needs
+number-at-requires-2 : tie.Need-number-at-requires-2
+number-at-requires-2 c κs = search needs
 
 add-t14 : tie.Need-add-t14
 add-t14 c = search needs
@@ -37,10 +40,17 @@ add-t15 : tie.Need-add-t15
 add-t15 c = search needs
 
 returns-2 : tie.Need-returns-2
-returns-2 c = let h = c .before .before .before .before .before .before .before .before .before .args .h in at-terminal (sym (c .before .before .before .before .look .ensures .0) ∙ c .before .before .if2 .taken) refl refl (λ ι. record { p = h .p + 1; i = h .i + c .before .look2 .ensures .0 ι; j = h .j; k = h .k; at = h .at; deep = h .deep; mark = h .mark })
+returns-2 c =
+    let if2 = c .before .before .if2 in
+    let number-at = c .before .before .before .before .number-at in
+    let args = c .before .before .before .before .before .before .before .before .before .args in
+    let h = args .h in
+    at-terminal (sym (number-at .ensures .0) ∙ if2 .taken) refl refl
+    (λ ι. record
+    { p = h .p + 1; i = h .i + c .before .number-at2 .ensures .0 ι; j = h .j; k = h .k; at = h .at; depth = h .depth; mark = h .mark })
 
-cross-requires : tie.Need-cross-requires
-cross-requires c κs = search needs
+descend-requires : tie.Need-descend-requires
+descend-requires c κs = search needs
 
 same-length-2 : tie.Need-same-length-2
 same-length-2 c = search needs
@@ -55,18 +65,18 @@ pub step-spec : {M : Type 1} → statement M
 step-spec =
     tie.close
     (tie.spec
-    mul-look
-    look-requires
-    leave-requires
+    mul-number-at
+    number-at-requires
+    pop-requires
     same-length
     returns
-    mul-look-2
-    add-look
-    look-requires-2
+    mul-number-at-2
+    add-number-at
+    number-at-requires-2
     add-t14
     add-t15
     returns-2
-    cross-requires
+    descend-requires
     same-length-2
     same-length-3
     returns-3)

@@ -1,51 +1,196 @@
-use mathlib.Core.Path.{_≡_, refl, sym, _∙_}
-use mathlib.Core.List.{List, []}
-use Prim.Native.Nat.{ℕ, _≤_}
+use mathlib.Core.Path.{_≡_, refl}
 use native.Mathlib.Omega.{arith}
-use lib.ListN.{length}
 use denote.Ref.{now}
-use Rattle.text.specs.Lists.{Text}
-use Rattle.ends.specs.Walk.{weight}
-use Rattle.spell.specs.Out.{State, state, puts, enc}
-use Rattle.writer.specs.Content.{Going, Some}
-use Rattle.writer.proofs.Contents.{content-begin, content-done}
+use lib.ListN.{length}
+use Rattle.markup.specs.Out.{state}
+use Rattle.cursor.specs.Events.{weight}
+use Rattle.cursor.proofs.Turns.{text-is, open-is, attribute-is, close-is}
+use Rattle.cursor.proofs.Folds.{Reached, reached-begin, reached-some, row-some, text-stands, on-text, on-close, on-end, open-node, open-enter, attribute-node, attribute-past}
+use Rattle.writer.proofs.Folds.{Owing, owing-begin, owing-text, owing-element, owing-attribute, owing-close, owing-end}
+use borrow.Author.Needs.{needs}
 use Rattle.writer.proofs.put_content.Statement.{statement}
 use Rattle.writer.proofs.put_content.Tie as tie
 
 abbrev Inv-loop : tie.InvT-loop
-Inv-loop table parse «record» scratch₀ out₀ limit t₀ scratch out t = (length scratch ≡ length scratch₀) × (length out ≡ length out₀) × Some table parse «record» scratch out limit t × ((S₁ : List ℕ) (e c : Text) (fin : State) → Going table parse «record» S₁ scratch₀ out₀ limit t₀ e c fin → Going table parse «record» S₁ scratch out limit t e c fin)
+Inv-loop table parse «record» scratch₀ out₀ limit due₁ at₀ pos₀ ajar₀ due₀ scratch out at pos unclosed due =
+    (length scratch ≡ length scratch₀) × (length out ≡ length out₀)
+    × Reached table parse scratch₀ scratch at₀ at (Owing «record» limit (state pos₀ out₀) (state pos out) due₀ due ajar₀ unclosed)
 
 abbrev μ-loop : tie.MeasureT-loop
-μ-loop table parse «record» scratch₀ out₀ limit t₀ scratch out t = weight table parse (t .at)
+μ-loop table parse «record» scratch₀ out₀ limit due₁ at₀ pos₀ ajar₀ due₀ scratch out at pos unclosed due = weight table parse at
 
 loop-holds : tie.Need-loop-holds Inv-loop μ-loop
-loop-holds c =
-    let D = c .before .before .before .before .before .pre .1 in
-    (refl, refl, record { S₀ = now (c .before .before .before .before .before .args .scratch); e = []; c = []; fin = _; going = content-begin (D .walk) (D .room) [] [] }, λ S₁ e t fin G. G)
+loop-holds c = (refl, refl, reached-begin (Owing _ _ _ _ _ _ _ _) (λ r k. owing-begin))
 
-busy-requires : tie.Need-busy-requires Inv-loop μ-loop
-busy-requires c κs = tt
+next-requires : tie.Need-next-requires Inv-loop μ-loop
+next-requires c κs = reached-some (Owing _ _ _ _ _ _ _ _) (c .before .loop .inv .2) (row-some (c .before .before .before .before .before .before .before .pre .1))
 
-content-step-requires : tie.Need-content-step-requires Inv-loop μ-loop
-content-step-requires c κs = (omega (arith, c .before .before .before .before .before .before .before .before .before .before .pre .0, c .before .before .before .before .loop .inv .1), (c .before .before .before .busy .ensures .0 (c .before .before .if1 .taken), c .before .before .before .before .loop .inv .2))
+enum-known-event : tie.Need-enum-known-event Inv-loop μ-loop
+enum-known-event c = search needs
+
+text-at-requires : tie.Need-text-at-requires Inv-loop μ-loop
+text-at-requires c κs = search needs
+
+put-text-requires : tie.Need-put-text-requires Inv-loop μ-loop
+put-text-requires c κs =
+    let at-loop = c .before .before .before .before .before .before .before .before .before in
+    let start = at-loop .before .before .before .before .before .before in
+    omega (arith, start .pre .0, at-loop .loop .inv .1)
+
+skip-requires : tie.Need-skip-requires Inv-loop μ-loop
+skip-requires c κs =
+    let at-event = c .before .before .before .before .before .before .before in
+    let at-next = at-event .before .before .before .before in
+    let at-loop = at-next .before .before in
+    let start = at-loop .before .before .before .before .before .before in
+    text-stands (Owing _ _ _ _ _ _ _ _) (at-loop .loop .inv .2) (at-next .next .ensures) (at-event .event .given .1) (row-some (start .pre .1))
 
 loop-less : tie.Need-loop-less Inv-loop μ-loop
-loop-less c = c .before .before .before .before .content-step .ensures .falls
+loop-less c =
+    let at-event = c .before .before .before .before .before .before .before .before in
+    let at-next = at-event .before .before .before .before in
+    omega (arith, c .skip .ensures .falls, text-is (at-next .next .ensures) (at-event .event .given .1) .near)
 
 loop-again : tie.Need-loop-again Inv-loop μ-loop
 loop-again c =
-    let i = c .before .before .before .before .before .before .before .before .before .loop .inv in
-    let x = i .2 in
-    (omega (arith, i .0), omega (arith, i .1), record { S₀ = x .S₀; e = x .e; c = x .c; fin = x .fin; going = c .before .before .before .before .content-step .ensures .goes (x .S₀) (x .e) (x .c) (x .fin) (x .going) }, λ S₁ e t fin G. c .before .before .before .before .content-step .ensures .goes S₁ e t fin (i .3 S₁ e t fin G))
+    let at-put-text = c .before .before .before .before in
+    let at-text-at = at-put-text .before .before in
+    let at-event = at-text-at .before .before in
+    let at-next = at-event .before .before .before .before in
+    let at-loop = at-next .before .before in
+    let i = at-loop .loop .inv in
+    let N = at-next .next .ensures in (
+      omega (arith, i .0),
+      omega (arith, i .1),
+      on-text (Owing _ _ _ _ _ _ _ _) (i .2) N (at-event .event .given .1) (c .skip .ensures)
+          (Owing _ _ _ _ _ _ _ _) (λ r k₀ k t s l. owing-text t k l
+          (λ z. at-put-text .put-text .ensures t (rw z at (s _ (at-text-at .text-at .ensures))))),
+    )
+
+enum-known-event-2 : tie.Need-enum-known-event-2 Inv-loop μ-loop
+enum-known-event-2 c = search needs
+
+put-open-requires : tie.Need-put-open-requires Inv-loop μ-loop
+put-open-requires c κs =
+    let at-event2 = c .before .before .before in
+    let at-next = at-event2 .before .before .before .before in
+    let at-loop = at-next .before .before in
+    let start = at-loop .before .before .before .before .before .before in
+    let N = open-is (at-next .next .ensures) (at-event2 .event2 .given .1) in (
+      (omega (arith, start .pre .0, at-loop .loop .inv .1), omega (arith, N .fits)),
+      (
+        N .is,
+        open-node (Owing _ _ _ _ _ _ _ _) (at-loop .loop .inv .2) (at-next .next .ensures) (at-event2 .event2 .given .1)
+            (row-some (start .pre .1)),
+      ),
+    )
+
+enter-requires : tie.Need-enter-requires Inv-loop μ-loop
+enter-requires c κs =
+    let at-put-open = c .before .before .before .before .before in
+    let at-event2 = at-put-open .before .before .before .before in
+    let at-next = at-event2 .before .before .before .before in
+    let at-loop = at-next .before .before in
+    let start = at-loop .before .before .before .before .before .before in (
+      now (start .args .«record»),
+      rw (at-put-open .put-open .ensures .kept)
+          (open-node (Owing _ _ _ _ _ _ _ _) (at-loop .loop .inv .2) (at-next .next .ensures) (at-event2 .event2 .given .1)
+          (row-some (start .pre .1))),
+    )
+
+loop-less-2 : tie.Need-loop-less-2 Inv-loop μ-loop
+loop-less-2 c =
+    let at-event2 = c .before .before .before .before .before .before .before .before .before .before .before .before in
+    let at-next = at-event2 .before .before .before .before in
+    omega (arith, c .before .before .enter .ensures .falls, open-is (at-next .next .ensures) (at-event2 .event2 .given .1) .near)
+
+loop-again-2 : tie.Need-loop-again-2 Inv-loop μ-loop
+loop-again-2 c =
+    let at-put-open = c .before .before .before .before .before .before .before .before in
+    let at-event2 = at-put-open .before .before .before .before in
+    let at-next = at-event2 .before .before .before .before in
+    let at-loop = at-next .before .before in
+    let i = at-loop .loop .inv in (
+      omega (arith, i .0),
+      omega (arith, i .1),
+      open-enter (Owing _ _ _ _ _ _ _ _) (i .2) (at-next .next .ensures)
+          (at-event2 .event2 .given .1) (rw (at-put-open .put-open .ensures .kept) at (c .before .before .enter .ensures))
+          (Owing _ _ _ _ _ _ _ _) (λ r k₀ k m n x N S₀ A. owing-element n x k
+          (λ z. at-put-open .put-open .ensures .wrote S₀ m n x k N (rw z at A))),
+    )
+
+enum-known-event-3 : tie.Need-enum-known-event-3 Inv-loop μ-loop
+enum-known-event-3 c = search needs
+
+past-requires : tie.Need-past-requires Inv-loop μ-loop
+past-requires c κs =
+    let at-next = c .before .before .before .before .before .before in
+    let at-loop = at-next .before .before in
+    let start = at-loop .before .before .before .before .before .before in
+    (_, attribute-node (Owing _ _ _ _ _ _ _ _) (at-loop .loop .inv .2) (at-next .next .ensures) (c .before .before .event3 .given .1) (row-some (start .pre .1)))
+
+loop-less-3 : tie.Need-loop-less-3 Inv-loop μ-loop
+loop-less-3 c =
+    omega (arith, c .past .ensures .falls, attribute-is (c .before .before .before .before .before .before .before .next .ensures) (c .before .before .before .event3 .given .1) .near)
+
+loop-again-3 : tie.Need-loop-again-3 Inv-loop μ-loop
+loop-again-3 c =
+    let at-event3 = c .before .before .before in
+    let at-next = at-event3 .before .before .before .before in
+    let at-loop = at-next .before .before in
+    let i = at-loop .loop .inv in (
+      omega (arith, i .0),
+      omega (arith, i .1),
+      attribute-past (Owing _ _ _ _ _ _ _ _) (i .2) (at-next .next .ensures)
+          (at-event3 .event3 .given .1) (c .past .ensures) (Owing _ _ _ _ _ _ _ _) (λ r k₀ k m n v N. owing-attribute n v k),
+    )
+
+enum-known-event-4 : tie.Need-enum-known-event-4 Inv-loop μ-loop
+enum-known-event-4 c = search needs
+
+token-at-requires : tie.Need-token-at-requires Inv-loop μ-loop
+token-at-requires c κs = search needs
+
+put-end-requires : tie.Need-put-end-requires Inv-loop μ-loop
+put-end-requires c κs =
+    let at-loop = c .before .before .before .before .before .before .before .before .before in
+    let start = at-loop .before .before .before .before .before .before in
+    (omega (arith, start .pre .0, at-loop .loop .inv .1), omega (arith, c .before .token-at .ensures .1))
+
+loop-less-4 : tie.Need-loop-less-4 Inv-loop μ-loop
+loop-less-4 c =
+    close-is (c .before .before .before .before .before .before .before .before .before .before .next .ensures) (c .before .before .before .before .before .before .event4 .given .1) .falls
+
+loop-again-4 : tie.Need-loop-again-4 Inv-loop μ-loop
+loop-again-4 c =
+    let at-token-at = c .before .before .before .before in
+    let at-event4 = at-token-at .before .before in
+    let at-next = at-event4 .before .before .before .before in
+    let at-loop = at-next .before .before in
+    let i = at-loop .loop .inv in
+    let t = at-token-at .token-at .ensures .0 in (
+      omega (arith, i .0),
+      omega (arith, i .1),
+      on-close (Owing _ _ _ _ _ _ _ _) (i .2) (at-next .next .ensures)
+          (at-event4 .event4 .given .1) (Owing _ _ _ _ _ _ _ _)
+          (λ r k₀ k m n N. owing-close n k (c .before .before .put-end .ensures m n (rw t N))),
+    )
+
+enum-told : tie.Need-enum-told Inv-loop μ-loop
+enum-told c = search needs
 
 same-length : tie.Need-same-length Inv-loop μ-loop
-same-length c = c .before .before .loop .inv .0
+same-length c = omega (arith, c .before .before .before .before .before .before .loop .inv .0)
 
 same-length-2 : tie.Need-same-length-2 Inv-loop μ-loop
-same-length-2 c = c .before .before .loop .inv .1
+same-length-2 c = omega (arith, c .before .before .before .before .before .before .loop .inv .1)
 
 returns : tie.Need-returns Inv-loop μ-loop
-returns c = content-done (c .before .before .before .before .before .before .before .before .pre .1) (c .before .before .loop .inv .3) (c .before .busy .ensures .1 (c .if1 .left))
+returns c =
+    let at-next = c .before .before .before .before in
+    let at-loop = at-next .before .before in
+    let start = at-loop .before .before .before .before .before .before in
+    owing-end (start .pre .1) (on-end (Owing _ _ _ _ _ _ _ _) (at-loop .loop .inv .2) (at-next .next .ensures) (c .enum-told .given .1))
 
 pub put-content-spec : {M : Type 1} → statement M
 put-content-spec =
@@ -54,10 +199,28 @@ put-content-spec =
     Inv-loop
     μ-loop
     loop-holds
-    busy-requires
-    content-step-requires
+    next-requires
+    enum-known-event
+    text-at-requires
+    put-text-requires
+    skip-requires
     loop-less
     loop-again
+    enum-known-event-2
+    put-open-requires
+    enter-requires
+    loop-less-2
+    loop-again-2
+    enum-known-event-3
+    past-requires
+    loop-less-3
+    loop-again-3
+    enum-known-event-4
+    token-at-requires
+    put-end-requires
+    loop-less-4
+    loop-again-4
+    enum-told
     same-length
     same-length-2
     returns)

@@ -1,13 +1,12 @@
-use mathlib.Core.Path.{_≡_, refl, sym, ap, _∙_}
-use mathlib.Core.List.{_++_}
-use denote.Ref.{now}
-use Rattle.text.specs.Lists.{chars}
+use mathlib.Core.Path.{refl}
+use mathlib.Core.List.{_++_, append-assoc}
+use Rattle.text.specs.Lists.{Text, chars}
 use Rattle.text.specs.Utf8.{utf8}
-use Rattle.xml.specs.Document.{nodes}
-use Rattle.spell.specs.Out.{enc, Wrote}
-use Rattle.spell.specs.Tags.{stateOf}
-use Rattle.spell.proofs.Puts.{wrote-bytes, wrote-text, and-then}
-use Rattle.writer.proofs.Trees.{start-parts}
+use Rattle.xml.specs.Bytes.{attributes}
+use Rattle.markup.specs.Out.{enc, Wrote}
+use Rattle.markup.specs.Tags.{stateOf}
+use Rattle.markup.proofs.Puts.{wrote-bytes, wrote-text, and-then}
+use Rattle.writer.proofs.Laws.{start-parts}
 use borrow.Author.Needs.{needs}
 use Rattle.writer.proofs.put_start.Statement.{statement}
 use Rattle.writer.proofs.put_start.Tie as tie
@@ -33,12 +32,18 @@ same-length-2 c = search needs
 returns : tie.Need-returns
 unfolding enc utf8
 returns c =
+    let at-put-attributes = c .before .before .before .before in
+    let at-put-state = at-put-attributes .before .before .before .before .before in
+    let at-put-name = at-put-state .before .before .before .before in
+    let at-put = at-put-name .before .before .before .before in
+    let start = at-put .before .before .before .before .before .before .before in
+    let w₁ : Wrote _ _ _ _ _ (chars "<") = wrote-bytes _ (at-put .put .ensures) refl in
     record {
-      kept = c .before .before .before .before .put-attributes .ensures .kept;
-      wrote = λ k n N g starts e₁ i₁ row ss W.
-          let w₁ : Wrote _ _ _ _ _ (chars "<") = wrote-bytes _ (c .before .before .before .before .before .before .before .before .before .before .before .before .before .before .before .before .before .before .put .ensures) refl in
-          wrote-text (start-parts n (stateOf (c .before .before .before .before .before .before .before .before .before .before .before .before .before .before .before .before .before .before .before .before .before .before .before .before .before .args .due)) (nodes g (now (c .before .before .before .before .before .before .before .before .before .before .before .before .before .before .before .before .before .before .before .before .before .before .before .before .before .args .«record»)) row ss (c .before .before .before .before .before .before .before .before .before .before .before .before .before .before .before .before .before .before .before .before .before .before .before .before .before .args .s .at .place)))
-          (and-then w₁ (and-then (c .before .before .before .before .before .before .before .before .before .before .before .before .before .before .put-name .ensures k n N) (and-then (c .before .before .before .before .before .before .before .before .before .before .put-state .ensures) (c .before .before .before .before .put-attributes .ensures .wrote g starts e₁ i₁ row ss W))));
+      kept = at-put-attributes .put-attributes .ensures .kept;
+      wrote =
+          λ k n N x A. wrote-text (start-parts n (stateOf (start .args .due)) x)
+          (and-then w₁ (and-then (at-put-name .put-name .ensures k n N)
+          (and-then (at-put-state .put-state .ensures) (at-put-attributes .put-attributes .ensures .wrote x A))));
     }
 
 pub put-start-spec : {M : Type 1} → statement M

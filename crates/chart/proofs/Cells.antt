@@ -1,0 +1,56 @@
+-- Places of cells.
+use mathlib.Core.Path.{_≡_, _∙_}
+use mathlib.Core.List.{List}
+use Prim.Native.Nat.{ℕ, _+_, _*_, _/_, _<_, _≤_}
+use native.Mathlib.Nat.{mul-le-mul, add-mul, mul-add}
+use native.Mathlib.Decide.{ℕ-discrete}
+use native.Mathlib.Omega.{arith}
+use lib.ListN.{length, getD, set}
+use lib.Seq.{getD-set-same, getD-set-other}
+use mir.Syntax.{w64}
+use mir.Val.{Fits}
+use Rattle.chart.specs.Heights.{before, stretches, cellAt, none}
+
+-- (j + 1) (j + 2) is j (j + 1) and twice j + 1
+next-twice : (j : ℕ) → (j + 1) * (j + 2) ≡ j * (j + 1) + 2 * (j + 1)
+next-twice j = omega (arith, add-mul j 1 (j + 2), mul-add j j 2, mul-add j j 1)
+
+-- the stretches that end at j
+pub before-next : (j i n : ℕ) → i ≤ j → j ≤ n → before j + i < stretches n
+before-next j i n h l =
+    let e = next-twice j in
+    let q : (j + 1) * (j + 2) ≤ (n + 1) * (n + 2) = mul-le-mul {n₁ = j + 1} {m₁ = j + 2} {n₂ = n + 1} {m₂ = n + 2} (omega arith) (omega arith) in
+    omega arith
+
+pub cell-lt : (n p i j len : ℕ) → i ≤ j → j ≤ n → (p + 1) * stretches n ≤ len → cellAt n p i j < len
+cell-lt n p i j len h l room = omega (arith, before-next j i n h l, add-mul p 1 (stretches n))
+
+-- what `cell` computes fits
+pub square-fits : (a b : ℕ) → a ≤ 121 → b ≤ 122 → Fits w64 (a * b)
+square-fits a b ha hb =
+    let k : a * b ≤ 121 * 122 = mul-le-mul {n₁ = a} {m₁ = b} {n₂ = 121} {m₂ = 122} ha hb in
+    record { fits = omega arith }
+
+small : (a b : ℕ) → a ≤ 121 → b ≤ 122 → a * b / 2 ≤ 7381
+small a b ha hb =
+    let k : a * b ≤ 121 * 122 = mul-le-mul {n₁ = a} {m₁ = b} {n₂ = 121} {m₂ = 122} ha hb in
+    omega arith
+
+pub stretches-small : (n : ℕ) → n ≤ 120 → stretches n ≤ 7381
+stretches-small n h = small (n + 1) (n + 2) (omega arith) (omega arith)
+
+pub rows-small : (p n : ℕ) → p ≤ 512 → n ≤ 120 → p * stretches n ≤ 3779072
+rows-small p n hp hn = mul-le-mul {n₁ = p} {m₁ = stretches n} {n₂ = 512} {m₂ = 7381} hp (stretches-small n hn)
+
+pub rows-fit : (p n : ℕ) → p ≤ 512 → n ≤ 120 → Fits w64 (p * stretches n)
+rows-fit p n hp hn = record { fits = omega (arith, rows-small p n hp hn) }
+
+pub before-small : (j : ℕ) → j ≤ 120 → before j ≤ 7381
+before-small j h = small j (j + 1) (omega arith) (omega arith)
+
+-- one cell more holds nothing
+pub clear-next : (t : List ℕ) (x : ℕ) → x < length t → ((y : ℕ) → y < x → getD t y 0 ≡ none) → (y : ℕ) → y < x + 1 → getD (set t x none) y 0 ≡ none
+clear-next t x h a y l = elim (ℕ-discrete y x) as (λ _. getD (set t x none) y 0 ≡ none) [
+  | yes e ↦ rw e (getD-set-same t x none 0 h)
+  | no e ↦ getD-set-other t x y none 0 e ∙ a y (omega arith)
+]

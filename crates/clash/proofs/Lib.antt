@@ -1,4 +1,0 @@
-pub mod Laws
-pub mod Steps
-pub mod Tallies
-pub mod Sights

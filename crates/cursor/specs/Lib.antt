@@ -1,0 +1,3 @@
+pub mod Rest
+pub mod Ahead
+pub mod Events

@@ -1,0 +1,158 @@
+-- The document of a root, by the row that stands in it.
+use mathlib.Core.Path.{_≡_, refl, sym, ap, ap₂, _∙_}
+use mathlib.Core.Bool.{Bool, true, false, not, _||_}
+use mathlib.Core.List.{List, [], _∷_}
+use mathlib.Core.Logic.{⊎-elim}
+use Prim.Native.Nat.{ℕ, _+_}
+use lib.Dec.{eqb}
+use lib.ListN.{getD}
+use borrow.Author.Tests.{eq-eqb, eqb-true, eqb-false}
+use Rattle.text.specs.Lists.{Text, pick, same}
+use Rattle.text.proofs.Lists.{or-false}
+use Rattle.text.proofs.Tests.{look}
+use Rattle.tree.specs.Tree.{Mark, unmarked, included, attribute, deleted, Symbol, Grammar}
+use Rattle.tree.specs.Tokens.{markNumber}
+use Rattle.derive.specs.Derive.{Row, root}
+use Rattle.xml.specs.Names.{xmlName}
+use Rattle.plain.specs.Plain.{ruleMark}
+use Rattle.xml.specs.Document.{Xml, nodes, markOf, document, twice, misnamed, unwritable, isAttribute, notOne, namespaced}
+use Rattle.left_parse.specs.Noted.{Room}
+use Rattle.left_parse.specs.Steps.{Found, Named}
+use Rattle.markup.specs.Pieces.{Headed}
+use Rattle.cursor.specs.Ahead.{AtRow, SomeRow, rootAt}
+use Rattle.cursor.specs.declared.Cursor.{Cursor}
+use Rattle.writer.specs.Whole.{Job, Some}
+use Rattle.writer.proofs.Whole.{Rooted, rooted, root-row, row-again, found-first, head-number, document-deleted, document-element}
+use Rattle.xml_shape.specs.Judges.{Judges}
+use Rattle.xml_shape.specs.Names.{repeated}
+use Rattle.dynamic_errors.specs.declared.Findings.{Findings}
+use Rattle.dynamic_errors.specs.declared.Verdict.{Verdict}
+use Rattle.dynamic_errors.specs.Within.{RowFound}
+use Rattle.dynamic_errors.specs.Judgment.{topmost, judgment, judgmentOf, around, withinRoot, misnamedIn, notOneIn, verdictOf, RowJudged, Judged}
+
+-- each judgment of the document, from that of the row: 17
+module _ (n : Text) (x : Xml) where
+  twice-around : (b : Bool) → withinRoot b x (twice x) ≡ twice (around b n x)
+  unfolding twice
+  twice-around true = refl
+  twice-around false = sym (or-false (repeated x || twice x))
+
+  -- 18
+  misnamed-around : (b : Bool) → misnamedIn b n (misnamed x) ≡ misnamed (around b n x)
+  unfolding misnamed
+  misnamed-around true = refl
+  misnamed-around false = sym (or-false (not (xmlName n) || misnamed x))
+
+  -- 19
+  unwritable-around : (b : Bool) → unwritable x ≡ unwritable (around b n x)
+  unfolding unwritable
+  unwritable-around true = refl
+  unwritable-around false = sym (or-false (unwritable x))
+
+  -- 21
+  not-one-around : (b : Bool) → notOneIn b x ≡ notOne (around b n x)
+  unfolding notOne
+  not-one-around true = refl
+  not-one-around false = refl
+
+  -- 22
+  namespaced-around : (b : Bool) → namespaced x ≡ namespaced (around b n x)
+  unfolding namespaced
+  namespaced-around true = refl
+  namespaced-around false = sym (or-false (namespaced x))
+
+-- a row is judged in parts
+module _ {T P S : List ℕ} {h : Cursor} {d : Bool} where
+  -- a deleted root: the row is all
+  pub twice-deleted : d ≡ true → (b : Bool) → Judges (λ x. withinRoot d x b) T P S S h b
+  twice-deleted e b = record { kept = refl; is = λ r x A. ap (λ (c : Bool). withinRoot c x b) (sym e) }
+
+  -- the same for one element
+  pub not-one-deleted : d ≡ true → {S′ : List ℕ} {b : Bool} → Judges notOne T P S S′ h b → Judges (notOneIn d) T P S S′ h b
+  not-one-deleted e J = record { kept = J .kept; is = λ r x A. J .is r x A ∙ ap (λ (c : Bool). notOneIn c x) (sym e) }
+
+  -- an element: its own attributes are compared too
+  pub twice-element : d ≡ false → {S′ : List ℕ} {a c : Bool} (b : Bool) → Judges repeated T P S S′ h a → c ≡ (a || b) → Judges (λ x. withinRoot d x b) T P S S′ h c
+  twice-element e b K f = record { kept = K .kept; is = λ r x A. f ∙ ap (λ (a : Bool). a || b) (K .is r x A) ∙ ap (λ (c : Bool). withinRoot c x b) (sym e) }
+
+  -- an element is one
+  pub not-one-element : d ≡ false → Judges (notOneIn d) T P S S h false
+  not-one-element e = record { kept = refl; is = λ r x A. ap (λ (c : Bool). notOneIn c x) (sym e) }
+
+-- a row stands as before
+pub standing-again : {T P : List ℕ} {r : Text} {S S′ : List ℕ} {h : Cursor} → S′ ≡ S → SomeRow T P r S h → SomeRow T P r S′ h
+standing-again e D = rw e D
+
+-- equal tests have equal numbers
+same-line : {t t′ m m′ u u′ b b′ n n′ : Bool} (a : Bool) → t ≡ t′ → m ≡ m′ → u ≡ u′ → b ≡ b′ → n ≡ n′
+    → topmost t m u a b n ≡ topmost t′ m′ u′ a b′ n′
+same-line a e f g h i = rw (e, f, g, h, i)
+
+-- the judgments of a row make that of the root
+pub row-judged : {T P : List ℕ} {r : Text} {S S₁ S₂ S₃ : List ℕ} {head mark : ℕ} {h : Cursor} {d t m b : Bool} {f : Findings} {q : ℕ}
+    → d ≡ eqb mark 23 → RowFound T P r S S₁ h f → Judges (λ x. withinRoot d x (f .twice)) T P S₁ S₂ h t
+    → ((k : ℕ) (n : Text) → Named T head k n → m ≡ misnamedIn d n (f .faults .misnamed)) → Judges (notOneIn d) T P S₂ S₃ h b
+    → q ≡ topmost t m (f .faults .unwritable) (eqb mark 22) b (f .faults .namespaced) → RowJudged T P r S S₃ head mark h q
+row-judged {T} {P} {r} {S} {S₁} {S₂} {S₃} {head} {mark} {h} {d} {t} {m} {b} {f} {q} de F J M K e = record { kept = K .kept ∙ J .kept ∙ F .told .kept; is = go }
+  where
+    go : (k : ℕ) (n : Text) → Named T head k n → (x : Xml) → AtRow T P r S h x → q ≡ judgment (eqb mark 22) (around (eqb mark 23) n x)
+    go k n N x A =
+        let A₁ : AtRow T P r S₁ h x = rw (F .told .kept) A in
+        let A₂ : AtRow T P r S₂ h x = rw (J .kept) A₁ in
+        let D = F .told .finds x A in
+        e
+        ∙ same-line
+        (eqb mark 22)
+        (J .is r x A₁ ∙ ap (withinRoot d x) (F .twice .is r x A) ∙ twice-around n x d)
+        (M k n N ∙ ap (misnamedIn d n) (D .misnamed) ∙ misnamed-around n x d)
+        (D .unwritable ∙ unwritable-around n x d)
+        (K .is r x A₂ ∙ not-one-around n x d)
+        (D .namespaced ∙ namespaced-around n x d)
+        ∙ ap (λ (c : Bool). judgment (eqb mark 22) (around c n x)) de
+
+-- a name is the same as itself
+same-self : (t : Text) → same t t ≡ true
+same-self [] = refl
+same-self (c ∷ cs) = rw (eq-eqb c c refl) (same-self cs)
+
+-- the root's mark is that of the first rule
+root-mark : (g : Grammar) → markOf g (root g) ≡ g .root .mark
+root-mark g = ap (λ (b : Bool). pick b (g .root .mark) (ruleMark (g .others) (g .root .name))) (same-self (g .root .name))
+
+-- a mark is @ where its number says so
+attribute-number : (m : Mark) → eqb (20 + markNumber m) 22 ≡ isAttribute m
+unfolding isAttribute
+attribute-number unmarked = refl
+attribute-number included = refl
+attribute-number attribute = refl
+attribute-number deleted = refl
+
+-- the document stands around what is in the root
+document-around : {T P : List ℕ} {r : Text} {S : List ℕ} {item : ℕ} {g : Grammar} {t : Row} (R : Rooted T P r S item g t)
+    → document g r t ≡ around (eqb (20 + markNumber (g .root .mark)) 23) (g .root .name) (R .inner)
+document-around {g = g} R =
+    let k = 20 + markNumber (g .root .mark) in
+    ⊎-elim (λ e. document-deleted R (eqb-true k 23 e) ∙ ap (λ (b : Bool). around b (g .root .name) (R .inner)) (sym e))
+    (λ e. document-element R (eqb-false k 23 e) ∙ ap (λ (b : Bool). around b (g .root .name) (R .inner)) (sym e)) (look (eqb k 23))
+
+-- the row in the root begins at its alternative
+pub root-standing : {T : List ℕ} {x : ℕ} {P : List ℕ} {r : Text} {S : List ℕ} {a item : ℕ} {c : Cursor} → Room T P S → Some T x P r S
+    → a ≡ getD P 0 0 → Found T x a item → c ≡ rootAt item → SomeRow T P r S c
+root-standing {P = P} {item = item} room J e F ce = row-again ce refl (root-row (rooted room (J .job) item (found-first P e F)))
+
+-- the verdict on the root is that on the derivation
+pub root-judged : {T : List ℕ} {x : ℕ} {P : List ℕ} {r : Text} {S S′ : List ℕ} {head mark a item q : ℕ} {c : Cursor} {v : Verdict}
+    → Room T P S → Headed T head → mark ≡ getD T head 0 → a ≡ getD P 0 0 → Found T x a item → c ≡ rootAt item
+    → RowJudged T P r S S′ head mark c q → v ≡ verdictOf q → Judged T x P r S S′ v
+root-judged {T} {x} {P} {r} {S} {S′} {head} {mark} {a} {item} {q} {c} {v} room H me ae F ce J f = record { kept = J .kept; is = λ g t job. f ∙ ap verdictOf (go g t job) }
+  where
+    go : (g : Grammar) (t : Row) → Job T x P r S g t → q ≡ judgmentOf g r t
+    go g t job =
+        let R = rooted room job item (found-first P ae F) in
+        let N = H .named g (job .tokens) in
+        let n = g .root .name in
+        let k = 20 + markNumber (g .root .mark) in
+        let e : mark ≡ k = me ∙ head-number N in
+        J .is k n N (R .inner) (rw ce (R .stands))
+        ∙ ap (λ (j : ℕ). judgment (eqb j 22) (around (eqb j 23) n (R .inner))) e
+        ∙ ap₂ judgment (attribute-number (g .root .mark) ∙ ap isAttribute (sym (root-mark g))) (sym (document-around R))

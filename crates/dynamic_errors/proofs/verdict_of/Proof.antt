@@ -1,0 +1,12 @@
+use Rattle.dynamic_errors.proofs.Verdicts.{on-none, on-some}
+use Rattle.dynamic_errors.proofs.verdict_of.Statement.{statement}
+use Rattle.dynamic_errors.proofs.verdict_of.Tie as tie
+
+returns : tie.Need-returns
+returns c = on-none (c .if1 .taken)
+
+returns-2 : tie.Need-returns-2
+returns-2 c = on-some (c .if1 .left)
+
+pub verdict-of-spec : {M : Type 1} → statement M
+verdict-of-spec = tie.close (tie.spec returns returns-2)

@@ -1,0 +1,241 @@
+// What forbids to write the document of a left parse: refusals 17 to 22.
+ghost use mathlib.Core.Path.{_≡_};
+ghost use mathlib.Core.Bool.{_||_};
+ghost use Prim.Native.Nat.{ℕ, _<_, _≤_};
+ghost use lib.ListN.{length};
+ghost use Rattle.text.specs.Lists.{Text, pick};
+ghost use Rattle.items.specs.Items.{kindAt};
+ghost use Rattle.left_parse.specs.Noted.{Room};
+ghost use Rattle.left_parse.specs.Steps.{Named};
+ghost use Rattle.cursor.specs.Ahead.{SomeRow, SomeNode};
+ghost use Rattle.writer.specs.Whole.{Some as SomeJob};
+ghost use Rattle.xml_shape.specs.Judges.{Judges};
+ghost use Rattle.dynamic_errors.specs.Within.{Repeats, RowFound};
+ghost use Rattle.dynamic_errors.specs.Judgment.{topmost, withinRoot, misnamedIn, notOneIn, verdictOf, RowJudged, Judged};
+use cursor::Cursor;
+use cursor::Event;
+use text::refusals;
+use xml_names::Faults;
+
+// Heads of rules that are marked `-` and `@`.
+const DELETED_HEAD: usize = tokens::RULE_HEAD_DELETED as usize;
+
+const ATTRIBUTE_HEAD: usize = tokens::RULE_HEAD_ATTRIBUTE as usize;
+
+// Whether an element has an attribute twice.
+fn repeats_in(
+    table: &[u32],
+    parse: &[u32],
+    scratch: &mut [u32],
+    seen: &mut [u32],
+    c: Cursor,
+) -> bool
+    requires { ⌜ length (now parse) ≤ length (now seen) ⌝ }
+    requires { ⌜ (kindAt (now table) (c .at .item) ≡ 2) × ((r : Text) × SomeNode (now table) (now parse) r (now scratch) c) ⌝ }
+    ensures { λ b. ⌜ Repeats (now (table .entry)) (now (parse .entry)) (now (scratch .entry)) (now (scratch .exit)) c b ⌝ }
+{
+    let first = cursor::inside(table, parse, scratch, c);
+    xml_shape::repeats_attribute(table, parse, scratch, seen, first)
+}
+
+// What is found in a row: whether an element, at any depth, has an attribute twice; and the faults.
+pub struct Findings {
+    pub twice: bool,
+    pub faults: Faults,
+}
+
+// What is found in a row. Nothing is promised of `seen`.
+fn found_in(
+    table: &[u32],
+    parse: &[u32],
+    record: &[u32],
+    scratch: &mut [u32],
+    seen: &mut [u32],
+    first: Cursor,
+) -> Findings
+    requires { ⌜ length (now parse) ≤ length (now seen) ⌝ }
+    requires { ⌜ SomeRow (now table) (now parse) (now «record») (now scratch) first ⌝ }
+    ensures { λ f. ⌜ RowFound (now (table .entry)) (now (parse .entry)) (now («record» .entry)) (now (scratch .entry)) (now (scratch .exit)) first f ⌝ }
+{
+    let mut twice = false;
+    let mut faults = Faults {
+        misnamed: false,
+        unwritable: false,
+        namespaced: false,
+    };
+    let mut at = first;
+    loop {
+        let event = cursor::next(table, parse, scratch, at);
+        match event {
+            Event::Text(n) => {
+                let p = cursor::text_at(table, n);
+                faults = xml_names::join(faults, xml_names::of_text(table, record, p));
+                at = cursor::skip(table, parse, scratch, n);
+            }
+            Event::Open(token, n) => {
+                faults = xml_names::join(faults, xml_names::of_name(table, token));
+                twice = text::either(twice, repeats_in(table, parse, scratch, seen, n));
+                at = cursor::enter(table, parse, scratch, n);
+            }
+            Event::Attribute(token, n) => {
+                faults = xml_names::join(faults, xml_names::of_attribute(table, token));
+                at = cursor::enter(table, parse, scratch, n);
+            }
+            Event::Close(_, n) => {
+                at = n;
+            }
+            Event::End => {
+                return Findings { twice, faults };
+            }
+        }
+    }
+}
+
+// 17: an attribute twice, with those that the document's element has from its row.
+fn twice_in(
+    table: &[u32],
+    parse: &[u32],
+    scratch: &mut [u32],
+    seen: &mut [u32],
+    first: Cursor,
+    deleted: bool,
+    within: bool,
+) -> bool
+    requires { ⌜ length (now parse) ≤ length (now seen) ⌝ }
+    requires { ⌜ ((r : Text) × SomeRow (now table) (now parse) r (now scratch) first) ⌝ }
+    ensures { λ b. ⌜ Judges (λ x. withinRoot deleted x within) (now (table .entry)) (now (parse .entry)) (now (scratch .entry)) (now (scratch .exit)) first b ⌝ }
+{
+    if deleted {
+        return within;
+    }
+    let again = xml_shape::repeats_attribute(table, parse, scratch, seen, first);
+    text::either(again, within)
+}
+
+// 18: a name that is no XML name, with the name of the document's element.
+fn misnamed_in(table: &[u32], head: usize, deleted: bool, found: bool) -> bool
+    requires { ⌜ head < 4294967298 ⌝ }
+    ensures { λ b. ⌜ ((k : ℕ) (n : Text) → Named (now (table .entry)) head k n → b ≡ misnamedIn deleted n found) ⌝ }
+{
+    if deleted {
+        return found;
+    }
+    let bad = xml_names::bad_name(table, head);
+    text::either(bad, found)
+}
+
+// 21: not one element. A root that is not deleted is one.
+fn not_one_in(
+    table: &[u32],
+    parse: &[u32],
+    scratch: &mut [u32],
+    first: Cursor,
+    deleted: bool,
+) -> bool
+    requires { ⌜ ((r : Text) × SomeRow (now table) (now parse) r (now scratch) first) ⌝ }
+    ensures { λ b. ⌜ Judges (notOneIn deleted) (now (table .entry)) (now (parse .entry)) (now (scratch .entry)) (now (scratch .exit)) first b ⌝ }
+{
+    if deleted {
+        return xml_shape::not_one(table, parse, scratch, first);
+    }
+    false
+}
+
+// A line of the table: its number if it applies, else what the lines below give.
+fn line(applies: bool, number: u32, below: u32) -> u32
+    ensures { λ r. ⌜ r ≡ pick applies number below ⌝ }
+{
+    if applies {
+        return number;
+    }
+    below
+}
+
+// The number of the topmost line that applies.
+fn top_line(
+    twice: bool,
+    misnamed: bool,
+    unwritable: bool,
+    attribute: bool,
+    beside: bool,
+    namespaced: bool,
+) -> u32
+    ensures { λ r. ⌜ r ≡ topmost twice misnamed unwritable attribute beside namespaced ⌝ }
+{
+    let n = line(namespaced, refusals::ATTRIBUTE_XMLNS, refusals::ANSWERED);
+    let n = line(beside, refusals::DELETED_ROOT, n);
+    let n = line(attribute, refusals::ATTRIBUTE_ROOT, n);
+    let n = line(unwritable, refusals::NOT_XML_CHARACTER, n);
+    let n = line(misnamed, refusals::NOT_XML_NAME, n);
+    line(twice, refusals::REPEATED_ATTRIBUTE, n)
+}
+
+// The judgment of a root, whose token is known, by the row that stands in it.
+fn judge_row(
+    table: &[u32],
+    parse: &[u32],
+    record: &[u32],
+    scratch: &mut [u32],
+    seen: &mut [u32],
+    head: usize,
+    mark: usize,
+    first: Cursor,
+) -> u32
+    requires { ⌜ (length (now parse) ≤ length (now seen)) × (head < 4294967298) ⌝ }
+    requires { ⌜ SomeRow (now table) (now parse) (now «record») (now scratch) first ⌝ }
+    ensures { λ q. ⌜ RowJudged (now (table .entry)) (now (parse .entry)) (now («record» .entry)) (now (scratch .entry)) (now (scratch .exit)) head mark first q ⌝ }
+{
+    let deleted = mark == DELETED_HEAD;
+    let found = found_in(table, parse, record, scratch, seen, first);
+    let f = found.faults;
+    let twice = twice_in(table, parse, scratch, seen, first, deleted, found.twice);
+    let misnamed = misnamed_in(table, head, deleted, f.misnamed);
+    let beside = not_one_in(table, parse, scratch, first, deleted);
+    let attribute = mark == ATTRIBUTE_HEAD;
+    top_line(
+        twice,
+        misnamed,
+        f.unwritable,
+        attribute,
+        beside,
+        f.namespaced,
+    )
+}
+
+// What is said of a document: it may be written, or the number of what forbids it.
+pub enum Verdict {
+    Allowed,
+    Forbidden(u32),
+}
+
+// The verdict that a number stands for.
+fn verdict_of(number: u32) -> Verdict
+    ensures { λ v. ⌜ v ≡ verdictOf number ⌝ }
+{
+    if number == 0 {
+        return Verdict::Allowed;
+    }
+    Verdict::Forbidden(number)
+}
+
+// 17 to 22 of a left parse. `scratch` has its notes, and keeps them; nothing is promised of `seen`.
+pub fn first_error(
+    table: &[u32],
+    root: usize,
+    parse: &[u32],
+    record: &[u32],
+    scratch: &mut [u32],
+    seen: &mut [u32],
+) -> Verdict
+    requires { ⌜ length (now parse) ≤ length (now seen) ⌝ }
+    requires { ⌜ Room (now table) (now parse) (now scratch) × SomeJob (now table) root (now parse) (now «record») (now scratch) ⌝ }
+    ensures { λ v. ⌜ Judged (now (table .entry)) root (now (parse .entry)) (now («record» .entry)) (now (scratch .entry)) (now (scratch .exit)) v ⌝ }
+{
+    let head = markup::head_at(table);
+    let mark = tokens::look(table, head);
+    let a = tokens::look(parse, 0);
+    let item = left_parse::alternative(table, root, a);
+    let first = cursor::at_root(item);
+    let number = judge_row(table, parse, record, scratch, seen, head, mark, first);
+    verdict_of(number)
+}

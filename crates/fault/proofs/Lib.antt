@@ -1,5 +1,0 @@
-pub mod Laws
-pub mod Names
-pub mod Trees
-pub mod Walks
-pub mod Steps

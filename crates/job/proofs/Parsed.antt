@@ -1,0 +1,59 @@
+-- From the stages of a job to what they come to together.
+use mathlib.Core.Bool.{Bool, false, _&&_}
+use mathlib.Core.Path.{_≡_, ap, _∙_, subst}
+use mathlib.Core.Logic.{⊎-elim}
+use mathlib.Core.List.{List}
+use Prim.Native.Nat.{ℕ}
+use native.Mathlib.Omega.{arith}
+use lib.Dec.{eqb}
+use borrow.Author.Tests.{ne-eqb}
+use Rattle.answer.specs.Answer.{Job}
+use Rattle.answer.specs.Compute.{mismatch}
+use Rattle.job.specs.declared.Start.{Start}
+use Rattle.job.specs.declared.Found.{Found}
+use Rattle.job.specs.declared.Begun.{Begun}
+use Rattle.job.specs.declared.Begun.the-variants.{At, Refused as Ended}
+use Rattle.job.specs.declared.Read.{Read}
+use Rattle.job.specs.declared.Read.the-variants.{Reading, Refused as Not-read}
+use Rattle.job.specs.Stages.{Started, Begins}
+use Rattle.job.specs.Found.{Ends}
+use Rattle.job.specs.Parses.{whyBegun, whyRead, IsChosen, NotChosen}
+
+module _ (j : Job) (T new : List ℕ) where
+  pub begun-at : (b : Begun) (s : Start) → b ≡ At s → Begins j T new b → Started j T new s
+  begun-at b s q w = subst (Begins j T new) q w
+
+  -- a stage before 16 refuses
+  pub ended : (b : Begun) (k n : ℕ) → b ≡ Ended k → n ≡ whyBegun b → Begins j T new b → NotChosen j (record { number = n; mismatch = false })
+  ended b k n q e w =
+      let s = subst (Begins j T new) q w in
+      let h : n ≡ k = e ∙ ap whyBegun q in
+      rw h (record { some = s .some; is = s .is; version = rw (ne-eqb k 16 (λ z. omega (arith, s .early))) })
+
+  module _ (s : Start) (w : Started j T new s) (T′ P : List ℕ) (r : Read) where
+    -- there is no reading, or it is too long
+    pub not-chosen : (k n : ℕ) → r ≡ Not-read k → n ≡ whyRead r → Ends j T new s w T′ P r → NotChosen j (record { number = n; mismatch = s .passed .mismatch })
+    not-chosen k n q e x =
+        let y = subst (Ends j T new s w T′ P) q x in
+        let h : n ≡ k = e ∙ ap whyRead q in
+        rw h (record { some = λ z. ⊎-elim (λ u. omega arith) (λ u. omega arith) (y .late); is = y .is; version = ap (λ (b : Bool). eqb k 16 && b) (w .grammar .version) })
+
+    pub chosen : (f : Found) → r ≡ Reading f → Ends j T new s w T′ P r
+        → IsChosen j T′ new P (record { root = f .root; count = f .count; chars = s .chars; ambiguous = f .ambiguous; mismatch = s .passed .mismatch })
+    chosen f q x =
+        let y = subst (Ends j T new s w T′ P) q x in
+        record {
+          tree = w .grammar .tree;
+          is = w .grammar .is;
+          version = w .grammar .version;
+          input = w .input;
+          first = y .first;
+          row = y .row;
+          choice = y .choice;
+          mark = y .mark;
+          count = y .count;
+          short = y .short;
+          list = y .list;
+          items = y .items;
+          tokens = y .tokens;
+        }

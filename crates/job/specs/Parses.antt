@@ -1,0 +1,72 @@
+-- What all the stages together answer: the left parse of the chosen reading, or the first refusal.
+use mathlib.Core.Bool.{false, _&&_}
+use mathlib.Core.Path.{_≡_}
+use mathlib.Core.List.{List}
+use Prim.Native.Nat.{ℕ, _≤_}
+use lib.Dec.{eqb}
+use lib.ListN.{length, take}
+use Rattle.text.specs.Limits.{grammarTable, recordChars, readingNumbers}
+use Rattle.tree.specs.Tree.{Grammar}
+use Rattle.tree.specs.Tokens.{grammarTokens}
+use Rattle.syntax.specs.Parser.{parsed}
+use Rattle.derive.specs.Derive.{Row, leftParse}
+use Rattle.derive.specs.Pick.{found, chosenOf}
+use Rattle.derive.specs.Another.{ambiguousOf}
+use Rattle.items.specs.Items.{Items, Reads}
+use Rattle.answer.specs.Answer.{Job}
+use Rattle.answer.specs.Compute.{Test, firstOf, treeOf, mismatch}
+use Rattle.job.specs.declared.Begun.{Begun}
+use Rattle.job.specs.declared.Begun.the-variants.{At, Refused as Ended}
+use Rattle.job.specs.declared.Read.{Read}
+use Rattle.job.specs.declared.Read.the-variants.{Reading, Refused as Not-read}
+use Rattle.job.specs.declared.LeftParse.{LeftParse}
+use Rattle.job.specs.declared.Refusal.{Refusal}
+use Rattle.job.specs.declared.Parse.{Parse}
+use Rattle.job.specs.declared.Parse.the-variants.{Chosen, Refused}
+use Rattle.job.specs.Stages.{Got}
+use Rattle.job.specs.Found.{firstTest}
+
+-- the number of each refusal
+abbrev pub whyBegun : Begun → ℕ
+whyBegun (At s) = 0
+whyBegun (Ended n) = n
+
+abbrev pub whyRead : Read → ℕ
+whyRead (Reading f) = 0
+whyRead (Not-read n) = n
+
+abbrev pub whyRefused : Parse → Refusal
+whyRefused (Chosen p) = record { number = 0; mismatch = false }
+whyRefused (Refused r) = r
+
+-- the lengths of the lent buffers
+pub record Lent (T new P : List ℕ) : Type 0 where
+  pub table : length T ≡ grammarTable
+  pub text : length new ≡ recordChars
+  pub room : readingNumbers ≤ length P
+
+-- the left parse of the chosen reading stands in `P`, the grammar's tokens and plain rules in `T`, the record's characters in `new`
+pub record IsChosen (j : Job) (T new P : List ℕ) (p : LeftParse) : Type 0 where
+  pub tree : Grammar
+  pub is : treeOf (j .grammar) ≡ parsed tree
+  pub version : p .mismatch ≡ mismatch (j .grammar)
+  pub input : Got (j .input) new (p .chars)
+  pub first : (ts : List Test) → firstTest j ts ≡ firstOf ts
+  pub row : Row
+  pub choice : chosenOf tree (input .chars) ≡ found row
+  pub mark : p .ambiguous ≡ ambiguousOf tree (input .chars) row
+  pub count : p .count ≡ length (leftParse row)
+  pub short : p .count ≤ readingNumbers
+  pub list : take (p .count) P ≡ leftParse row
+  pub items : Items T tree (p .root)
+  pub tokens : Reads T 0 (grammarTokens tree)
+
+-- a refusal, with what 16 alone says of the version
+pub record NotChosen (j : Job) (r : Refusal) : Type 0 where
+  pub some : r .number ≡ 0 → ⊥
+  pub is : (ts : List Test) → firstTest j ts ≡ r .number
+  pub version : (eqb (r .number) 16 && r .mismatch) ≡ (eqb (r .number) 16 && mismatch (j .grammar))
+
+abbrev pub Parses : Job → List ℕ → List ℕ → List ℕ → Parse → Type 0
+Parses j T new P (Chosen p) = IsChosen j T new P p
+Parses j T new P (Refused r) = NotChosen j r

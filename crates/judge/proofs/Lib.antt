@@ -1,3 +1,0 @@
-pub mod Hunts
-pub mod Roots
-pub mod Verdicts

@@ -1,0 +1,41 @@
+use mathlib.Core.Path.{_≡_, refl}
+use native.Mathlib.Omega.{arith}
+use Prim.Native.Nat.{_≤_}
+use lib.ListN.{length}
+use denote.Ref.{now}
+use borrow.Author.Tests.{lt-ltb, le-ltb, le-leb, lt-leb}
+use Rattle.markup.specs.Out.{puts}
+use borrow.Author.Needs.{needs}
+use Rattle.markup.proofs.put.Statement.{statement}
+use Rattle.markup.proofs.put.Tie as tie
+
+slice-write-out : tie.Need-slice-write-out
+slice-write-out c = search needs
+
+add-result : tie.Need-add-result
+add-result c = search needs
+
+same-length : tie.Need-same-length
+same-length c = search needs
+
+returns : tie.Need-returns
+unfolding puts
+returns c =
+    let l : c .before .args .pos ≤ length (now (c .before .args .out)) = omega (arith, c .if1 .taken, c .before .pre) in
+    rw (lt-ltb _ _ (c .if1 .taken), le-leb _ _ l)
+
+add-result-2 : tie.Need-add-result-2
+add-result-2 c = search needs
+
+returns-2 : tie.Need-returns-2
+unfolding puts
+returns-2 c = rw (le-ltb _ _ (c .before .if1 .left), le-leb _ _ (c .if2 .taken))
+
+returns-3 : tie.Need-returns-3
+unfolding puts
+returns-3 c = rw (le-ltb _ _ (c .before .if1 .left), lt-leb _ _ (c .if2 .left))
+
+pub put-spec : {M : Type 1} → statement M
+put-spec =
+    tie.close
+    (tie.spec slice-write-out add-result same-length returns add-result-2 returns-2 returns-3)

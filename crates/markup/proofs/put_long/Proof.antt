@@ -1,0 +1,81 @@
+use mathlib.Core.Path.{_≡_, refl, sym, _∙_}
+use mathlib.Core.List.{List, [], _∷_}
+use Prim.Native.Nat.{ℕ, _+_, _/_, _%_}
+use denote.Ref.{now}
+use Rattle.text.proofs.Step.{utf8-4}
+use Rattle.markup.specs.Out.{State, state, puts}
+use Rattle.markup.proofs.Puts.{then}
+use borrow.Author.Needs.{needs}
+use Rattle.markup.proofs.put_long.Statement.{statement}
+use Rattle.markup.proofs.put_long.Tie as tie
+
+add-put : tie.Need-add-put
+add-put c = search needs
+
+cast-put : tie.Need-cast-put
+cast-put c = search needs
+
+put-requires : tie.Need-put-requires
+put-requires c κs = search needs
+
+add-put-2 : tie.Need-add-put-2
+add-put-2 c = search needs
+
+cast-put-2 : tie.Need-cast-put-2
+cast-put-2 c = search needs
+
+put-requires-2 : tie.Need-put-requires-2
+put-requires-2 c κs = search needs
+
+add-put-3 : tie.Need-add-put-3
+add-put-3 c = search needs
+
+cast-put-3 : tie.Need-cast-put-3
+cast-put-3 c = search needs
+
+put-requires-3 : tie.Need-put-requires-3
+put-requires-3 c κs = search needs
+
+add-put-4 : tie.Need-add-put-4
+add-put-4 c = search needs
+
+cast-put-4 : tie.Need-cast-put-4
+cast-put-4 c = search needs
+
+put-requires-4 : tie.Need-put-requires-4
+put-requires-4 c κs = search needs
+
+same-length : tie.Need-same-length
+same-length c = search needs
+
+returns : tie.Need-returns
+returns c =
+    let at-put3 = c .before .before .before .before .before .before in
+    let at-put2 = at-put3 .before .before .before .before in
+    let at-put = at-put2 .before .before .before .before in
+    let start = at-put .before .before .before in
+    let x = start .args .c in
+    let l = start .args .limit in
+    rw (utf8-4 x (start .pre .1 .0))
+    (then l _ ((0xf0 + x / 262144) ∷ []) ((0x80 + x / 4096 % 64) ∷ (0x80 + x / 64 % 64) ∷ (0x80 + x % 64) ∷ []) (at-put .put .ensures)
+    (then l _ ((0x80 + x / 4096 % 64) ∷ []) ((0x80 + x / 64 % 64) ∷ (0x80 + x % 64) ∷ []) (at-put2 .put2 .ensures)
+    (then l _ ((0x80 + x / 64 % 64) ∷ []) ((0x80 + x % 64) ∷ []) (at-put3 .put3 .ensures) (c .before .before .put4 .ensures))))
+
+pub put-long-spec : {M : Type 1} → statement M
+put-long-spec =
+    tie.close
+    (tie.spec
+    add-put
+    cast-put
+    put-requires
+    add-put-2
+    cast-put-2
+    put-requires-2
+    add-put-3
+    cast-put-3
+    put-requires-3
+    add-put-4
+    cast-put-4
+    put-requires-4
+    same-length
+    returns)

@@ -1,0 +1,28 @@
+use mathlib.Core.Path.{_≡_, refl}
+use Rattle.markup.proofs.Puts.{wrote-text}
+use borrow.Author.Needs.{needs}
+use Rattle.markup.proofs.put_piece.Statement.{statement}
+use Rattle.markup.proofs.put_piece.Tie as tie
+
+put-text-requires : tie.Need-put-text-requires
+put-text-requires c κs = search needs
+
+same-length : tie.Need-same-length
+same-length c = search needs
+
+returns : tie.Need-returns
+returns c = wrote-text (rw (c .before .before .before .before .if1 .taken)) (c .before .before .put-text .ensures)
+
+put-text-requires-2 : tie.Need-put-text-requires-2
+put-text-requires-2 c κs = search needs
+
+same-length-2 : tie.Need-same-length-2
+same-length-2 c = search needs
+
+returns-2 : tie.Need-returns-2
+returns-2 c = wrote-text (rw (c .before .before .before .before .if1 .left)) (c .before .before .put-text2 .ensures)
+
+pub put-piece-spec : {M : Type 1} → statement M
+put-piece-spec =
+    tie.close
+    (tie.spec put-text-requires same-length returns put-text-requires-2 same-length-2 returns-2)

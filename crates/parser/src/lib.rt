@@ -1,0 +1,31 @@
+// The chosen reading of a record by the items of a grammar.
+ghost use Prim.Native.Nat.{_≤_};
+ghost use lib.ListN.{length};
+ghost use Rattle.tree.specs.Tree.{Grammar};
+ghost use Rattle.prepare.specs.Ready.{Ready};
+ghost use Rattle.reading.specs.Answer.{Answers};
+ghost use Rattle.parser.specs.Choose.{Choosable};
+use reading::Walked;
+
+// The stack of the walk: three numbers for each of a reading's.
+const STACK_LENGTH: usize = 3 * text::limits::READING_NUMBERS;
+
+// The left parse goes to `parse`. What one stage leaves for the next, but for the main table, is local: 119,296 bytes.
+pub fn choose(
+    table: &[u32],
+    size: usize,
+    root: usize,
+    text: &[u32],
+    main: &mut [u32],
+    parse: &mut [u32],
+) -> Walked
+    requires { ⌜ Choosable (now table) size root (now text) (length (now main)) (length (now parse)) ⌝ }
+    ensures { λ r. ⌜ ((g : Grammar) → Ready (now (table .entry)) g size root → Answers g (now (text .entry)) (now (parse .exit)) r) ⌝ }
+{
+    let mut code = [0u32; chart::CODE_LENGTH];
+    let mut fits = [0u8; chart::FITS_LENGTH];
+    let mut stack = [0u32; STACK_LENGTH];
+    let top = prepare::prepare(table, size, root, text, &mut code, &mut fits);
+    engine::fill(&code, &fits, size, text.len(), main);
+    reading::walk(&code, main, text.len(), top, root, parse, &mut stack)
+}

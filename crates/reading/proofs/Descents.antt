@@ -1,0 +1,190 @@
+-- At a symbol: the end place that is found is the chosen one, and the rest of the row is put off.
+use mathlib.Core.Path.{_≡_, subst}
+use mathlib.Core.Logic.{_⊎_, inl, inr, _↔_}
+use mathlib.Core.Bool.{Bool}
+use mathlib.Core.List.{List, _∷_, _++_, append-assoc}
+use Prim.Native.Nat.{ℕ, suc, _+_, _*_, _<_, _≤_}
+use native.Mathlib.Decide.{decLt}
+use native.Mathlib.Omega.{arith}
+use lib.Dec.{T}
+use lib.ListN.{length, take}
+use Rattle.text.specs.Lists.{Text}
+use Rattle.tree.specs.Tree.{Symbol, Grammar}
+use Rattle.derive.specs.Derive.{Row, node, alternative, leftParse}
+use Rattle.derive.proofs.Rows.{forward}
+use Rattle.derive.proofs.Heights.{way-row, row-way}
+use Rattle.derive.proofs.Chosen.{chosen-derives}
+use Rattle.derive.proofs.Picks.{PickedRow}
+use Rattle.derive.proofs.Twice.{Twice, tw-place, tw-number, tw-inside, tw-later, OtherNumber, OtherPlace}
+use Rattle.derive.proofs.Parts.{node-row, NodeRow}
+use Rattle.chart.specs.Code.{nextKind, goesAt, ruleAt, afterDot}
+use Rattle.chart.specs.Heights.{none}
+use Rattle.chart.proofs.Says.{says-low, low-says, says-some, some-says, rule-least, least-rule, rule-some}
+use Rattle.reading.specs.declared.Cursor.{Cursor}
+use Rattle.reading.specs.Walk.{Tells, heightAt, LowEnd, SomeEnd, FirstEnd, OtherEnd, pushed, descended, CanDescend}
+use Rattle.reading.specs.Answer.{Finished}
+use Rattle.reading.proofs.Tables.{position, value-says, SymbolAt, symbol-at}
+use Rattle.reading.proofs.PendingRows.{marked, unmarked, tells-by, Pending, parses, AnyTwice, push-pending, pushed-length}
+use Rattle.reading.proofs.Walks.{Ambiguous, Going, Before, some-low}
+
+-- a node has another place, another alternative, or another way inside or later
+module _ (g : Grammar) (r : Text) where
+  abbrev Parts : ℕ → ℕ → Row → Row → Symbol → List Symbol → ℕ → ℕ → Type 0
+  Parts a m c u s ss i j = OtherPlace g r s ss i j m ⊎ (OtherNumber g r s i m a ⊎ (Twice g r c (alternative g s a) i m ⊎ Twice g r u ss m j))
+
+  pub twice-parts : {a m i j : ℕ} {c u : Row} {s : Symbol} {ss : List Symbol} → Twice g r (node a m c u) (s ∷ ss) i j → Parts a m c u s ss i j
+  twice-parts (tw-place w) = inl w
+  twice-parts (tw-number w) = inr (inl w)
+  twice-parts (tw-inside w) = inr (inr (inl w))
+  twice-parts (tw-later w) = inr (inr (inr w))
+
+  pub parts-twice : {a m i j : ℕ} {c u : Row} {s : Symbol} {ss : List Symbol} → Parts a m c u s ss i j → Twice g r (node a m c u) (s ∷ ss) i j
+  parts-twice (inl w) = tw-place w
+  parts-twice (inr (inl w)) = tw-number w
+  parts-twice (inr (inr (inl w))) = tw-inside w
+  parts-twice (inr (inr (inr w))) = tw-later w
+
+module _ {A B C D : Type 0} where
+  regroup : {E : Type 0} → (A ⊎ (B ⊎ (C ⊎ D))) ⊎ E → A ⊎ (B ⊎ (C ⊎ (D ⊎ E)))
+  regroup (inl (inl x)) = inl x
+  regroup (inl (inr (inl x))) = inr (inl x)
+  regroup (inl (inr (inr (inl x)))) = inr (inr (inl x))
+  regroup (inl (inr (inr (inr x)))) = inr (inr (inr (inl x)))
+  regroup (inr x) = inr (inr (inr (inr x)))
+
+  ungroup : {E : Type 0} → A ⊎ (B ⊎ (C ⊎ (D ⊎ E))) → (A ⊎ (B ⊎ (C ⊎ D))) ⊎ E
+  ungroup (inl x) = inl (inl x)
+  ungroup (inr (inl x)) = inl (inr (inl x))
+  ungroup (inr (inr (inl x))) = inl (inr (inr (inl x)))
+  ungroup (inr (inr (inr (inl x)))) = inl (inr (inr (inr x)))
+  ungroup (inr (inr (inr (inr x)))) = inr x
+
+  first-of : {X E : Type 0} → (X → A ⊎ (B ⊎ (C ⊎ D))) → X ⊎ E → (A ⊎ (B ⊎ (C ⊎ D))) ⊎ E
+  first-of f (inl x) = inl (f x)
+  first-of f (inr x) = inr x
+
+  first-from : {X E : Type 0} → (A ⊎ (B ⊎ (C ⊎ D)) → X) → (A ⊎ (B ⊎ (C ⊎ D))) ⊎ E → X ⊎ E
+  first-from f (inl x) = inl (f x)
+  first-from f (inr x) = inr x
+
+-- beside what is there already
+later : {A B C : Type 0} → (B → C) → A ⊎ B → A ⊎ C
+later f (inl x) = inl x
+later f (inr x) = inr (f x)
+
+module _ {c M : List ℕ} {n top first : ℕ} (t : Finished c M n top first) where
+  -- the symbol at p on i to j with its row
+  module _ {p i j k : ℕ} {row : Row} (S : SymbolAt t p) (l : j ≤ n) (small : k < none) (N : NodeRow (t .g) (t .r) k (S .s) (afterDot (t .code .dots) (p + 1)) i j row) where
+    node-before : i ≤ N .place
+    node-before = forward (t .g) (t .r) (chosen-derives (t .g) (t .r) (N .inside))
+
+    node-after : N .place ≤ j
+    node-after = forward (t .g) (t .r) (chosen-derives (t .g) (t .r) (N .picked .chosen))
+
+    own-end : LowEnd c M n (p + 1) (ruleAt c p) i j k (N .place)
+    own-end =
+        let y = way-row (t .g) (t .r) (N .picked .way) in
+        let q = node-after in
+        let e = least-rule (t .g) (t .r) (S .rule .says i (N .place) node-before (omega arith)) (N .choice .lowest) in
+        let v = low-says (t .g) (t .r) (value-says t (p + 1) (N .place) j (S .next) q l) (y .derives) in
+        record { one = omega (arith, N .low); others = omega (arith, y .high, N .picked .low) }
+
+    end-late : (m : ℕ) → i ≤ m → m ≤ j → LowEnd c M n (p + 1) (ruleAt c p) i j k m → N .place ≤ m
+    end-late m a b w =
+        let u = rule-least (t .g) (t .r) (S .rule .says i m a (omega arith)) (λ e. omega (arith, w .one)) in
+        let v = says-low (t .g) (t .r) k (value-says t (p + 1) m j (S .next) b l) (w .others) small in
+        let y = row-way (t .g) (t .r) (v .derives) in
+        N .smallest m (suc (heightAt M n (ruleAt c p) i m)) (y .k) (Rattle.derive.specs.Chosen.ends (v .row)) u (w .one) (y .way) (omega (arith, y .below, v .low))
+
+    pub end-same : (m : ℕ) → FirstEnd c M n (p + 1) (ruleAt c p) i j k m → m ≡ N .place
+    end-same m w = elim (decLt (N .place) m) as (λ _. m ≡ N .place) [
+      | yes q ↦ absurd (w .first (N .place) node-before q own-end)
+      | no q ↦ omega (arith, end-late m (w .after) (w .before) (w .low))
+    ]
+
+    pub some-end : SomeEnd c M n (p + 1) (ruleAt c p) i j k
+    some-end = record { place = N .place; after = node-before; before = node-after; low = own-end }
+
+  -- other end places, in the tables and in derivations
+  other-place : {p i j m : ℕ} (S : SymbolAt t p) → j ≤ n → OtherEnd c M n (p + 1) (ruleAt c p) i j m → OtherPlace (t .g) (t .r) (S .s) (afterDot (t .code .dots) (p + 1)) i j m
+  other-place {p} {i} {j} S l o =
+      let b = o .before in
+      let u = rule-least (t .g) (t .r) (S .rule .says i (o .place) (o .after) (omega arith)) (o .too .one) in
+      let v = says-some (t .g) (t .r) (value-says t (p + 1) (o .place) j (S .next) b l) (o .too .others) in
+      record { place = o .place; other = o .too .other; tree = u .tree; row = v .row; one = u .derives; others = v .derives }
+
+  other-end : {p i j m : ℕ} (S : SymbolAt t p) → j ≤ n → OtherPlace (t .g) (t .r) (S .s) (afterDot (t .code .dots) (p + 1)) i j m → OtherEnd c M n (p + 1) (ruleAt c p) i j m
+  other-end {p} {i} {j} S l o =
+      let a = forward (t .g) (t .r) (o .one) in
+      let b = forward (t .g) (t .r) (o .others) in
+      record {
+        place = o .place;
+        after = a;
+        before = b;
+        too = record {
+          other = o .other;
+          one = rule-some (t .g) (t .r) (S .rule .says i (o .place) a (omega arith)) (o .one);
+          others = some-says (t .g) (t .r) (value-says t (p + 1) (o .place) j (S .next) b l) (o .others);
+        };
+      }
+
+  -- the symbol at the walk's place, and its node
+  pub symbol-of : {out st : List ℕ} {h : Cursor} {w : Row} → Going t out st h w → (nextKind c (h .p) ≡ 0 → ⊥) → (nextKind c (h .p) ≡ 1 → ⊥) → SymbolAt t (h .p)
+  symbol-of {h = h} G x y = symbol-at t (h .p) (G .inside) x y
+
+  pub node-of : {out st : List ℕ} {h : Cursor} {w : Row} (G : Going t out st h w) (S : SymbolAt t (h .p))
+      → NodeRow (t .g) (t .r) (h .k) (S .s) (afterDot (t .code .dots) (h .p + 1)) (h .i) (h .j) (G .row)
+  node-of {h = h} G S = node-row (t .g) (t .r) (S .rule .other) (subst (λ (ss : List Symbol). PickedRow (t .g) (t .r) (h .k) ss (h .i) (h .j) (G .row)) (S .is) (G .picked))
+
+  pub can-descend : {out st : List ℕ} {h : Cursor} {w : Row} → Going t out st h w → (nextKind c (h .p) ≡ 0 → ⊥) → (nextKind c (h .p) ≡ 1 → ⊥) → CanDescend c M n h
+  can-descend {h = h} G x y =
+      let S = symbol-of G x y in
+      let small = G .small in
+      let within = G .within in
+      record {
+        next = position t (h .p + 1) (S .next);
+        row = position t (ruleAt c (h .p)) (S .rule .inside) .row;
+        ends = some-end S within small (node-of G S);
+        lows = λ m a b l. some-low t (S .rule) a (omega arith) (λ e. omega arith);
+      }
+
+  row-list : (xs ys : List ℕ) (a m : ℕ) (c' u row w : Row) → row ≡ node a m c' u → xs ++ (leftParse row ++ ys) ≡ leftParse w → xs
+      ++ (a ∷ (leftParse c' ++ (leftParse u ++ ys))) ≡ leftParse w
+  row-list xs ys a m c' u row w e f = rw (← append-assoc (leftParse c') (leftParse u) ys) (subst (λ (z : Row). xs ++ (leftParse z ++ ys) ≡ leftParse w) e f)
+
+  pub descend-before : {out st : List ℕ} {h : Cursor} {w : Row} → Going t out st h w → (nextKind c (h .p) ≡ 0 → ⊥) → (nextKind c (h .p) ≡ 1 → ⊥)
+      → (m : ℕ) (b : Bool) → FirstEnd c M n (h .p + 1) (ruleAt c (h .p)) (h .i) (h .j) (h .k) m
+      → Tells b (OtherEnd c M n (h .p + 1) (ruleAt c (h .p)) (h .i) (h .j) m) → Before t (ruleAt c (h .p)) (goesAt c (h .p)) out (pushed st (h .depth) (h .p + 1) (h .j) (h .k)) (descended h m b) w
+  descend-before {out} {st} {h} {w} G x y m b f o =
+      let S = symbol-of G x y in
+      let N = node-of G S in
+      let e = end-same S (G .within) (G .small) N m f in
+      let ss = afterDot (t .code .dots) (h .p + 1) in
+      let q = node-after S (G .within) (G .small) N in
+      let o' = subst (λ (z : ℕ). Tells b (OtherEnd c M n (h .p + 1) (ruleAt c (h .p)) (h .i) (h .j) z)) e o in
+      let told = tells-by o' (other-place S (G .within)) (other-end S (G .within)) in
+      let row-is = N .is in
+      let before = subst (λ (ss : List Symbol). Ambiguous t w ↔ (T (h .mark) ⊎ (Twice (t .g) (t .r) (G .row) ss (h .i) (h .j) ⊎ AnyTwice t (G .pending)))) (S .is) (G .marks) in
+      let before' = subst (λ (z : Row). Ambiguous t w ↔ (T (h .mark) ⊎ (Twice (t .g) (t .r) z (S .s ∷ ss) (h .i) (h .j) ⊎ AnyTwice t (G .pending)))) row-is before in
+      let waiting : Pending t = record { place = h .p + 1; from = N .place; to = h .j; bound = h .k; row = N .others; inside = S .next; within = G .within; small = G .small; picked = N .picked } in
+      let room : 3 * h .depth + 2 < length st = omega (arith, G .written, G .most, G .stack) in
+      rw e (record {
+        s = S .s;
+        rule = S .rule;
+        number = N .number;
+        children = N .children;
+        choice = N .choice;
+        inside = N .inside;
+        within = omega (arith, G .within);
+        pending = waiting ∷ G .pending;
+        stacked = push-pending t waiting room (G .stacked);
+        list = row-list (take (h .at) out) (parses t (G .pending)) (N .number) (N .place) (N .children) (N .others) (G .row) w row-is (G .list);
+        marks = (
+          marked (h .mark) b told (λ a. later (λ z. regroup (first-of (twice-parts (t .g) (t .r)) z)) (before' .0 a)),
+          unmarked (h .mark) b told (λ a. before' .1 (later (λ z. first-from (parts-twice (t .g) (t .r)) (ungroup z)) a)),
+        );
+        written = omega (arith, G .written);
+        most = G .most;
+        room = G .room;
+        stack = omega (arith, pushed-length st (h .depth) (h .p + 1) (h .j) (h .k) room, G .stack);
+      })

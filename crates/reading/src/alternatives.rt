@@ -1,0 +1,93 @@
+// The alternatives of a rule on a stretch: the earliest that is low enough, and whether another derives the stretch too.
+ghost use mathlib.Core.Path.{_≡_};
+ghost use Prim.Native.Nat.{ℕ};
+ghost use Rattle.chart.specs.Code.{goesAt};
+ghost use Rattle.reading.specs.Walk.{Tells, Within, Position, valueAt, Ends, Lined, SomeLow, FirstLow, OtherBy};
+use crate::Alternative;
+use crate::Stretch;
+use crate::table::AFTER_ALTERNATIVE;
+use crate::table::number_at;
+use crate::table::value;
+use chart::NONE;
+
+// The end of the alternative that begins at q.
+fn alternative_end(code: &[u32], q: usize) -> usize
+    requires { ⌜ ((e : ℕ) × Ends (now code) q e) ⌝ }
+    ensures { λ r. ⌜ Ends (now (code .entry)) q r ⌝ }
+{
+    let mut p = q;
+    while number_at(code, 4 * p) != AFTER_ALTERNATIVE {
+        p += 1;
+    }
+    p
+}
+
+// One more than the first position of the alternative that follows the one at q; 0 where none does.
+fn next_alternative(code: &[u32], q: usize) -> usize
+    requires { ⌜ ((e : ℕ) × Ends (now code) q e) ⌝ }
+    ensures { λ r. ⌜ ((e : ℕ) → Ends (now (code .entry)) q e → r ≡ goesAt (now (code .entry)) e) ⌝ }
+{
+    let e = alternative_end(code, q);
+    number_at(code, 4 * e + 1)
+}
+
+// The earliest alternative of height at most k.
+pub fn find_alternative(code: &[u32], main: &[u32], first: usize, s: Stretch, k: u32) -> Alternative
+    requires { ⌜ Within (s .n) (s .i) (s .j) × SomeLow (now code) (now main) (s .n) first (s .i) (s .j) k ⌝ }
+    ensures { λ r. ⌜ FirstLow (now (code .entry)) (now (main .entry)) (s .n) first (s .i) (s .j) k r ⌝ }
+{
+    let mut q = first;
+    let mut a = 0;
+    while k < value(code, main, q, s) {
+        q = next_alternative(code, q) - 1;
+        a += 1;
+    }
+    Alternative {
+        number: a,
+        place: q,
+    }
+}
+
+// Whether the alternative a, which begins at q, is another one than `number` and derives the stretch.
+fn another_derives(
+    code: &[u32],
+    main: &[u32],
+    q: usize,
+    s: Stretch,
+    a: usize,
+    number: usize,
+) -> bool
+    requires { ⌜ Position (now code) (now main) (s .n) q × Within (s .n) (s .i) (s .j) ⌝ }
+    ensures { λ r. ⌜ Tells r ((a ≡ number → ⊥) × (valueAt (now (code .entry)) (now (main .entry)) (s .n) q (s .i) (s .j) ≡ 4294967295 → ⊥)) ⌝ }
+{
+    if a == number {
+        return false;
+    }
+    value(code, main, q, s) != NONE
+}
+
+// Whether an alternative other than `number` derives the stretch.
+pub fn other_alternative(
+    code: &[u32],
+    main: &[u32],
+    first: usize,
+    s: Stretch,
+    number: usize,
+) -> bool
+    requires { ⌜ Within (s .n) (s .i) (s .j) × Lined (now code) (now main) (s .n) first ⌝ }
+    ensures { λ r. ⌜ Tells r (OtherBy (now (code .entry)) (now (main .entry)) (s .n) first (s .i) (s .j) number) ⌝ }
+{
+    let mut q = first;
+    let mut a = 0;
+    loop {
+        if another_derives(code, main, q, s, a, number) {
+            return true;
+        }
+        let next = next_alternative(code, q);
+        if next == 0 {
+            return false;
+        }
+        q = next - 1;
+        a += 1;
+    }
+}

@@ -1,0 +1,56 @@
+use native.Mathlib.Omega.{arith}
+use Rattle.spacing.specs.Answers.{Skipped}
+use Rattle.spacing.proofs.Table.{one-number}
+use borrow.Author.Needs.{needs}
+use Rattle.spacing.proofs.token.Statement.{statement}
+use Rattle.spacing.proofs.token.Tie as tie
+
+add-out : tie.Need-add-out
+add-out c = search needs
+
+skip-requires : tie.Need-skip-requires
+skip-requires c κs = search needs
+
+enum-known-q : tie.Need-enum-known-q
+enum-known-q c = search needs
+
+enum-told : tie.Need-enum-told
+enum-told c = search needs
+
+returns : tie.Need-returns
+returns c = rw (c .enum-told .given .1) at (c .before .before .skip .ensures)
+
+mul-out : tie.Need-mul-out
+mul-out c = search needs
+
+slice-write-out : tie.Need-slice-write-out
+slice-write-out c = search needs
+
+add-t10 : tie.Need-add-t10
+add-t10 c = search needs
+
+same-length : tie.Need-same-length
+same-length c = search needs
+
+returns-2 : tie.Need-returns-2
+returns-2 c =
+    let skip = c .before .before .before .skip in
+    let pre = c .before .before .before .before .before .before .pre in
+    let k : Skipped _ _ _ = rw (c .before .q .given .1) at (skip .ensures) in
+    let n = k .onward in
+    record { value = tt; same = k .past; onward = k .onward; wrote = one-number _ _ _ (pre .1); cells = omega arith }
+
+pub token-spec : {M : Type 1} → statement M
+token-spec =
+    tie.close
+    (tie.spec
+    add-out
+    skip-requires
+    enum-known-q
+    enum-told
+    returns
+    mul-out
+    slice-write-out
+    add-t10
+    same-length
+    returns-2)

@@ -1,0 +1,10 @@
+pub mod Leaf
+pub mod Names
+pub mod Classes
+pub mod View
+pub mod Scans
+pub mod Agree
+pub mod ProperTrees
+pub mod Trees
+pub mod Top
+pub mod Rulings

@@ -1,0 +1,4 @@
+pub mod Told
+pub mod Forms
+pub mod Walk
+pub mod Names

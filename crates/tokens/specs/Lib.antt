@@ -1,0 +1,3 @@
+pub mod Proper
+pub mod Lengths
+pub mod Names

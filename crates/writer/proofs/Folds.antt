@@ -1,0 +1,163 @@
+-- What is still to be written, event by event.
+use mathlib.Core.Path.{_≡_, refl, sym, ap, _∙_}
+use mathlib.Core.Bool.{Bool, true, false}
+use mathlib.Core.List.{List, [], _∷_, _++_, append-nil, append-assoc}
+use Prim.Native.Nat.{ℕ, _<_}
+use lib.ListN.{length}
+use Rattle.text.specs.Lists.{Text, chars, pick, concatMap}
+use Rattle.xml.specs.Document.{Xml, none, attr, elem, join, text}
+use Rattle.xml.specs.Bytes.{escape, attributes}
+use Rattle.markup.specs.Out.{State, state, puts, enc, Wrote}
+use Rattle.markup.specs.Tags.{closing, leadOf, endOf, stateOf}
+use Rattle.markup.proofs.Puts.{puts-none, enc-none, paid}
+use Rattle.cursor.specs.Rest.{Rest, row, within, before}
+use Rattle.cursor.specs.Ahead.{Ahead, AtRow, SomeRow}
+use Rattle.cursor.specs.declared.Cursor.{Cursor}
+use Rattle.writer.specs.Markup.{startOf, stated, late, Attributed, Came}
+use Rattle.writer.specs.declared.Tag.{Tag}
+use Rattle.writer.proofs.Laws.{owed, owed-text, owed-attribute, owed-element, owed-closes, owed-over, plain, IsText, is-text}
+use Rattle.writer.proofs.Laws.{plain-text, plain-join, text-join, spells-append, attributes-past, Shape, exposed}
+
+-- attributes: to write what is ahead from here comes to the same state as to write all from the beginning
+pub record Quoting (rec : Text) (limit : ℕ) (s₀ s : State) (quoted : Bool) (r : Text) (k₀ k : Rest) : Type 0 where
+  pub shape : Shape false k₀ → Shape quoted k
+  pub owes : r ≡ rec → Shape false k₀ → puts limit s (enc (exposed k)) ≡ puts limit s₀ (enc (exposed k₀))
+
+pub quoting-begin : {rec : Text} {limit : ℕ} {s : State} {r : Text} {k : Rest} → Quoting rec limit s s false r k k
+quoting-begin = record { shape = λ h. h; owes = λ e h. refl }
+
+module _ {rec : Text} {limit : ℕ} {s₀ : State} {pos : ℕ} {out : List ℕ} {r : Text} {k₀ : Rest} where
+  quoting-on : {quoted quoted′ : Bool} {k k′ : Rest} {pos′ : ℕ} {out′ : List ℕ} (t : Text) → (Shape quoted k → Shape quoted′ k′)
+      → (Shape quoted k → exposed k ≡ t ++ exposed k′) → (r ≡ rec → Wrote limit pos out pos′ out′ t)
+      → Quoting rec limit s₀ (state pos out) quoted r k₀ k → Quoting rec limit s₀ (state pos′ out′) quoted′ r k₀ k′
+  quoting-on {k = k} {k′ = k′} t f e w O = record { shape = λ h. f (O .shape h); owes = λ z h. paid t (exposed k′) (exposed k) (O .owes z h) (e (O .shape h)) (w z) }
+
+  pub quoting-text : (quoted : Bool) (t : Text) (k : Rest) {pos′ : ℕ} {out′ : List ℕ}
+      → (r ≡ rec → Wrote limit pos out pos′ out′ (pick quoted (concatMap (escape true) t) []))
+      → Quoting rec limit s₀ (state pos out) quoted r k₀ (before (text t) k) → Quoting rec limit s₀ (state pos′ out′) quoted r k₀ k
+  quoting-text quoted t k w = quoting-on (pick quoted (concatMap (escape true) t) []) (shape quoted k) (says quoted k) w
+    where
+      shape : (q : Bool) (k : Rest) → Shape q (before (text t) k) → Shape q k
+      shape false (row x) h = tt
+      shape false (within n x k) h = h
+      shape true (row x) h = h
+      shape true (within n x (row y)) h = text-join t x h
+      shape true (within n x (within m y k)) h = h
+
+      says : (q : Bool) (k : Rest) → Shape q (before (text t) k) → exposed (before (text t) k) ≡ pick q (concatMap (escape true) t) [] ++ exposed k
+      says false (row x) h = attributes-past t x
+      says false (within n x k) h = absurd h
+      says true (row x) h = absurd h
+      says true (within n x k) h = ap (λ (u : Text). concatMap (escape true) u ++ (chars "'" ++ exposed k)) (plain-join t x)
+          ∙ ap (λ (u : Text). u ++ (chars "'" ++ exposed k)) (spells-append (escape true) t (plain x))
+          ∙ append-assoc (concatMap (escape true) t) (concatMap (escape true) (plain x)) (chars "'" ++ exposed k)
+
+  pub quoting-element : (quoted : Bool) (n : Text) (i : Xml) (k : Rest)
+      → Quoting rec limit s₀ (state pos out) quoted r k₀ (before (elem n i none) k) → Quoting rec limit s₀ (state pos out) quoted r k₀ k
+  quoting-element quoted n i k O = record {
+    shape = λ h. shape quoted k (O .shape h);
+    owes = λ z h. ap (λ (u : Text). puts limit (state pos out) (enc u)) (sym (says quoted k (O .shape h))) ∙ O .owes z h;
+  }
+    where
+      shape : (q : Bool) (k : Rest) → Shape q (before (elem n i none) k) → Shape q k
+      shape false (row x) h = tt
+      shape false (within m x k) h = h
+      shape true (row x) h = h
+      shape true (within m x (row y)) h = absurd h
+      shape true (within m x (within p y k)) h = h
+
+      says : (q : Bool) (k : Rest) → Shape q (before (elem n i none) k) → exposed (before (elem n i none) k) ≡ exposed k
+      says q (row x) h = refl
+      says q (within m x k) h = refl
+
+  pub quoting-attribute : (quoted : Bool) (n v : Text) (k : Rest) {pos′ : ℕ} {out′ : List ℕ}
+      → Wrote limit pos out pos′ out′ (chars " " ++ (n ++ chars "='"))
+      → Quoting rec limit s₀ (state pos out) quoted r k₀ (before (attr n v none) k)
+      → Quoting rec limit s₀ (state pos′ out′) true r k₀ (within n (text v) k)
+  quoting-attribute quoted n v k w = quoting-on (chars " " ++ (n ++ chars "='")) (shape quoted k) (says quoted k) (λ z. w)
+    where
+      shape : (q : Bool) (k : Rest) → Shape q (before (attr n v none) k) → Shape true (within n (text v) k)
+      shape false (row x) h = is-text v
+      shape false (within m x k) h = absurd h
+      shape true (row x) h = absurd h
+      shape true (within m x (row y)) h = absurd h
+      shape true (within m x (within p y k)) h = absurd h
+
+      regroup : (n v y : Text) → chars " " ++ n ++ chars "='" ++ v ++ chars "'" ++ y ≡ (chars " " ++ (n ++ chars "='")) ++ (v ++ (chars "'" ++ y))
+      regroup n v y = simp append-assoc
+
+      says : (q : Bool) (k : Rest) → Shape q (before (attr n v none) k) → exposed (before (attr n v none) k) ≡ (chars " " ++ (n ++ chars "='")) ++ exposed (within n (text v) k)
+      says false (row x) h = regroup n (concatMap (escape true) v) (attributes x)
+          ∙ ap (λ (u : Text). (chars " " ++ (n ++ chars "='")) ++ (concatMap (escape true) u ++ (chars "'" ++ attributes x)))
+          (sym (plain-text v))
+      says false (within m x k) h = absurd h
+      says true (row x) h = absurd h
+      says true (within m x (row y)) h = absurd h
+      says true (within m x (within p y k)) h = absurd h
+
+  pub quoting-close : (quoted : Bool) (n : Text) (k : Rest) {pos′ : ℕ} {out′ : List ℕ} → Wrote limit pos out pos′ out′ (chars "'")
+      → Quoting rec limit s₀ (state pos out) quoted r k₀ (within n none k) → Quoting rec limit s₀ (state pos′ out′) false r k₀ k
+  quoting-close quoted n k w = quoting-on (chars "'") (shape quoted k) (λ h. refl) (λ z. w)
+    where
+      shape : (q : Bool) (k : Rest) → Shape q (within n none k) → Shape false k
+      shape false k h = absurd h
+      shape true (row y) h = tt
+      shape true (within m y k) h = h
+
+pub quoting-end : {T P : List ℕ} {rec : Text} {S S′ : List ℕ} {limit pos pos′ : ℕ} {out out′ : List ℕ} {quoted : Bool} {c : Cursor}
+    → SomeRow T P rec S c → ((r : Text) (S₀ : List ℕ) (k₀ : Rest) → Ahead T P r S₀ S c k₀ → (S′ ≡ S₀)
+    × Quoting rec limit (state pos out) (state pos′ out′) quoted r k₀ (row none))
+    → Attributed T P rec S S′ out out′ limit pos c pos′
+quoting-end {rec = rec} {S = S} {limit = limit} {pos′ = pos′} {out′ = out′} D h =
+    record {
+      kept = h rec S (row (D .x)) (D .stands) .0;
+      wrote = λ x A. record {
+        is = sym (puts-none limit (state pos′ out′)) ∙ sym (ap (puts limit (state pos′ out′)) enc-none)
+            ∙ h rec S (row x) A .1 .owes refl tt;
+      };
+    }
+
+-- contents, whatever the two ends are
+pub record Owing (rec : Text) (limit : ℕ) (s₀ s : State) (due₀ due : ℕ) (ajar₀ unclosed : Bool) (r : Text) (k₀ k : Rest) : Type 0 where
+  pub owes : r ≡ rec → (e f : Text) → puts limit s (enc (owed e f (stateOf due) unclosed k)) ≡ puts limit s₀ (enc (owed e f (stateOf due₀) ajar₀ k₀))
+
+pub owing-begin : {rec : Text} {limit : ℕ} {s : State} {due : ℕ} {unclosed : Bool} {r : Text} {k : Rest} → Owing rec limit s s due due unclosed unclosed r k k
+owing-begin = record { owes = λ z e f. refl }
+
+module _ {rec : Text} {limit : ℕ} {s₀ : State} {pos : ℕ} {out : List ℕ} {due₀ due : ℕ} {ajar₀ unclosed : Bool} {r : Text} {k₀ : Rest} where
+  owing-on : {due′ : ℕ} {unclosed′ : Bool} {k k′ : Rest} {pos′ : ℕ} {out′ : List ℕ} (t : Text)
+      → ((e f : Text) → owed e f (stateOf due) unclosed k ≡ t ++ owed e f (stateOf due′) unclosed′ k′) → (r ≡ rec → Wrote limit pos out pos′ out′ t)
+      → Owing rec limit s₀ (state pos out) due₀ due ajar₀ unclosed r k₀ k → Owing rec limit s₀ (state pos′ out′) due₀ due′ ajar₀ unclosed′ r k₀ k′
+  owing-on {due′} {unclosed′} {k} {k′} t q w O = record { owes = λ z e f. paid t (owed e f (stateOf due′) unclosed′ k′) (owed e f (stateOf due) unclosed k) (O .owes z e f) (q e f) (w z) }
+
+  pub owing-text : (t : Text) (k : Rest) → 0 < length t → {pos′ : ℕ} {out′ : List ℕ}
+      → (r ≡ rec → Wrote limit pos out pos′ out′ (leadOf unclosed ++ concatMap (escape false) t))
+      → Owing rec limit s₀ (state pos out) due₀ due ajar₀ unclosed r k₀ (before (text t) k)
+      → Owing rec limit s₀ (state pos′ out′) due₀ due ajar₀ false r k₀ k
+  owing-text t k h w = owing-on (leadOf unclosed ++ concatMap (escape false) t) (λ e f. owed-text e f (stateOf due) unclosed t k h) w
+
+  pub owing-element : (n : Text) (i : Xml) (k : Rest) {pos′ : ℕ} {out′ : List ℕ}
+      → (r ≡ rec → Wrote limit pos out pos′ out′ (leadOf unclosed ++ startOf n (stateOf due) i))
+      → Owing rec limit s₀ (state pos out) due₀ due ajar₀ unclosed r k₀ (before (elem n i none) k)
+      → Owing rec limit s₀ (state pos′ out′) due₀ 0 ajar₀ true r k₀ (within n i k)
+  owing-element n i k w = owing-on (leadOf unclosed ++ startOf n (stateOf due) i) (λ e f. owed-element e f (stateOf due) unclosed n i k) w
+
+  pub owing-attribute : (n v : Text) (k : Rest) → Owing rec limit s₀ (state pos out) due₀ due ajar₀ unclosed r k₀ (before (attr n v none) k)
+      → Owing rec limit s₀ (state pos out) due₀ due ajar₀ unclosed r k₀ k
+  owing-attribute n v k O = record { owes = λ z e f. ap (λ (u : Text). puts limit (state pos out) (enc u)) (sym (owed-attribute e f (stateOf due) unclosed n v k)) ∙ O .owes z e f }
+
+  pub owing-close : (n : Text) (k : Rest) {pos′ : ℕ} {out′ : List ℕ} → Wrote limit pos out pos′ out′ (endOf unclosed (chars "/>") (closing n))
+      → Owing rec limit s₀ (state pos out) due₀ due ajar₀ unclosed r k₀ (within n none k)
+      → Owing rec limit s₀ (state pos′ out′) due₀ 0 ajar₀ false r k₀ k
+  owing-close n k w = owing-on (endOf unclosed (chars "/>") (closing n)) (λ e f. owed-closes e f (stateOf due) unclosed n k) (λ z. w)
+
+pub owing-end : {T P : List ℕ} {rec : Text} {S S′ : List ℕ} {limit : ℕ} {out out′ : List ℕ} {t t′ : Tag} {due due′ : ℕ} {c : Cursor}
+    → SomeRow T P rec S c → ((r : Text) (S₀ : List ℕ) (k₀ : Rest) → Ahead T P r S₀ S c k₀ → (S′ ≡ S₀)
+    × Owing rec limit (state (t .pos) out) (state (t′ .pos) out′) due due′ (t .unclosed) (t′ .unclosed) r k₀ (row none))
+    → Came T P rec S S′ out out′ limit t due c t′
+owing-end {rec = rec} {S = S} {limit = limit} {out′ = out′} {t′ = t′} {due′ = due′} D h =
+    record {
+      kept = h rec S (row (D .x)) (D .stands) .0;
+      wrote = λ x A e f. ap (λ (u : Text). puts limit (state (t′ .pos) out′) (enc u)) (sym (owed-over e f (stateOf due′) (t′ .unclosed)))
+          ∙ h rec S (row x) A .1 .owes refl e f;
+    }

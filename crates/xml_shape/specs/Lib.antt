@@ -1,0 +1,3 @@
+pub mod Judges
+pub mod Names
+pub mod One

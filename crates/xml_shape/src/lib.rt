@@ -1,0 +1,121 @@
+// Judges of what a row of a left parse comes to: an attribute twice, and anything but one element.
+ghost use mathlib.Core.Path.{_≡_};
+ghost use mathlib.Core.Bool.{_||_};
+ghost use Prim.Native.Nat.{ℕ, _<_, _≤_};
+ghost use lib.ListN.{length, set};
+ghost use Rattle.text.specs.Lists.{Text};
+ghost use Rattle.xml.specs.Document.{notOne};
+ghost use Rattle.left_parse.specs.Steps.{Named};
+ghost use Rattle.cursor.specs.Ahead.{SomeRow};
+ghost use Rattle.xml_shape.specs.Judges.{Judges};
+ghost use Rattle.xml_shape.specs.Names.{repeated, Seen};
+ghost use Rattle.xml_shape.specs.One.{more as oneMore};
+use cursor::Cursor;
+use cursor::Event;
+
+// One of the first `count` tokens has the name of the token.
+fn is_seen(table: &[u32], seen: &[u32], count: usize, token: usize) -> bool
+    requires { ⌜ token < 4294967296 ⌝ }
+    ensures { λ r. ⌜ Seen (now (table .entry)) (now (seen .entry)) count token r ⌝ }
+{
+    let mut i = count;
+    while i > 0 {
+        i -= 1;
+        let other = tokens::look(seen, i);
+        if tokens::same_if_named(table, token, other) {
+            return true;
+        }
+    }
+    false
+}
+
+// The token is listed after the first `count`; whether one of those has its name.
+fn add_name(table: &[u32], seen: &mut [u32], count: usize, token: usize) -> bool
+    requires { ⌜ (token < 4294967296) × (count < length (now seen)) ⌝ }
+    ensures { λ r. ⌜ (now (seen .exit) ≡ set (now (seen .entry)) count token) × Seen (now (table .entry)) (now (seen .entry)) count token r ⌝ }
+{
+    let found = is_seen(table, seen, count, token);
+    seen[count] = token as u32;
+    found
+}
+
+// Whether a row exposes two attributes of one name. Their tokens are listed in `seen`, which keeps nothing that counts.
+pub fn repeats_attribute(
+    table: &[u32],
+    parse: &[u32],
+    scratch: &mut [u32],
+    seen: &mut [u32],
+    first: Cursor,
+) -> bool
+    requires { ⌜ length (now parse) ≤ length (now seen) ⌝ }
+    requires { ⌜ ((r : Text) × SomeRow (now table) (now parse) r (now scratch) first) ⌝ }
+    ensures { λ b. ⌜ Judges repeated (now (table .entry)) (now (parse .entry)) (now (scratch .entry)) (now (scratch .exit)) first b ⌝ }
+{
+    let mut at = first;
+    let mut count = 0;
+    let mut twice = false;
+    loop {
+        let event = cursor::next(table, parse, scratch, at);
+        match event {
+            Event::Text(n) => {
+                at = cursor::skip(table, parse, scratch, n);
+            }
+            Event::Open(_, n) => {
+                at = cursor::past(table, parse, scratch, n);
+            }
+            Event::Attribute(token, n) => {
+                twice = text::either(twice, add_name(table, seen, count, token));
+                count += 1;
+                at = cursor::past(table, parse, scratch, n);
+            }
+            Event::Close(_, n) => {
+                at = n;
+            }
+            Event::End => {
+                return twice;
+            }
+        }
+    }
+}
+
+// One element more: 0 nothing yet, 1 one element, 2 anything else.
+fn one_more(sort: usize) -> usize
+    ensures { λ r. ⌜ r ≡ oneMore sort ⌝ }
+{
+    if sort == 0 {
+        return 1;
+    }
+    2
+}
+
+// Whether a row comes to anything else than one element.
+pub fn not_one(table: &[u32], parse: &[u32], scratch: &mut [u32], first: Cursor) -> bool
+    requires { ⌜ ((r : Text) × SomeRow (now table) (now parse) r (now scratch) first) ⌝ }
+    ensures { λ b. ⌜ Judges notOne (now (table .entry)) (now (parse .entry)) (now (scratch .entry)) (now (scratch .exit)) first b ⌝ }
+{
+    let mut at = first;
+    let mut sort = 0;
+    loop {
+        let event = cursor::next(table, parse, scratch, at);
+        match event {
+            Event::Text(n) => {
+                sort = 2;
+                at = cursor::skip(table, parse, scratch, n);
+            }
+            Event::Open(_, n) => {
+                sort = one_more(sort);
+                at = cursor::past(table, parse, scratch, n);
+            }
+            Event::Attribute(_, n) => {
+                sort = 2;
+                at = cursor::past(table, parse, scratch, n);
+            }
+            Event::Close(_, n) => {
+                at = n;
+            }
+            Event::End => {
+                return sort != 1;
+            }
+        }
+    }
+}
