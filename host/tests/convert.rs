@@ -176,3 +176,26 @@ fn xmllint_reads_the_documents() {
     let read = String::from_utf8(read).expect("canonical XML in UTF-8");
     assert!(read.trim_end() == format!("<all>{expected}</all>"));
 }
+
+/// Names that tabs align in columns come back as they were: from the record,
+/// from an insertion, and beside tabs in text.
+#[test]
+#[cfg_attr(
+    not(xmllint),
+    ignore = "xmllint (Debian's libxml2-utils) is not installed"
+)]
+fn xmllint_reads_column_aligned_names_back() {
+    let grammar = "probes: @names, +#9. names: ~[#d]*, +#9, +#9.";
+    let record = "probe\t\t7\tnorth\tfield\t";
+    let mut reader = ixml::Reader::new();
+    let converted = reader.convert(grammar, record).expect("XML");
+    let expected = "<probes names='probe&#x9;&#x9;7&#x9;north&#x9;field&#x9;&#x9;&#x9;'>\t</probes>";
+    assert_eq!(converted.xml, expected);
+    let file = directory("columns").join("columns.xml");
+    std::fs::write(&file, &converted.xml).expect("a file");
+    let value = xmllint(&["--xpath", "string(/probes/@names)"], &[file.clone()]);
+    let value = String::from_utf8(value).expect("text");
+    assert_eq!(value.strip_suffix('\n'), Some(&*format!("{record}\t\t")));
+    let text = xmllint(&["--xpath", "string(/probes)"], &[file]);
+    assert_eq!(text, b"\t\n");
+}

@@ -76,7 +76,7 @@ fn output(answer: Answer, result: &str) -> String {
     let marks = [answer.ambiguous, answer.version].map(u8::from);
     let result = if result.is_empty() { "-" } else { result };
     format!(
-        "{}\t{}\t{}\t{}\t{result}",
+        "{}\t{}\t{}\t{}\t{result}\t0\t0\t0",
         answer.number, answer.length, marks[0], marks[1]
     )
 }
@@ -159,7 +159,7 @@ fn lines_that_are_no_jobs_are_refused() {
         let (output, code) = run(format!("{right}\n{line}\n{right}\n"));
         assert_eq!(
             (output.as_str(), code),
-            ("4\t0\t0\t0\t-\n", Some(2)),
+            ("4\t0\t0\t0\t-\t0\t0\t0\n", Some(2)),
             "{line:?}"
         );
     }

@@ -317,6 +317,7 @@ fn escape(text: &[char], in_value: bool, out: &mut String) {
             '\r' => out.push_str("&#xD;"),
             '\'' if in_value => out.push_str("&apos;"),
             '\n' if in_value => out.push_str("&#xA;"),
+            '\t' if in_value => out.push_str("&#x9;"),
             _ => out.push(character),
         }
     }

@@ -284,7 +284,7 @@ fn a20_values_and_line_ends() {
         (
             "a: @b. b: ~[]*.",
             "\r\n\t'\"",
-            "<a b='&#xD;&#xA;\t&apos;\"'/>",
+            "<a b='&#xD;&#xA;&#x9;&apos;\"'/>",
         ),
     ]);
 }

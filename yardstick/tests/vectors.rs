@@ -3,12 +3,21 @@
 use ixml_yardstick::limits::GRAMMAR_TABLE;
 use ixml_yardstick::{check, convert, program, read, Answer};
 
-fn table(name: &str) -> Vec<Vec<String>> {
-    let path = format!("{}/../tests/vectors/{name}", env!("CARGO_MANIFEST_DIR"));
-    let text = std::fs::read_to_string(&path).expect(&path);
-    text.lines()
-        .map(|line| line.split('\t').map(str::to_string).collect())
-        .collect()
+/// The lines of all files for one of these calls, a line's first field.
+fn lines(calls: &[&str]) -> Vec<Vec<String>> {
+    let directory = format!("{}/../tests/vectors", env!("CARGO_MANIFEST_DIR"));
+    let files = std::fs::read_dir(&directory).expect(&directory);
+    let mut files: Vec<_> = files.map(|file| file.expect("a file").path()).collect();
+    files.retain(|file| file.extension().is_some_and(|extension| extension == "tsv"));
+    files.sort();
+    let mut lines = Vec::new();
+    for file in files {
+        let text = std::fs::read_to_string(&file).expect("a text");
+        let fields = text.lines().map(|line| line.split('\t').map(str::to_string));
+        lines.extend(fields.map(Iterator::collect::<Vec<_>>));
+    }
+    lines.retain(|fields| calls.contains(&fields[0].as_str()));
+    lines
 }
 
 fn bytes(hex: &str) -> Vec<u8> {
@@ -30,8 +39,7 @@ fn expected<T: Copy>(result: &[T], filling: &[T]) -> Vec<T> {
 
 #[test]
 fn calls() {
-    let mut lines = table("calls.tsv");
-    lines.extend(table("edges.tsv"));
+    let lines = lines(&["check", "read", "convert"]);
     assert!(lines.len() > 3000);
     for (number, line) in (1..).zip(&lines) {
         let grammar = bytes(&line[1]);
@@ -47,6 +55,7 @@ fn calls() {
             version: line[9] == "1",
         };
         let result = &line[10];
+        assert_eq!(line[11..], ["0", "0", "0"], "line {number}");
         match line[0].as_str() {
             "check" => assert_eq!(check(&grammar), answer, "line {number}"),
             "read" => {
@@ -74,14 +83,14 @@ fn calls() {
 
 #[test]
 fn programs() {
-    let lines = table("program.tsv");
+    let lines = lines(&["program"]);
     assert!(lines.len() > 2000);
     for (number, line) in (1..).zip(&lines) {
-        let (grammar, record) = (bytes(&line[0]), bytes(&line[1]));
+        let (grammar, record) = (bytes(&line[1]), bytes(&line[2]));
         let output = program(Some(&grammar), Some(&record));
         assert_eq!(
             String::from_utf8_lossy(&output),
-            String::from_utf8_lossy(&bytes(&line[2])),
+            String::from_utf8_lossy(&bytes(&line[3])),
             "line {number}"
         );
     }

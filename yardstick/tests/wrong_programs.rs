@@ -262,7 +262,7 @@ fn b30_has_one_escape_table() {
         (
             "a: @b. b: ~[]*.",
             all,
-            "<a b='&amp;&lt;&gt;&#xD;&apos;&#xA;\t\"'/>",
+            "<a b='&amp;&lt;&gt;&#xD;&apos;&#xA;&#x9;\"'/>",
         ),
     ]);
 }

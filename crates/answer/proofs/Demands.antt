@@ -29,7 +29,7 @@ use Rattle.answer.proofs.Settled.{same-mark}
 use Rattle.answer.proofs.Sizes.{size-of-literal, size-of-repetition}
 
 -- 1. A job has one grammar, one record and one chosen derivation.
-one-grammar : (j : Job) {g h : Grammar} → GrammarTree (j .grammar) g → GrammarTree (j .grammar) h → g ≡ h
+pub one-grammar : (j : Job) {g h : Grammar} → GrammarTree (j .grammar) g → GrammarTree (j .grammar) h → g ≡ h
 one-grammar j {g} {h} x y = let e : parsed g ≡ parsed h = sym (tree-complete (j .grammar) g x) ∙ tree-complete (j .grammar) h y in cc
 
 one-record : (j : Job) {r s : Text} → Utf8 (j .input) r → Utf8 (j .input) s → r ≡ s

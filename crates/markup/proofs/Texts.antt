@@ -13,6 +13,8 @@ use Rattle.text.specs.Lists.{Text, chars, pick, concatMap}
 use Rattle.text.proofs.Tests.{split}
 use Rattle.tree.specs.Tokens.{capped}
 use Rattle.xml.specs.Bytes.{escape}
+use Rattle.xml.proofs.References.{reference-small}
+use Rattle.xml.proofs.Escapes.{Escaped, as-reference, as-itself, escaped}
 use Rattle.markup.specs.Out.{State, state, puts, enc, spelt, inValue, Wrote}
 use Rattle.markup.proofs.Puts.{enc-append, enc-one, enc-none, puts-none, paid}
 
@@ -56,26 +58,19 @@ value-apos c e = rw (eq-eqb c 0x27 e)
 pub value-lf : (c : ℕ) → (c ≡ 0x27 → ⊥) → c ≡ 0xa → inValue c ≡ chars "&#xA;"
 value-lf c n e = rw (ne-eqb c 0x27 n, eq-eqb c 0xa e)
 
-pub value-other : (c : ℕ) → (c ≡ 0x27 → ⊥) → (c ≡ 0xa → ⊥) → inValue c ≡ c ∷ []
-value-other c n m = rw (ne-eqb c 0x27 n, ne-eqb c 0xa m)
+pub value-tab : (c : ℕ) → (c ≡ 0x27 → ⊥) → (c ≡ 0xa → ⊥) → c ≡ 0x9 → inValue c ≡ chars "&#x9;"
+value-tab c n m e = rw (ne-eqb c 0x27 n, ne-eqb c 0xa m, eq-eqb c 0x9 e)
+
+pub value-other : (c : ℕ) → (c ≡ 0x27 → ⊥) → (c ≡ 0xa → ⊥) → (c ≡ 0x9 → ⊥) → inValue c ≡ c ∷ []
+value-other c n m k = rw (ne-eqb c 0x27 n, ne-eqb c 0xa m, ne-eqb c 0x9 k)
 
 -- a number above all characters has no other spelling
 large : (v : Bool) (n : ℕ) → 0x110000 ≤ n → escape v n ≡ n ∷ []
-unfolding escape
-large v n h =
-    rw (
-      ne-eqb n 0x26 (λ e. omega arith),
-      ne-eqb n 0x3c (λ e. omega arith),
-      ne-eqb n 0x3e (λ e. omega arith),
-      ne-eqb n 0xd
-          (λ e. omega arith),
-      ne-eqb n 0x27 (λ e. omega arith),
-      ne-eqb n 0xa (λ e. omega arith),
-    ) (each v)
+large v n h = go (escaped v n)
   where
-    each : (v : Bool) → pick (v && false) (chars "&apos;") (pick (v && false) (chars "&#xA;") (n ∷ [])) ≡ n ∷ []
-    each true = refl
-    each false = refl
+    go : {t : Text} → Escaped v n t → t ≡ n ∷ []
+    go (as-reference k) = absurd (let l = reference-small k in omega arith)
+    go (as-itself e) = refl
 
 pub spelt-capped : (mode n : ℕ) → (mode ≡ 0 → ⊥) → enc (concatMap (spelt mode) (capped n ∷ [])) ≡ enc (concatMap (spelt mode) (n ∷ []))
 spelt-capped mode n h = ⊎-elim

@@ -34,7 +34,7 @@ abbrev pub spelt : ℕ → ℕ → Text
 spelt mode c = pick (eqb mode 0) (c ∷ []) (escape (eqb mode 2) c)
 
 abbrev pub inValue : ℕ → Text
-inValue c = pick (eqb c 0x27) (chars "&apos;") (pick (eqb c 0xa) (chars "&#xA;") (c ∷ []))
+inValue c = pick (eqb c 0x27) (chars "&apos;") (pick (eqb c 0xa) (chars "&#xA;") (pick (eqb c 0x9) (chars "&#x9;") (c ∷ [])))
 
 -- from one place and buffer to another the text was written
 pub record Wrote (limit pos : ℕ) (out : List ℕ) (pos' : ℕ) (out' : List ℕ) (t : Text) : Type 0 where

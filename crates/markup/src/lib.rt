@@ -102,6 +102,9 @@ fn put_in_value(out: &mut [u8], limit: usize, pos: usize, c: usize) -> usize
     if c == 0xa {
         return put_all(out, limit, pos, b"&#xA;");
     }
+    if c == 0x9 {
+        return put_all(out, limit, pos, b"&#x9;");
+    }
     put_char(out, limit, pos, c)
 }
 

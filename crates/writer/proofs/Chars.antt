@@ -12,7 +12,8 @@ use Rattle.tree.specs.Tokens.{capped}
 use Rattle.xml.specs.Names.{xmlChar, nameStart, nameChar, xmlName}
 use Rattle.xml.specs.Document.{Xml, none, char, attr, elem, misnamed, unwritable}
 use Rattle.xml.specs.Bytes.{escape, attributes, content, closed, state}
-use Rattle.xml.proofs.Escapes.{by-each}
+use Rattle.xml.specs.References.{Reference, amp, lt, gt, apos, quot, tab, lf, cr}
+use Rattle.xml.proofs.Escapes.{Escaped, as-reference, as-itself, escaped}
 use Rattle.markup.specs.Out.{enc}
 
 -- no number of a text is above all characters
@@ -105,17 +106,22 @@ name-ok (c ∷ cs) h = go (nameStart c) refl (all nameChar cs) refl h
     go true p b q h = both (leb c 0x110000) (ok cs) (start-ok c p) (parts-ok cs (q ∙ h))
     go false p b q h = absurd (let z : _≡_ {A = ℕ} 0 1 = cc in omega arith)
 
+reference-ok : {n : Text} {c : ℕ} → Reference n c → ok (0x26 ∷ (n ++ 0x3b ∷ [])) ≡ true
+reference-ok amp = refl
+reference-ok lt = refl
+reference-ok gt = refl
+reference-ok apos = refl
+reference-ok quot = refl
+reference-ok tab = refl
+reference-ok lf = refl
+reference-ok cr = refl
+
 escape-ok : (v : Bool) (c : ℕ) → leb c 0x110000 ≡ true → ok (escape v c) ≡ true
-unfolding escape
-escape-ok v c = by-each (λ v c t. leb c 0x110000 ≡ true → ok t ≡ true) (record {
-  amp = λ v h. refl;
-  lt = λ v h. refl;
-  gt = λ v h. refl;
-  cr = λ v h. refl;
-  apos = λ h. refl;
-  lf = λ h. refl;
-  other = λ v c e1 e2 e3 e4 e5 e6 h. both (leb c 0x110000) true h refl;
-}) v c
+escape-ok v c h = go (escaped v c)
+  where
+    go : {t : Text} → Escaped v c t → ok t ≡ true
+    go (as-reference k) = reference-ok k
+    go (as-itself e) = both (leb c 0x110000) true h refl
 
 value-ok : (cs : Text) → any (λ c. not (xmlChar c)) cs ≡ false → ok (concatMap (escape true) cs) ≡ true
 value-ok [] h = refl

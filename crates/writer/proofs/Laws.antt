@@ -8,23 +8,18 @@ use lib.ListN.{length, length-append}
 use Rattle.text.specs.Lists.{Text, chars, concatMap}
 use Rattle.xml.specs.Document.{Xml, none, char, attr, elem, join, text}
 use Rattle.xml.specs.Bytes.{escape, attributes, content, closed}
-use Rattle.xml.proofs.Escapes.{by-each}
+use Rattle.xml.proofs.Escapes.{Escaped, as-reference, as-itself, escaped}
 use Rattle.markup.specs.Tags.{closing, leadOf, endOf}
 use Rattle.cursor.specs.Rest.{Rest, row, within, before}
 use Rattle.writer.specs.Markup.{late, startOf, stated}
 
 -- every character is written as some
 some-escape : (v : Bool) (c : ℕ) → 0 < length (escape v c)
-unfolding escape
-some-escape v c = by-each (λ v c t. 0 < length t) (record {
-  amp = λ v. omega arith;
-  lt = λ v. omega arith;
-  gt = λ v. omega arith;
-  cr = λ v. omega arith;
-  apos = omega arith;
-  lf = omega arith;
-  other = λ v c e1 e2 e3 e4 e5 e6. omega arith;
-}) v c
+some-escape v c = go (escaped v c)
+  where
+    go : {t : Text} → Escaped v c t → 0 < length t
+    go (as-reference k) = omega arith
+    go (as-itself e) = omega arith
 
 some-text : (t : Text) → 0 < length t → 0 < length (concatMap (escape false) t)
 some-text [] h = absurd (omega arith)

@@ -1,93 +1,65 @@
--- What an XML parser reads back from an escape is the character, and no escape holds a character that would end what it stands in.
-use mathlib.Core.Path.{_≡_, refl, sym, subst}
-use mathlib.Core.Bool.{Bool, true, false, not, _&&_}
+-- Every character is written as itself or as a reference to it, and is read back as it was.
+use mathlib.Core.Path.{_≡_, refl, sym, subst, ap, _∙_}
+use mathlib.Core.Bool.{Bool, true, false, not, _&&_, _||_}
 use mathlib.Core.Logic.{⊎-elim}
-use mathlib.Core.List.{List, [], _∷_}
+use mathlib.Core.List.{List, [], _∷_, _++_, append-assoc}
 use Prim.Native.Nat.{ℕ}
 use lib.Dec.{T, eqb}
 use borrow.Author.Tests.{eqb-true}
-use Rattle.text.specs.Lists.{Text, chars, pick, same, all, among}
-use Rattle.text.proofs.Tests.{clash, look, and-left, and-right}
+use Rattle.text.specs.Lists.{Text, chars, pick, all, among, concatMap}
+use Rattle.text.proofs.Tests.{clash, look, T-true}
 use Rattle.xml.specs.Bytes.{escape}
+use Rattle.xml.specs.References.{Reference, amp, lt, gt, apos, quot, tab, lf, cr, bare, delimiters, ReadsAs, r-end, r-reference, r-bare}
 
--- the character that a reference names, after its `&`
-unfoldable pub named : Text → ℕ
-named cs =
-    pick (same cs (chars "amp;")) 0x26
-    (pick (same cs (chars "lt;")) 0x3c
-    (pick (same cs (chars "gt;")) 0x3e
-    (pick (same cs (chars "apos;")) 0x27
-    (pick (same cs (chars "#xD;")) 0xd
-    (pick (same cs (chars "#xA;")) 0xa 0)))))
+-- the characters that are written as references: in a value, and in text
+abbrev pub special : Bool → ℕ → Bool
+special v c = among c (pick v (chars "&<>\r'\n\t") (chars "&<>\r"))
 
--- the character that a parser reads
-unfoldable pub back : Text → ℕ
-back [] = 0
-back (c ∷ cs) = pick (eqb c 0x26) (named cs) c
+pub data Escaped (v : Bool) (c : ℕ) : Text → Type 0 where
+  as-reference : {n : Text} → Reference n c → Escaped v c (0x26 ∷ (n ++ 0x3b ∷ []))
+  as-itself : special v c ≡ false → Escaped v c (c ∷ [])
 
--- neither a tag nor a quote nor what a parser would change: markup in text, and more in a value
-unfoldable pub harmless : Bool → ℕ → Bool
-harmless inValue c = not (among c (pick inValue (chars "<>\r'\n") (chars "<>\r")))
+-- at a character k, or at another one
+at : (v : Bool) (c k : ℕ) → Escaped v k (escape v k) → (eqb c k ≡ false → Escaped v c (escape v c)) → Escaped v c (escape v c)
+at v c k x f = ⊎-elim (λ e. subst (λ (d : ℕ). Escaped v d (escape v d)) (sym (eqb-true c k e)) x) f (look (eqb c k))
 
--- A fact of escapes holds of all where it holds at each character that has one, and of the others as they stand.
-pub record Each (P : Bool → ℕ → Text → Type 0) : Type 0 where
-  pub amp : (v : Bool) → P v 0x26 (escape v 0x26)
-  pub lt : (v : Bool) → P v 0x3c (escape v 0x3c)
-  pub gt : (v : Bool) → P v 0x3e (escape v 0x3e)
-  pub cr : (v : Bool) → P v 0xd (escape v 0xd)
-  pub apos : P true 0x27 (escape true 0x27)
-  pub lf : P true 0xa (escape true 0xa)
-  pub other : (v : Bool) (c : ℕ) → eqb c 0x26 ≡ false → eqb c 0x3c ≡ false → eqb c 0x3e ≡ false → eqb c 0xd ≡ false
-      → v && eqb c 0x27 ≡ false → v && eqb c 0xa ≡ false → P v c (c ∷ [])
-
-at-others : (v : Bool) (c : ℕ) → eqb c 0x26 ≡ false → eqb c 0x3c ≡ false → eqb c 0x3e ≡ false → eqb c 0xd ≡ false → v && eqb c 0x27 ≡ false
-    → v && eqb c 0xa ≡ false → escape v c ≡ c ∷ []
+in-text : (c : ℕ) → Escaped false c (escape false c)
 unfolding escape
-at-others v c e1 e2 e3 e4 e5 e6 = simp (e1, e2, e3, e4, e5, e6)
+in-text c =
+    at false c 0x26 (as-reference amp) (λ e1. at false c 0x3c (as-reference lt) (λ e2. at false c 0x3e (as-reference gt) (λ e3. at false c 0xd (as-reference cr)
+    (λ e4. simp (e1, e2, e3, e4) (as-itself (simp (e1, e2, e3, e4)))))))
 
-pub by-each : (P : Bool → ℕ → Text → Type 0) → Each P → (v : Bool) (c : ℕ) → P v c (escape v c)
-by-each P h v c =
-    ⊎-elim (λ e. here v 0x26 e (h .amp v)) (λ e1. ⊎-elim (λ e. here v 0x3c e (h .lt v)) (λ e2. ⊎-elim (λ e. here v 0x3e e (h .gt v)) (λ e3. ⊎-elim (λ e. here v 0xd e (h .cr v))
-    (λ e4. ⊎-elim (λ e. value v 0x27 e (h .apos)) (λ e5. ⊎-elim (λ e. value v 0xa e (h .lf))
-    (λ e6. subst (λ (t : Text). P v c t) (sym (at-others v c e1 e2 e3 e4 e5 e6)) (h .other v c e1 e2 e3 e4 e5 e6))
-    (look (v && eqb c 0xa))) (look (v && eqb c 0x27))) (look (eqb c 0xd))) (look (eqb c 0x3e))) (look (eqb c 0x3c))) (look (eqb c 0x26))
-  where
-    here : (u : Bool) (k : ℕ) → eqb c k ≡ true → P u k (escape u k) → P u c (escape u c)
-    here u k e q = subst (λ (d : ℕ). P u d (escape u d)) (sym (eqb-true c k e)) q
+in-value : (c : ℕ) → Escaped true c (escape true c)
+unfolding escape
+in-value c =
+    at true c 0x26 (as-reference amp) (λ e1. at true c 0x3c (as-reference lt) (λ e2. at true c 0x3e (as-reference gt) (λ e3. at true c 0xd (as-reference cr)
+    (λ e4. at true c 0x27 (as-reference apos) (λ e5. at true c 0xa (as-reference lf)
+    (λ e6. at true c 0x9 (as-reference tab) (λ e7. simp (e1, e2, e3, e4, e5, e6, e7) (as-itself (simp (e1, e2, e3, e4, e5, e6, e7))))))))))
 
-    value : (u : Bool) (k : ℕ) → u && eqb c k ≡ true → P true k (escape true k) → P u c (escape u c)
-    value true k e q = here true k e q
-    value false k e q = absurd (clash refl e)
+pub escaped : (v : Bool) (c : ℕ) → Escaped v c (escape v c)
+escaped true c = in-value c
+escaped false c = in-text c
 
--- a reference reads back as its character
-pub reads-back : (v : Bool) (c : ℕ) → back (escape v c) ≡ c
-unfolding back named escape
-reads-back v c = by-each (λ v c t. back t ≡ c) each v c
-  where
-    each : Each (λ v c t. back t ≡ c)
-    each = record { amp = λ v. refl; lt = λ v. refl; gt = λ v. refl; cr = λ v. refl; apos = refl; lf = refl; other = λ v c e1 e2 e3 e4 e5 e6. rw e1 }
+-- 2. What stands bare is read as it is.
+pub not-at : (c k : ℕ) (ks : Text) → among c ks ≡ false → T (among k ks) → eqb c k ≡ false
+not-at c k ks h m =
+    ⊎-elim (λ e. absurd (clash h (T-true (among c ks) (subst (λ (d : ℕ). T (among d ks)) (sym (eqb-true c k e)) m)))) (λ e. e) (look (eqb c k))
 
--- no escape holds markup
-pub no-markup : (v : Bool) (c : ℕ) → T (all (harmless v) (escape v c))
-unfolding harmless escape
-no-markup v c = by-each (λ v c t. T (all (harmless v) t)) each v c
-  where
-    plain : (v : Bool) (c : ℕ) → eqb c 0x3c ≡ false → eqb c 0x3e ≡ false → eqb c 0xd ≡ false → v && eqb c 0x27 ≡ false
-        → v && eqb c 0xa ≡ false → T (all (harmless v) (c ∷ []))
-    plain true c e2 e3 e4 e5 e6 = rw (e2, e3, e4, e5, e6) tt
-    plain false c e2 e3 e4 e5 e6 = rw (e2, e3, e4) tt
+bare-is : (v : Bool) (c : ℕ) → special v c ≡ false → (bare v c ≡ c) × T (not (among c (delimiters v)))
+bare-is true c h =
+    let no : (k : ℕ) → T (special true k) → eqb c k ≡ false = λ k m. not-at c k (chars "&<>\r'\n\t") h m in
+    (simp (no 0x9 tt, no 0xa tt, no 0xd tt), simp (no 0x26 tt, no 0x3c tt, no 0x27 tt) tt)
+bare-is false c h =
+    let no : (k : ℕ) → T (special false k) → eqb c k ≡ false = λ k m. not-at c k (chars "&<>\r") h m in
+    (simp (no 0xd tt), simp (no 0x26 tt, no 0x3c tt) tt)
 
-    both : (v : Bool) (c : ℕ) → T (all (harmless true) (escape true c) && all (harmless false) (escape false c)) → T (all (harmless v) (escape v c))
-    both true c h = and-left (all (harmless true) (escape true c)) (all (harmless false) (escape false c)) h
-    both false c h = and-right (all (harmless true) (escape true c)) (all (harmless false) (escape false c)) h
+reads-one : (v : Bool) {c : ℕ} {e t u : Text} → Escaped v c e → ReadsAs v t u → ReadsAs v (e ++ t) (c ∷ u)
+reads-one v {t = t} (as-reference {n} k) r = rw (append-assoc n (0x3b ∷ []) t) (r-reference k r)
+reads-one v {c} {t = t} {u = u} (as-itself h) r =
+    let b = bare-is v c h in
+    subst (λ (d : ℕ). ReadsAs v (c ∷ t) (d ∷ u)) (b .0) (r-bare (b .1) r)
 
-    each : Each (λ v c t. T (all (harmless v) t))
-    each = record {
-      amp = λ v. both v 0x26 tt;
-      lt = λ v. both v 0x3c tt;
-      gt = λ v. both v 0x3e tt;
-      cr = λ v. both v 0xd tt;
-      apos = tt;
-      lf = tt;
-      other = λ v c e1 e2 e3 e4 e5 e6. plain v c e2 e3 e4 e5 e6;
-    }
+-- what is written is read back as it was, text and values, for every character
+pub reads-back : (v : Bool) (t : Text) → ReadsAs v (concatMap (escape v) t) t
+reads-back v [] = r-end
+reads-back v (c ∷ t) = reads-one v (escaped v c) (reads-back v t)

@@ -7,7 +7,8 @@ use Rattle.text.specs.Lists.{Text, chars, pick, concatMap}
 use Rattle.text.specs.Utf8.{utf8s}
 use Rattle.xml.specs.Document.{Xml, none, char, attr, elem}
 
--- "In text and values `&` `<` `>` become … and CR becomes `&#xD;`. In values also `'` becomes `&apos;` and LF becomes `&#xA;`"
+-- "In text and values `&` `<` `>` become … and CR becomes `&#xD;`. In values also `'` becomes `&apos;` and LF becomes `&#xA;`"; and, of tabs,
+-- "a tab in a value is written `&#x9;`; in text it still stands"
 unfoldable pub escape : Bool → ℕ → Text
 escape inValue c =
     pick (eqb c 0x26) (chars "&amp;")
@@ -16,7 +17,8 @@ escape inValue c =
     (pick (eqb c 0xd) (chars "&#xD;")
     (pick (inValue && eqb c 0x27) (chars "&apos;")
     (pick (inValue && eqb c 0xa) (chars "&#xA;")
-    (c ∷ []))))))
+    (pick (inValue && eqb c 0x9) (chars "&#x9;")
+    (c ∷ [])))))))
 
 -- "An element writes its name, exposed attributes in tree order, then its other children."
 abbrev pub attributes : Xml → Text

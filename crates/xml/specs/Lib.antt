@@ -1,3 +1,4 @@
 pub mod Names
 pub mod Document
 pub mod Bytes
+pub mod References

@@ -2,9 +2,8 @@
 
 use super::Job;
 
-/// A line of `tests/vectors/calls.tsv` or `edges.tsv`.
+/// A line of `tests/vectors` for a call of the library.
 pub struct Vector {
-    pub call: String,
     pub job: Job,
     /// What the tool that runs calls reads.
     pub input: String,
@@ -12,50 +11,53 @@ pub struct Vector {
     pub output: String,
 }
 
-/// A line of `tests/vectors/program.tsv`.
+/// A line of `tests/vectors` for the program.
 pub struct Run {
     pub job: Job,
     /// What the program must write.
     pub output: Vec<u8>,
 }
 
-fn text(name: &str) -> String {
-    let path = format!("{}/../tests/vectors/{name}", env!("CARGO_MANIFEST_DIR"));
-    std::fs::read_to_string(&path).expect(&path)
+/// The lines of all files for a call, which is their first field, as fields.
+fn lines(call: &str) -> Vec<Vec<String>> {
+    let directory = format!("{}/../tests/vectors", env!("CARGO_MANIFEST_DIR"));
+    let files = std::fs::read_dir(&directory).expect(&directory);
+    let mut files: Vec<_> = files.map(|file| file.expect("a file").path()).collect();
+    files.retain(|file| file.extension().is_some_and(|extension| extension == "tsv"));
+    files.sort();
+    let mut lines = Vec::new();
+    for file in files {
+        let text = std::fs::read_to_string(&file).expect("a text");
+        let fields = text.lines().map(|line| line.split('\t').map(str::to_string));
+        lines.extend(fields.map(Iterator::collect::<Vec<_>>));
+    }
+    lines.retain(|fields| fields[0] == call);
+    lines
 }
 
 /// The vectors of the program.
 pub fn runs() -> Vec<Run> {
-    let run = |line: &str| {
-        let fields: Vec<&str> = line.split('\t').collect();
-        assert_eq!(fields.len(), 3, "{line}");
+    let run = |fields: Vec<String>| {
+        assert_eq!(fields.len(), 4, "{fields:?}");
         Run {
-            job: Job::new(bytes(fields[0]), bytes(fields[1])),
-            output: bytes(fields[2]),
+            job: Job::new(bytes(&fields[1]), bytes(&fields[2])),
+            output: bytes(&fields[3]),
         }
     };
-    text("program.tsv").lines().map(run).collect()
+    lines("program").into_iter().map(run).collect()
 }
 
-fn all() -> Vec<Vector> {
-    let vector = |line: &str| {
-        let fields: Vec<&str> = line.split('\t').collect();
-        assert_eq!(fields.len(), 11, "{line}");
+/// The vectors of a call with a grammar and a record.
+pub fn of(call: &str) -> Vec<Vector> {
+    let vector = |fields: Vec<String>| {
+        assert_eq!(fields.len(), 14, "{fields:?}");
         Vector {
-            call: fields[0].to_string(),
-            job: Job::new(bytes(fields[1]), bytes(fields[2])),
+            job: Job::new(bytes(&fields[1]), bytes(&fields[2])),
             input: fields[..6].join("\t"),
             output: fields[6..].join("\t"),
         }
     };
-    let lines = text("calls.tsv") + &text("edges.tsv");
-    lines.lines().map(vector).collect()
-}
-
-/// The vectors of a call.
-pub fn of(call: &str) -> Vec<Vector> {
-    let vectors = all().into_iter();
-    vectors.filter(|vector| vector.call == call).collect()
+    lines(call).into_iter().map(vector).collect()
 }
 
 fn bytes(hex: &str) -> Vec<u8> {

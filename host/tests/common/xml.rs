@@ -225,9 +225,8 @@ fn is_name_character(character: char) -> bool {
 
 // ---- What a reading must become
 
-/// The document of a left parse, as an XML parser must read it back: a bare
-/// tab in a value counts as a space. The grammar is one that is accepted and
-/// none of the refusals 17 to 22 applies.
+/// The document of a left parse, as an XML parser must read it back. The
+/// grammar is one that is accepted and none of the refusals 17 to 22 applies.
 pub fn document(
     grammar: &str,
     record: &str,
@@ -302,7 +301,7 @@ pub fn document(
         if in_attribute {
             let attributes = attributes(&mut events, &elements);
             let (_, value) = attributes.last_mut().expect("the attribute that is open");
-            value.extend(text.iter().map(|&c| if c == '\t' { ' ' } else { c }));
+            value.extend(text);
         } else {
             push_text(&mut events, text);
         }

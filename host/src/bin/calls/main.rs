@@ -1,9 +1,10 @@
 //! Runs calls that are given as lines of text.
 //!
-//! A line of standard input has the first six columns of
-//! `tests/vectors/calls.tsv`, and may have more; a line of standard output has
-//! the last five, and a sixth with the word `touched` if the call changed a
-//! cell that is not its result's.
+//! A line of standard input has what a call is given, in the columns that
+//! `tests/vectors/README.md` names, and may have more; a line of standard output
+//! has what it answers, in eight columns, and a ninth with the word `touched` if
+//! the call changed a cell that is not its result's. The last three of the eight
+//! are places, which no answer has yet.
 
 mod lent;
 
@@ -129,7 +130,7 @@ impl Job {
         };
         touched |= main_table.guards_touched() || grammar_table.guards_touched();
         format!(
-            "{}\t{}\t{}\t{}\t{result}{}",
+            "{}\t{}\t{}\t{}\t{result}\t0\t0\t0{}",
             answer.number,
             answer.length,
             u8::from(answer.ambiguous),
