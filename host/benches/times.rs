@@ -9,7 +9,7 @@ use std::hint::black_box;
 use std::time::Duration;
 
 use common::{grammars, jobs, processor_time, Call, Converting, Job, Reading, Room};
-use ixml::limits::{GRAMMAR_TABLE, MAIN_TABLE, READING_NUMBERS};
+use ixml::limits::{GRAMMAR_TABLE, MAIN_TABLE, READING_NUMBERS, RECORD_CHARACTERS};
 use ixml::Answer;
 use ixml_yardstick::gen;
 
@@ -205,7 +205,7 @@ where
     }
 }
 
-const LENGTHS: [usize; 3] = [20, 80, 120];
+const LENGTHS: [usize; 3] = [20, 80, RECORD_CHARACTERS];
 
 /// A name, the grammar of each size, the record of each length, the sizes.
 type Family = (

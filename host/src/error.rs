@@ -77,7 +77,7 @@ errors! {
     GrammarTooLarge = 11, "the grammar's size is over 512";
     RecordNotUtf8 = 12, "the record is not UTF-8";
     RecordCharacter = 13, "the record holds a character above U+00FF";
-    RecordTooLong = 14, "the record has over 120 characters";
+    RecordTooLong = 14, "the record has over 200 characters";
     TableTooShort = 15, "the main table or the grammar table is too short";
     NoReading { version_mismatch: bool } = 16, "the grammar does not derive the record";
     ReadingTooLong = 29, "the chosen reading has over 4,096 numbers";

@@ -8,7 +8,7 @@ pub const GRAMMAR_BYTES: usize = 4096;
 pub const GRAMMAR_SIZE: usize = 512;
 
 /// Longest record, in characters.
-pub const RECORD_CHARACTERS: usize = 120;
+pub const RECORD_CHARACTERS: usize = 200;
 
 /// Most numbers of a reading.
 pub const READING_NUMBERS: usize = 4096;
@@ -27,7 +27,7 @@ pub const MAIN_TABLE: usize = main_table(GRAMMAR_SIZE, RECORD_CHARACTERS);
 /// use ixml::limits::{main_table, MAIN_TABLE};
 ///
 /// assert_eq!(main_table(6, 0), 6);
-/// assert_eq!(main_table(512, 120), 3_779_072);
+/// assert_eq!(main_table(512, 200), 10_394_112);
 /// assert_eq!(main_table(usize::MAX, usize::MAX), MAIN_TABLE);
 /// ```
 pub const fn main_table(size: usize, characters: usize) -> usize {

@@ -58,7 +58,7 @@ fn program(assert: &str) -> String {
         format!("IXML_READING_NUMBERS == {}", limits::READING_NUMBERS),
         format!("IXML_GRAMMAR_TABLE == {}", limits::GRAMMAR_TABLE),
         format!("IXML_MAIN_TABLE == {}", limits::MAIN_TABLE),
-        format!("IXML_MAIN_TABLE_LENGTH(512, 120) == {}", limits::MAIN_TABLE),
+        format!("IXML_MAIN_TABLE_LENGTH(512, IXML_RECORD_CHARACTERS) == {}", limits::MAIN_TABLE),
         "IXML_MAIN_TABLE_LENGTH(2, 1) == 6".to_string(),
         format!("IXML_CATEGORY_NOT_KNOWN == {}", ixml::Category::ALL.len()),
         format!("sizeof(ixml_answer) == {}", size_of::<Answer>()),
@@ -131,7 +131,7 @@ fn the_example_converts_records() {
     let compiled = temporary("example");
     let source = Path::new(HOST).join("example.c");
     compile(&["cc", "-std=c99"], &source, &compiled);
-    let long = "x".repeat(200);
+    let long = "x".repeat(limits::RECORD_CHARACTERS + 1);
     let cases: [(&[&str], &str, i32); 6] = [
         (&[], "<p lat='45' lon='12'/>\n", 0),
         (&["a: 'x'*.", "xx"], "<a>xx</a>\n", 0),

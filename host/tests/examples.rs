@@ -1,6 +1,7 @@
 //! The numbered cases of the scope document and the worked examples of the ixml
 //! specification, read and converted by the proved library.
 
+use ixml::limits::RECORD_CHARACTERS;
 use ixml::{check, Reader};
 
 const STATE: &str = " xmlns:ixml='http://invisiblexml.org/NS' ixml:state=";
@@ -48,7 +49,7 @@ fn readings() {
 fn documents() {
     let position = "lat: d+. lon: d+. -d: [\"0\"-\"9\"].";
     let two_ways = format!("p: (@lat, -\" \", @lon; @lon, -\" \", @lat). {position}");
-    let longest = "x".repeat(120);
+    let longest = "x".repeat(RECORD_CHARACTERS);
     let cases = [
         ("a: \"x\".", "x", "<a>x</a>".to_owned()),
         ("a: \"x\"*.", "", "<a/>".to_owned()),
@@ -75,7 +76,7 @@ fn documents() {
     for (grammar, record, expected) in cases {
         assert_eq!(xml(grammar, record), expected, "{grammar} | {record}");
     }
-    assert_eq!(xml("a: ~[]*.", "x".repeat(121)), "refused 14");
+    assert_eq!(xml("a: ~[]*.", "x".repeat(RECORD_CHARACTERS + 1)), "refused 14");
 }
 
 #[test]

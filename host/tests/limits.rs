@@ -6,7 +6,7 @@ use std::time::Duration;
 
 use common::{jobs, on_small_stack, processor_time, Call, Converting, Job, Lender, Reading};
 
-/// What a full-size grammar may take on 120 characters, the yardstick's turn
+/// What a full-size grammar may take on 200 characters, the yardstick's turn
 /// and slow computers allowed for. docs/BENCH.md has the times themselves.
 const LONGEST: Duration = Duration::from_secs(10);
 
@@ -71,6 +71,6 @@ fn jobs_are_what_they_are_meant_to_be() {
     assert_eq!(numbers(&jobs::wide()), (0, 4096));
     for job in jobs::full_size() {
         assert_eq!(common::size(&job.grammar), Some(512));
-        assert_eq!(job.main_table(), Some(3_779_072));
+        assert_eq!(job.main_table(), Some(10_394_112));
     }
 }

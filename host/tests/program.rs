@@ -199,3 +199,21 @@ fn from_pipes() {
         .output();
     assert_eq!(output.expect("bash runs").stdout, b"<a>xy</a>\n");
 }
+
+/// The program does with a stack of 1 MB, on a record as long as its table
+/// allows.
+#[test]
+fn a_small_stack_is_enough() {
+    let directory = directory("stack");
+    let record = "x".repeat(72);
+    fs::write(directory.join("grammar"), "a: ~[]*.").expect("a file");
+    fs::write(directory.join("record"), &record).expect("a file");
+    let output = Command::new("sh")
+        .args(["-c", "ulimit -s 1024 && exec \"$0\" grammar record"])
+        .arg(program())
+        .current_dir(&directory)
+        .output()
+        .expect("a shell");
+    assert_eq!(output.status.code(), Some(0));
+    assert_eq!(output.stdout, format!("<a>{record}</a>\n").as_bytes());
+}

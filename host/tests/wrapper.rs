@@ -3,7 +3,7 @@
 mod common;
 
 use common::jobs;
-use ixml::limits::{main_table, main_table_for, MAIN_TABLE};
+use ixml::limits::{main_table, main_table_for, MAIN_TABLE, RECORD_CHARACTERS};
 use ixml::{check, Answer, Error, Reader};
 
 #[test]
@@ -41,12 +41,12 @@ fn no_reading_tells_of_another_version() {
 
 #[test]
 fn table_lengths() {
-    assert_eq!(MAIN_TABLE, 3_779_072);
+    assert_eq!(MAIN_TABLE, 10_394_112);
     assert_eq!(main_table(6, 0), 6);
     assert_eq!(main_table(2, 1), 6);
     assert_eq!(main_table(usize::MAX, usize::MAX), MAIN_TABLE);
     assert_eq!(main_table_for(b""), 512);
-    assert_eq!(main_table_for("é".repeat(120).as_bytes()), MAIN_TABLE);
+    assert_eq!(main_table_for("é".repeat(RECORD_CHARACTERS).as_bytes()), MAIN_TABLE);
     assert_eq!(main_table_for(&[b'x'; 100_000]), MAIN_TABLE);
     assert_eq!(main_table_for(&[0x80; 100_000]), 512);
 }
@@ -63,7 +63,7 @@ fn checking_marks_another_version() {
 #[test]
 fn a_reader_reads_jobs_of_all_lengths() {
     let mut reader = Reader::new();
-    for record in ["xx", "", &"x".repeat(120), "x"] {
+    for record in ["xx", "", &"x".repeat(RECORD_CHARACTERS), "x"] {
         let reading = reader.read("a: 'x'*.", record).expect("a reading");
         assert_eq!(reading.numbers.len(), record.len() + 2);
         assert!(!reading.ambiguous && !reading.version_mismatch);
@@ -71,7 +71,7 @@ fn a_reader_reads_jobs_of_all_lengths() {
     let refusals = [
         ("a: b.", "", Error::UndefinedName),
         ("a: 'x'.", "\u{100}", Error::RecordCharacter),
-        ("a: 'x'.", &"x".repeat(121), Error::RecordTooLong),
+        ("a: 'x'.", &"x".repeat(RECORD_CHARACTERS + 1), Error::RecordTooLong),
     ];
     for (grammar, record, refusal) in refusals {
         assert_eq!(reader.read(grammar, record), Err(refusal));

@@ -4,7 +4,7 @@
 pub const GRAMMAR_BYTES: usize = 4096;
 
 /// Longest record, in characters.
-pub const RECORD_CHARACTERS: usize = 120;
+pub const RECORD_CHARACTERS: usize = 200;
 
 /// Greatest size of a grammar: the sum of symbols plus 1 over all plain alternatives.
 pub const GRAMMAR_SIZE: usize = 512;

@@ -2,6 +2,7 @@
 
 mod common;
 
+use ixml_yardstick::limits::RECORD_CHARACTERS;
 use common::{assert_check, assert_reading, assert_xml, reading, xml, STATE};
 
 #[test]
@@ -107,7 +108,7 @@ fn case_13() {
 fn case_14() {
     let grammar = "a: ~[]*.";
     assert_eq!(xml(grammar, "<&>"), "<a>&lt;&amp;&gt;</a>");
-    let longest = "x".repeat(120);
+    let longest = "x".repeat(RECORD_CHARACTERS);
     assert_eq!(xml(grammar, &longest), format!("<a>{longest}</a>"));
-    assert_eq!(xml(grammar, "x".repeat(121)), "refused 14");
+    assert_eq!(xml(grammar, "x".repeat(RECORD_CHARACTERS + 1)), "refused 14");
 }

@@ -6,7 +6,7 @@ use common::{
     ample, assert_check, assert_reading, assert_xml, check_number, convert_answer, doublings,
     read_answer, reading, xml, STATE,
 };
-use ixml_yardstick::limits::GRAMMAR_TABLE;
+use ixml_yardstick::limits::{GRAMMAR_TABLE, RECORD_CHARACTERS};
 use ixml_yardstick::{category, check, convert, program, read, statics, syntax};
 
 fn size(grammar: &str) -> usize {
@@ -38,7 +38,7 @@ fn a02_texts_are_judged_before_tables() {
     };
     assert_eq!(number("a: b.", b"x"), 5);
     assert_eq!(number("a: \"x\".", &[0xFF]), 12);
-    assert_eq!(number("a: \"x\".", &[b'x'; 121]), 14);
+    assert_eq!(number("a: \"x\".", &[b'x'; RECORD_CHARACTERS + 1]), 14);
     assert_eq!(number("a: \"x\".", b"x"), 15);
 }
 
@@ -183,11 +183,11 @@ fn a13_table_lengths_are_exact() {
     assert_eq!(number("a: \"x\".", "y", 5, GRAMMAR_TABLE), 15);
     let full = format!("a: {}.", ";".repeat(511));
     assert_eq!(
-        number(&full, &"x".repeat(120), 3_779_072, GRAMMAR_TABLE),
+        number(&full, &"x".repeat(RECORD_CHARACTERS), 10_394_112, GRAMMAR_TABLE),
         16
     );
     assert_eq!(
-        number(&full, &"x".repeat(120), 3_779_071, GRAMMAR_TABLE),
+        number(&full, &"x".repeat(RECORD_CHARACTERS), 10_394_111, GRAMMAR_TABLE),
         15
     );
 }
@@ -557,13 +557,13 @@ fn a34_what_the_program_reads() {
 
 #[test]
 fn a35_the_program_provides_a_short_table() {
-    let record = [b'x'; 120];
+    let record = [b'x'; RECORD_CHARACTERS];
     assert_eq!(program(Some(b"a: ~[]*."), Some(&record)), b"refused 15\n");
     let needed = |table: usize| {
-        let mut result = [0; 200];
+        let mut result = [0; RECORD_CHARACTERS + 2];
         read(b"a: ~[]*.", &record, table, GRAMMAR_TABLE, &mut result).number
     };
-    assert_eq!((needed(44_285), needed(44_286)), (15, 0));
+    assert_eq!((needed(121_805), needed(121_806)), (15, 0));
 }
 
 #[test]

@@ -5,7 +5,7 @@ mod oracle;
 use std::collections::BTreeMap;
 
 use ixml_yardstick::gen::{self, Job, Random, Style};
-use ixml_yardstick::limits::{main_table, GRAMMAR_TABLE, READING_NUMBERS};
+use ixml_yardstick::limits::{main_table, GRAMMAR_TABLE, READING_NUMBERS, RECORD_CHARACTERS};
 use ixml_yardstick::{check, convert, plain, read, statics, syntax, Answer};
 use oracle::Oracle;
 
@@ -21,7 +21,7 @@ fn compare(job: &Job) -> u32 {
     let checked = check(grammar);
     let mut numbers = [7; READING_NUMBERS];
     let mut bytes = vec![7; 1 << 20];
-    let table = main_table(512, 120);
+    let table = main_table(512, RECORD_CHARACTERS);
     let reading = read(grammar, record, table, GRAMMAR_TABLE, &mut numbers);
     let converted = convert(grammar, record, table, GRAMMAR_TABLE, &mut bytes);
     if checked.number != 0 {
@@ -90,7 +90,7 @@ fn quick_answers_agree_with_the_definitions() {
         let number = compare(&job);
         *seen.entry(number).or_default() += 1;
         let mut numbers = [0; READING_NUMBERS];
-        let table = main_table(512, 120);
+        let table = main_table(512, RECORD_CHARACTERS);
         let (grammar, record) = (job.grammar.as_bytes(), job.record.as_bytes());
         let reading = read(grammar, record, table, GRAMMAR_TABLE, &mut numbers);
         ambiguous += usize::from(reading.ambiguous);

@@ -6,7 +6,7 @@ use common::{
     ample, assert_check, assert_reading, assert_xml, check_number, convert_answer, doublings,
     read_answer, reading, xml, STATE,
 };
-use ixml_yardstick::limits::GRAMMAR_TABLE;
+use ixml_yardstick::limits::{GRAMMAR_TABLE, RECORD_CHARACTERS};
 use ixml_yardstick::{category, check, convert, read, Answer};
 
 #[test]
@@ -221,9 +221,9 @@ fn b24_splits_a_literal() {
 
 #[test]
 fn b25_counts_bytes_of_the_record() {
-    let record = "é".repeat(120);
+    let record = "é".repeat(RECORD_CHARACTERS);
     assert_eq!(xml("a: ~[]*.", &record), format!("<a>{record}</a>"));
-    assert_eq!(xml("a: ~[]*.", "é".repeat(121)), "refused 14");
+    assert_eq!(xml("a: ~[]*.", "é".repeat(RECORD_CHARACTERS + 1)), "refused 14");
 }
 
 #[test]
@@ -340,14 +340,14 @@ fn b39_shares_one_counter_of_depth() {
 /// Elements that lie thousands deep need no deep native stack.
 #[test]
 fn deep_trees() {
-    let rules = 33;
+    let rules = 20;
     let mut grammar: String = (0..rules - 1)
         .map(|n| format!("r{n}: r{}. ", n + 1))
         .collect();
     grammar.push_str(&format!("r{}: \"x\", r0; \"x\".", rules - 1));
-    let answer = read_answer(&grammar, "x".repeat(120));
-    assert_eq!((answer.number, answer.length), (0, 120 * rules));
-    let xml = xml(&grammar, "x".repeat(120));
+    let answer = read_answer(&grammar, "x".repeat(RECORD_CHARACTERS));
+    assert_eq!((answer.number, answer.length), (0, RECORD_CHARACTERS * rules));
+    let xml = xml(&grammar, "x".repeat(RECORD_CHARACTERS));
     assert!(xml.starts_with("<r0><r1>") && xml.ends_with("</r1></r0>"));
     assert!(!xml.contains(STATE));
 }

@@ -78,7 +78,7 @@ pub record Demands : Type 0 where
   pub marks : (j : Job) (old old′ new new′ : List ℕ) (a b : Answer) → Reads j old a new → a .number ≡ 0 → Converts j old′ b new′ → b .number ≡ 0 → a .ambiguous ≡ b .ambiguous
   -- no derivation of the record is lower than the reading's
   pub least : {g : Grammar} {r : Text} {t u : Row} {p : List ℕ} → Reading g r t p → Derivation g r u → height t ≤ height u
-  -- "At the limits that is 3,779,072."
-  pub need : tableNeed mostSize recordChars ≡ 3779072
+  -- "The table formula stays; at the limits it gives 10,394,112 numbers."
+  pub need : tableNeed mostSize recordChars ≡ 10394112
   -- "`a: "x".` has size 2; `a: "x"*.` has size 6."
   pub sizes : ((g : Grammar) → GrammarTree (chars "a: \"x\".") g → size g ≡ 2) × ((g : Grammar) → GrammarTree (chars "a: \"x\"*.") g → size g ≡ 6)

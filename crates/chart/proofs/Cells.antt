@@ -7,6 +7,7 @@ use native.Mathlib.Decide.{ℕ-discrete}
 use native.Mathlib.Omega.{arith}
 use lib.ListN.{length, getD, set}
 use lib.Seq.{getD-set-same, getD-set-other}
+use Rattle.text.specs.Limits.{mostSize, recordChars}
 use mir.Syntax.{w64}
 use mir.Val.{Fits}
 use Rattle.chart.specs.Heights.{before, stretches, cellAt, none}
@@ -25,27 +26,37 @@ before-next j i n h l =
 pub cell-lt : (n p i j len : ℕ) → i ≤ j → j ≤ n → (p + 1) * stretches n ≤ len → cellAt n p i j < len
 cell-lt n p i j len h l room = omega (arith, before-next j i n h l, add-mul p 1 (stretches n))
 
+-- at the limits: twice the stretches of a record, the stretches, the cells
+abbrev pub mostPairs : ℕ
+mostPairs = (recordChars + 1) * (recordChars + 2)
+
+abbrev pub mostStretches : ℕ
+mostStretches = mostPairs / 2
+
+abbrev pub mostCells : ℕ
+mostCells = mostSize * mostStretches
+
 -- what `cell` computes fits
-pub square-fits : (a b : ℕ) → a ≤ 121 → b ≤ 122 → Fits w64 (a * b)
+pub square-fits : (a b : ℕ) → a ≤ recordChars + 1 → b ≤ recordChars + 2 → Fits w64 (a * b)
 square-fits a b ha hb =
-    let k : a * b ≤ 121 * 122 = mul-le-mul {n₁ = a} {m₁ = b} {n₂ = 121} {m₂ = 122} ha hb in
+    let k : a * b ≤ mostPairs = mul-le-mul {n₁ = a} {m₁ = b} {n₂ = recordChars + 1} {m₂ = recordChars + 2} ha hb in
     record { fits = omega arith }
 
-small : (a b : ℕ) → a ≤ 121 → b ≤ 122 → a * b / 2 ≤ 7381
+small : (a b : ℕ) → a ≤ recordChars + 1 → b ≤ recordChars + 2 → a * b / 2 ≤ mostStretches
 small a b ha hb =
-    let k : a * b ≤ 121 * 122 = mul-le-mul {n₁ = a} {m₁ = b} {n₂ = 121} {m₂ = 122} ha hb in
+    let k : a * b ≤ mostPairs = mul-le-mul {n₁ = a} {m₁ = b} {n₂ = recordChars + 1} {m₂ = recordChars + 2} ha hb in
     omega arith
 
-pub stretches-small : (n : ℕ) → n ≤ 120 → stretches n ≤ 7381
+pub stretches-small : (n : ℕ) → n ≤ recordChars → stretches n ≤ mostStretches
 stretches-small n h = small (n + 1) (n + 2) (omega arith) (omega arith)
 
-pub rows-small : (p n : ℕ) → p ≤ 512 → n ≤ 120 → p * stretches n ≤ 3779072
-rows-small p n hp hn = mul-le-mul {n₁ = p} {m₁ = stretches n} {n₂ = 512} {m₂ = 7381} hp (stretches-small n hn)
+pub rows-small : (p n : ℕ) → p ≤ mostSize → n ≤ recordChars → p * stretches n ≤ mostCells
+rows-small p n hp hn = mul-le-mul {n₁ = p} {m₁ = stretches n} {n₂ = mostSize} {m₂ = mostStretches} hp (stretches-small n hn)
 
-pub rows-fit : (p n : ℕ) → p ≤ 512 → n ≤ 120 → Fits w64 (p * stretches n)
+pub rows-fit : (p n : ℕ) → p ≤ mostSize → n ≤ recordChars → Fits w64 (p * stretches n)
 rows-fit p n hp hn = record { fits = omega (arith, rows-small p n hp hn) }
 
-pub before-small : (j : ℕ) → j ≤ 120 → before j ≤ 7381
+pub before-small : (j : ℕ) → j ≤ recordChars → before j ≤ mostStretches
 before-small j h = small j (j + 1) (omega arith) (omega arith)
 
 -- one cell more holds nothing

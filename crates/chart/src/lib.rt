@@ -2,6 +2,7 @@
 ghost use mathlib.Core.Path.{_≡_};
 ghost use Prim.Native.Nat.{ℕ, _*_, _<_, _≤_};
 ghost use lib.ListN.{length, getD};
+ghost use Rattle.text.specs.Limits.{mostSize, recordChars};
 ghost use Rattle.chart.specs.Code.{nextKind, ruleAt};
 ghost use Rattle.chart.specs.Heights.{cellAt, Clear};
 ghost use Rattle.chart.specs.Uses.{Uses};
@@ -42,7 +43,7 @@ pub const NONE: u32 = 4294967295;
 
 // Where the cell of p on the stretch from i to j stands.
 pub fn cell(n: usize, p: usize, i: usize, j: usize) -> usize
-    requires { ⌜ (n ≤ 120) × (p < 512) × (i ≤ j) × (j ≤ n) ⌝ }
+    requires { ⌜ (n ≤ recordChars) × (p < mostSize) × (i ≤ j) × (j ≤ n) ⌝ }
     ensures { λ r. ⌜ r ≡ cellAt n p i j ⌝ }
 {
     p * ((n + 1) * (n + 2) / 2) + j * (j + 1) / 2 + i

@@ -11,7 +11,7 @@ use lib.Seq.{take-take}
 use borrow.Author.Tests.{ltb-false}
 use denote.Enum.Declared.{tagOf}
 use types.Run.{OneOf}
-use Rattle.text.specs.Limits.{grammarTable, readingNumbers}
+use Rattle.text.specs.Limits.{grammarTable, readingNumbers, recordChars}
 use Rattle.text.specs.Lists.{Text, pick}
 use Rattle.tree.specs.Tree.{Grammar, rules}
 use Rattle.tree.specs.Tokens.{grammarTokens}
@@ -102,7 +102,7 @@ module _ (j : Job) (Tab new : List ℕ) (s : Start) (w : Started j Tab new s) wh
 
     pub choosable : (main parse : ℕ) → j .mainTable ≡ main → length T′ ≡ grammarTable → readingNumbers ≤ parse → Choosable T′ n root (take (s .chars) new) main parse
     choosable main parse m l p =
-        let short : length (take (s .chars) new) ≤ 120 = omega (arith, got-part (w .input), w .input .count, w .input .short) in
+        let short : length (take (s .chars) new) ≤ recordChars = omega (arith, got-part (w .input), w .input .count, w .input .short) in
         let enough : tableNeed (size g) (length r) ≤ j .mainTable = ltb-false (j .mainTable) (tableNeed (size g) (length r))
         (or-false (ltb (j .mainTable) (tableNeed (size g) (length r))) (ltb (j .secondTable) grammarTable) (w .enough)) in
         let k : n * stretches (length (take (s .chars) new)) ≡ tableNeed (size g) (length r) = ap

@@ -7,7 +7,7 @@ use native.Mathlib.Omega.{arith}
 use lib.Dec.{ltb}
 use lib.ListN.{length}
 use borrow.Author.Tests.{lt-ltb, le-ltb}
-use Rattle.text.specs.Limits.{grammarTable}
+use Rattle.text.specs.Limits.{grammarTable, recordChars}
 use Rattle.plain.specs.Plain.{size}
 use Rattle.answer.specs.Answer.{Job, tableNeed}
 use Rattle.answer.specs.Compute.{firstOf, grammarTests, recordTests}
@@ -51,7 +51,7 @@ module _ (j : Job) (T new : List ℕ) where
       got : Got (j .input) new n
       got = subst (Takes (j .input) new) e t
 
-      pub few : n ≤ 120
+      pub few : n ≤ recordChars
       few = omega (arith, got .count, got .short)
 
       refused : (ltb (j .mainTable) (tableNeed (size (kept .tree)) (length (got .chars))) || ltb (j .secondTable) grammarTable) ≡ true → Begins j T new (Ended 15)

@@ -6,6 +6,7 @@ use Prim.Native.Nat.{ℕ, _≤_, _<_}
 use native.Mathlib.Omega.{arith}
 use lib.ListN.{length, take, drop, length-take}
 use lib.Seq.{take-all, take-at}
+use Rattle.text.specs.Limits.{recordChars}
 use denote.Enum.Declared.{tagOf}
 use types.Run.{OneOf}
 use Rattle.text.specs.Lists.{Text}
@@ -47,10 +48,10 @@ module _ (bs old new : List ℕ) (r : Decoding) (w : Decodes (decode bs) old r n
         go (tells-not x) q = absurd (let z : _≡_ {A = ℕ} 0 1 = cc in omega arith)
         go (tells-unknown x) q = absurd (let z : _≡_ {A = ℕ} 0 1 = cc in omega arith)
 
-    pub too-many : 120 < k .0 → Takes bs new (Refused 14)
+    pub too-many : recordChars < k .0 → Takes bs new (Refused 14)
     too-many h = λ j q. record { some = fourteen-not; early = omega arith; is = λ ts. stage-14 j ts (known .chars) (ap decode q ∙ known .is) (known .within) (let c = known .count in omega arith) }
 
-    pub taken : k .0 ≤ 120 → length old ≡ 120 → Takes bs new (Chars (k .0))
+    pub taken : k .0 ≤ recordChars → length old ≡ recordChars → Takes bs new (Chars (k .0))
     taken h l =
         let c : k .0 ≡ length (known .chars) = known .count in
         let s : new ≡ over (known .chars) old = w .stored (known .chars) (known .is) in

@@ -10,7 +10,7 @@ use reading::Walked;
 // The stack of the walk: three numbers for each of a reading's.
 const STACK_LENGTH: usize = 3 * text::limits::READING_NUMBERS;
 
-// The left parse goes to `parse`. What one stage leaves for the next, but for the main table, is local: 119,296 bytes.
+// The left parse goes to `parse`. What one stage leaves for the next, but for the main table, is local: 160,256 bytes.
 pub fn choose(
     table: &[u32],
     size: usize,

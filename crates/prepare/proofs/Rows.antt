@@ -50,11 +50,11 @@ row-end w h = record { long = w .long; row = λ x v j l. w .row x v j (omega ari
 pub item-skip : {T R f : List ℕ} {p : ℕ} → (kindAt T p ≡ 1 → ⊥) → ItemRow T R f f p
 item-skip d = record { long = refl; row = λ x e w i h. absurd (d e); kept = λ q i n h. refl }
 
-pub item-row : {T R f f' : List ℕ} {at p : ℕ} → at ≡ tokenAt T p → length R ≤ recordChars → Row T R f f' at (p * 121) → ItemRow T R f f' p
+pub item-row : {T R f f' : List ℕ} {at p : ℕ} → at ≡ tokenAt T p → length R ≤ recordChars → Row T R f f' at (p * (recordChars + 1)) → ItemRow T R f f' p
 item-row {T} {R} {p = p} e s w = record {
   long = w .long;
   row = λ x k v i h. w .row x (rw e v) i h;
-  kept = λ q i n h. w .kept (q * 121 + i) (⊎-elim (λ l. inl (omega arith)) (λ l. inr (omega arith)) (split q p));
+  kept = λ q i n h. w .kept (q * (recordChars + 1) + i) (⊎-elim (λ l. inl (omega arith)) (λ l. inr (omega arith)) (split q p));
 }
 
 pub record RowsBelow (T : List ℕ) (size : ℕ) (R f₀ f : List ℕ) (p : ℕ) : Type 0 where

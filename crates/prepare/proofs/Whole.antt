@@ -9,6 +9,7 @@ use native.Mathlib.Decide.{decLt, ℕ-discrete}
 use native.Mathlib.Omega.{arith}
 use lib.ListN.{length, getD, take, drop, length-append, length-drop, length-take, take-append-drop}
 use lib.Seq.{drop-append-le, length-take-le}
+use Rattle.text.specs.Limits.{recordChars}
 use borrow.Author.Tests.{eq-eqb, ne-eqb, lt-ltb, le-ltb}
 use Rattle.text.specs.Lists.{Text}
 use Rattle.text.proofs.Tests.{split}
@@ -294,7 +295,7 @@ module _ {T : List ℕ} {g : Grammar} {size first : ℕ} (r : Ready T g size fir
     top-is : ownerAt c first - 1 ≡ end first (root g) (r .built .items .begins)
     top-is = let e = w .owner-is first first-inside ∙ first-owner first (root g) (r .built .items .begins) in omega arith
 
-    pub coded : size ≤ 512 → 4 * size ≤ length c → length R ≤ 120 → size * 121 ≤ length f → (top : ℕ) → top ≡ ownerAt c first - 1 → Coded c f g R size top first
+    pub coded : size ≤ 512 → 4 * size ≤ length c → length R ≤ recordChars → size * (recordChars + 1) ≤ length f → (top : ℕ) → top ≡ ownerAt c first - 1 → Coded c f g R size top first
     coded small room short fits-room top e =
         let d : top ≡ end first (root g) (r .built .items .begins) = e ∙ top-is in
         record {

@@ -8,6 +8,7 @@ use native.Mathlib.Omega.{arith}
 use lib.Dec.{eqb}
 use borrow.Author.Tests.{eq-eqb, ne-eqb}
 use lib.ListN.{length, getD}
+use Rattle.text.specs.Limits.{recordChars}
 use Rattle.tree.specs.Tree.{Terminal, Symbol, terminal}
 use Rattle.plain.specs.Plain.{alts, width}
 use Rattle.derive.specs.Derive.{root}
@@ -42,7 +43,7 @@ module _ {c M : List ℕ} {n top first : ℕ} (t : Finished c M n top first) whe
       let m : (t .size) * stretches n ≤ length M = subst (λ (z : ℕ). (t .size) * stretches z ≤ length M) (t .long) (t .heights .room) in
       record { row = record { cells = omega arith; small = omega (arith, t .code .small) }; numbers = omega (arith, t .code .room) }
 
-  pub short : n ≤ 120
+  pub short : n ≤ recordChars
   short = omega (arith, t .code .short, t .long)
 
   counted : (p : ℕ) → p < length dots → p < t .size

@@ -15,7 +15,7 @@ mostSize = 512
 
 -- refusal 14: characters of a record
 abbrev pub recordChars : ℕ
-recordChars = 120
+recordChars = 200
 
 -- refusal 15: the fixed length of the grammar table
 abbrev pub grammarTable : ℕ

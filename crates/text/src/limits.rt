@@ -7,7 +7,7 @@ pub const LEVELS: usize = 16;
 // The size of a grammar.
 pub const GRAMMAR_SIZE: usize = 512;
 // Characters of a record.
-pub const RECORD_CHARACTERS: usize = 120;
+pub const RECORD_CHARACTERS: usize = 200;
 // Numbers of the grammar table.
 pub const GRAMMAR_TABLE: usize = 16384;
 // Numbers of a reading.

@@ -1,14 +1,15 @@
 //! Jobs at the limits.
 
+use ixml::limits::RECORD_CHARACTERS;
 use ixml_yardstick::gen;
 
 use super::Job;
 
-/// A reading of so many numbers, from 3,993 on, in which each node but the
+/// A reading of so many numbers, from 4,020 on, in which each node but the
 /// last has one node below it. All rules but the root's carry the mark.
 pub fn deep(mark: &str, numbers: usize) -> Job {
-    const CYCLE: usize = 33;
-    let before = numbers - CYCLE * 121;
+    const CYCLE: usize = 20;
+    let before = numbers - CYCLE * (RECORD_CHARACTERS + 1);
     let rules = before + CYCLE;
     let mut grammar = String::new();
     for rule in 0..rules {
@@ -19,7 +20,7 @@ pub fn deep(mark: &str, numbers: usize) -> Job {
             grammar.push_str(&format!("{mark}r{rule}: 'x', r{before} ; ."));
         }
     }
-    Job::new(grammar, "x".repeat(120))
+    Job::new(grammar, "x".repeat(RECORD_CHARACTERS))
 }
 
 /// A reading of 4,096 numbers that is four nodes high.
@@ -49,13 +50,13 @@ pub fn attributes(count: usize) -> Job {
 
 /// Jobs that take a good deal of stack or scratch in a careless engine.
 pub fn awkward() -> Vec<Job> {
-    let x = "x".repeat(120);
+    let x = "x".repeat(RECORD_CHARACTERS);
     let stars = |depth: usize| format!("a: {}'x'{}.", "(".repeat(depth), "*)".repeat(depth));
     let mut jobs = vec![
         wide(),
         attributes(60),
         Job::new("a: ~[]*.", &x),
-        Job::new("a: ~[]*.", "x".repeat(121)),
+        Job::new("a: ~[]*.", "x".repeat(RECORD_CHARACTERS + 1)),
         Job::new("a: a.", &x),
         Job::new("a: 'x', a.", &x),
         Job::new("a: a, 'x'; .", &x),
@@ -67,7 +68,7 @@ pub fn awkward() -> Vec<Job> {
         Job::new(stars(15), &x[..40]),
         Job::new(stars(16), &x[..20]),
         Job::new(format!("a: '{x}'; 'x'+."), &x),
-        Job::new("a: [L]*, [Ll]*, ~[Nd]*.", "é".repeat(120)),
+        Job::new("a: [L]*, [Ll]*, ~[Nd]*.", "é".repeat(RECORD_CHARACTERS)),
         Job::new("a: \"x\".", vec![b'x'; 1 << 20]),
         Job::new(vec![b' '; 1 << 20], ""),
     ];
@@ -78,11 +79,11 @@ pub fn awkward() -> Vec<Job> {
     jobs
 }
 
-/// Grammars of full size with records of 120 characters.
+/// Grammars of full size with records of full length.
 pub fn full_size() -> Vec<Job> {
-    let letters = gen::letters(120);
+    let letters = gen::letters(RECORD_CHARACTERS);
     let families = [gen::pairs, gen::copies, gen::stars, gen::runs, gen::chains];
-    let mut jobs = vec![Job::new(gen::fields(512), gen::fields_record(120))];
+    let mut jobs = vec![Job::new(gen::fields(512), gen::fields_record(RECORD_CHARACTERS))];
     jobs.extend(families.map(|family| Job::new(family(512), &letters)));
     jobs
 }

@@ -11,7 +11,7 @@ pub mod xml;
 use std::time::Duration;
 use std::{fmt, thread};
 
-use ixml::limits::{main_table, GRAMMAR_TABLE};
+use ixml::limits::{main_table, GRAMMAR_TABLE, RECORD_CHARACTERS};
 use ixml::Answer;
 use ixml_yardstick::gen::{Random, Style};
 use ixml_yardstick::{gen, statics, syntax};
@@ -112,7 +112,7 @@ impl Job {
     pub fn made_up(random: &mut Random) -> Job {
         let style = *random.pick(&Style::ALL);
         let longest = match random.below(1000) {
-            0..=1 => 120,
+            0..=1 => RECORD_CHARACTERS,
             2..=49 => 40,
             50..=299 => 20,
             _ => 8,
@@ -136,7 +136,7 @@ impl Job {
             1 => record.truncate(at),
             2 => record.extend("\u{100}".bytes()),
             _ => {
-                let missing = 121usize.saturating_sub(record.len());
+                let missing = (RECORD_CHARACTERS + 1).saturating_sub(record.len());
                 let fewer = random.below(3);
                 record.extend(std::iter::repeat_n(b'x', missing.saturating_sub(fewer)));
             }
@@ -148,7 +148,7 @@ impl Job {
         let record = std::str::from_utf8(&self.record).ok()?;
         let characters = record.chars().count();
         let known = record.chars().all(|character| character <= '\u{FF}');
-        (known && characters <= 120).then_some(())?;
+        (known && characters <= RECORD_CHARACTERS).then_some(())?;
         Some(main_table(size(&self.grammar)?, characters))
     }
 }

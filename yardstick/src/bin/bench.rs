@@ -7,7 +7,7 @@ use ixml_yardstick::limits::{main_table, GRAMMAR_TABLE, RECORD_CHARACTERS};
 use ixml_yardstick::{check, convert, gen, statics, syntax};
 
 const RUNS: usize = 21;
-const LENGTHS: [usize; 3] = [20, 80, 120];
+const LENGTHS: [usize; 3] = [20, 80, RECORD_CHARACTERS];
 
 /// The median over several runs, each repeated for at least a few
 /// milliseconds.
@@ -63,7 +63,7 @@ fn main() {
         ("runs, ambiguous", gen::runs, gen::letters),
         ("chains, unambiguous", gen::chains, gen::letters),
     ];
-    println!("| converting | size | 20 characters | 80 characters | 120 characters |");
+    println!("| converting | size | 20 characters | 80 characters | 200 characters |");
     println!("|---|---:|---:|---:|---:|");
     for (name, grammar, record) in families {
         for size in [48, 192, 512] {

@@ -191,10 +191,10 @@ mod tests {
     #[test]
     fn iterates_in_order() {
         let mut places = Places::NONE;
-        for place in [0, 5, 63, 64, 100, 120] {
+        for place in [0, 5, 63, 64, 100, 200] {
             places.insert(place);
         }
         assert_eq!(places.count(), 6);
-        assert_eq!(places.iter().collect::<Vec<_>>(), [0, 5, 63, 64, 100, 120]);
+        assert_eq!(places.iter().collect::<Vec<_>>(), [0, 5, 63, 64, 100, 200]);
     }
 }

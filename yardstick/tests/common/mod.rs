@@ -1,14 +1,14 @@
 //! Short ways to run a job with ample room.
 #![allow(dead_code)]
 
-use ixml_yardstick::limits::{main_table, GRAMMAR_TABLE};
+use ixml_yardstick::limits::{main_table, GRAMMAR_TABLE, RECORD_CHARACTERS};
 use ixml_yardstick::{check, convert, read, Answer};
 
 pub const STATE: &str = " xmlns:ixml='http://invisiblexml.org/NS' ixml:state=";
 
 /// A main table that is long enough for every job.
 pub fn ample() -> usize {
-    main_table(512, 120)
+    main_table(512, RECORD_CHARACTERS)
 }
 
 pub fn check_number(grammar: impl AsRef<[u8]>) -> u32 {
