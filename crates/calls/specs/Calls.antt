@@ -15,7 +15,8 @@ use Rattle.calls.specs.declared.Answer.{Answer}
 abbrev pub shown : Answer → defined.Answer
 shown a = record { number = a .number; length = a .length; ambiguous = a .ambiguous; version = a .version }
 
--- the answer is the one that the definition of checking gives, of which there is exactly one
+-- the answer is the one that the definition of checking gives, of which there is exactly one: that it is the computed one follows
+-- (answer Settled: check-settled)
 pub record Checked (bs : List ℕ) (a : Answer) : Type 0 where
   pub computed : shown a ≡ checkOf bs
   pub defines : Checks bs (shown a)
@@ -28,13 +29,14 @@ whyConverted (Refused n) = n
 abbrev pub refusalOf : Refusal → Answer
 refusalOf r = record { number = r .number; length = 0; ambiguous = false; version = eqb (r .number) 16 && r .mismatch }
 
--- answer and buffer are those that the definition of reading gives, of which there is exactly one
+-- answer and buffer are those that the definition of reading gives, of which there are exactly one each: that they are the computed ones
+-- follows (read-settled)
 pub record ReadAs (j : Job) (old : List ℕ) (a : Answer) (new : List ℕ) : Type 0 where
   pub computed : shown a ≡ readOf j old .answer
   pub buffer : new ≡ readOf j old .buffer
   pub defines : Reads j old (shown a) new
 
--- of converting
+-- of converting (convert-settled)
 pub record ConvertedAs (j : Job) (old : List ℕ) (a : Answer) (new : List ℕ) : Type 0 where
   pub computed : shown a ≡ convertOf j old .answer
   pub buffer : new ≡ convertOf j old .buffer

@@ -88,7 +88,7 @@ fn copy(from: &[u32], count: usize, to: &mut [u32])
 }
 
 // Reads a record. Of the lent tables the second is known by its length alone: a grammar is judged before it is known to be long
-// enough, so the call has a table of its own.
+// enough, so the call has a table of its own. What the main table holds afterwards is left open.
 #[no_mangle]
 pub extern "C" fn ixml_read(
     grammar: &[u8],
@@ -138,7 +138,7 @@ fn why_converted(converted: Converted) -> u32
     }
 }
 
-// Converts a record.
+// Converts a record. What the main table holds afterwards is left open.
 #[no_mangle]
 pub extern "C" fn ixml_convert(
     grammar: &[u8],
