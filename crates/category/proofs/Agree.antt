@@ -2,7 +2,7 @@
 use mathlib.Core.Path.{_≡_, refl, sym, subst}
 use mathlib.Core.Bool.{Bool, true, false, not, _&&_, _||_, and-false}
 use mathlib.Core.List.{List, [], _∷_}
-use Prim.Native.Nat.{ℕ, zero, suc, _<_, _≤_}
+use Prim.Native.Nat.{ℕ, zero, suc, _<_, _≤_, _/_, _%_}
 use native.Mathlib.Nat.{not-suc-le-zero}
 use native.Mathlib.Decide.{decLt, ℕ-discrete}
 use native.Mathlib.Omega.{arith}
@@ -95,16 +95,11 @@ by-number c = elim (decLt c 256) as (λ _. getD categories (categoryNumber c) []
   | no h ↦ (let e = unknown c (omega arith) in let f = not-known c (omega arith) in rw (f, e))
 ]
 
--- the classes' first and last categories
-unfoldable pub firsts : List ℕ
-firsts =
-    0 ∷ 1 ∷ 2 ∷ 3 ∷ 4 ∷ 5 ∷ 6 ∷ 7 ∷ 8 ∷ 9 ∷ 10 ∷ 11 ∷ 12 ∷ 13 ∷ 14 ∷ 15 ∷ 16 ∷ 17 ∷ 18 ∷ 19 ∷ 20 ∷ 21 ∷ 22 ∷ 23 ∷ 24 ∷ 25 ∷ 26 ∷ 27 ∷ 28 ∷
-    29 ∷ 0 ∷ 5 ∷ 8 ∷ 11 ∷ 18 ∷ 22 ∷ 25 ∷ 0 ∷ []
-
-unfoldable pub lasts : List ℕ
-lasts =
-    0 ∷ 1 ∷ 2 ∷ 3 ∷ 4 ∷ 5 ∷ 6 ∷ 7 ∷ 8 ∷ 9 ∷ 10 ∷ 11 ∷ 12 ∷ 13 ∷ 14 ∷ 15 ∷ 16 ∷ 17 ∷ 18 ∷ 19 ∷ 20 ∷ 21 ∷ 22 ∷ 23 ∷ 24 ∷ 25 ∷ 26 ∷ 27 ∷ 28 ∷
-    29 ∷ 4 ∷ 7 ∷ 10 ∷ 17 ∷ 21 ∷ 24 ∷ 29 ∷ 2 ∷ []
+-- the classes' first and last categories: the table of the code
+unfoldable pub spans : List ℕ
+spans =
+    0 ∷ 33 ∷ 66 ∷ 99 ∷ 132 ∷ 165 ∷ 198 ∷ 231 ∷ 264 ∷ 297 ∷ 330 ∷ 363 ∷ 396 ∷ 429 ∷ 462 ∷ 495 ∷ 528 ∷ 561 ∷ 594 ∷ 627 ∷ 660 ∷ 693 ∷
+    726 ∷ 759 ∷ 792 ∷ 825 ∷ 858 ∷ 891 ∷ 924 ∷ 957 ∷ 4 ∷ 167 ∷ 266 ∷ 369 ∷ 597 ∷ 728 ∷ 829 ∷ 2 ∷ []
 
 -- what a class says of a category
 holds : Text → Text → Bool
@@ -122,7 +117,7 @@ agree-is false true h = absurd h
 agree-is false false h = refl
 
 spanned : ℕ → ℕ → Bool
-spanned k n = agree (holds (getD classes k []) (getD categories n [])) (leb (getD firsts k 0) n && leb n (getD lasts k 0))
+spanned k n = agree (holds (getD classes k []) (getD categories n [])) (leb (getD spans k 0 / 32) n && leb n (getD spans k 0 % 32))
 
 small : ℕ → Bool
 small c = ltb (categoryNumber c) 31
@@ -138,20 +133,12 @@ row : ℕ → Bool
 row k = below 31 (spanned k)
 
 -- a class is the span of its categories: one test over all classes and categories
-pub class-spans : (k c : ℕ) → k < 38 → inClass (getD classes k []) c ≡ (leb (getD firsts k 0) (categoryNumber c) && leb (categoryNumber c) (getD lasts k 0))
-unfolding inClass holds spanned row agree firsts lasts classes categories
+pub class-spans : (k c : ℕ) → k < 38
+    → inClass (getD classes k []) c ≡ (leb (getD spans k 0 / 32) (categoryNumber c) && leb (categoryNumber c) (getD spans k 0 % 32))
+unfolding inClass holds spanned row agree spans classes categories
 class-spans k c h =
     let n = categoryNumber c in
+    let within = leb (getD spans k 0 / 32) n && leb n (getD spans k 0 % 32) in
     let t = below-at 31 (spanned k) (below-at 38 row tt k h) n (number-below c) in
-    let e = agree-is (holds (getD classes k []) (getD categories n [])) (leb (getD firsts k 0) n && leb n (getD lasts k 0)) t in
-    subst (λ (x : Text). holds (getD classes k []) x ≡ (leb (getD firsts k 0) n && leb n (getD lasts k 0))) (by-number c) e
-
-pub before-first : (k c n : ℕ) → k < 38 → n ≡ categoryNumber c → n < getD firsts k 0 → false ≡ inClass (getD classes k []) c
-before-first k c n h e l =
-    let f : leb (getD firsts k 0) (categoryNumber c) ≡ false = lt-leb (getD firsts k 0) (categoryNumber c) (subst (λ (m : ℕ). m < getD firsts k 0) e l) in
-    rw (class-spans k c h, f)
-
-pub from-first : (k c n : ℕ) → k < 38 → n ≡ categoryNumber c → getD firsts k 0 ≤ n → leb n (getD lasts k 0) ≡ inClass (getD classes k []) c
-from-first k c n h e l =
-    let f : leb (getD firsts k 0) (categoryNumber c) ≡ true = le-leb (getD firsts k 0) (categoryNumber c) (subst (λ (m : ℕ). getD firsts k 0 ≤ m) e l) in
-    rw (class-spans k c h, f, e)
+    let e = agree-is (holds (getD classes k []) (getD categories n [])) within t in
+    subst (λ (x : Text). holds (getD classes k []) x ≡ within) (by-number c) e

@@ -1,14 +1,14 @@
 -- The class of one letter or two, found in the list of all.
 use mathlib.Core.Path.{_≡_, refl, sym, ap, _∙_, subst}
-use mathlib.Core.Bool.{Bool, true, false, _&&_}
-use mathlib.Core.List.{List, [], _∷_}
-use Prim.Native.Nat.{ℕ, zero, suc, _+_, _<_}
+use mathlib.Core.Bool.{Bool, true, false, _&&_, and-false}
+use mathlib.Core.List.{List, [], _∷_, map}
+use Prim.Native.Nat.{ℕ, zero, suc, _+_, _*_, _/_, _%_, _<_, _≤_}
 use native.Mathlib.Nat.{not-suc-le-zero}
 use native.Mathlib.Decide.{ℕ-discrete}
 use native.Mathlib.Omega.{arith}
-use lib.Dec.{eqb}
-use lib.ListN.{length, getD}
-use borrow.Author.Tests.{eq-eqb, ne-eqb}
+use lib.Dec.{eqb, ltb, eqb→eq, ltb→lt}
+use lib.ListN.{length, getD, List·getD-map}
+use borrow.Author.Tests.{ne-eqb}
 use Rattle.text.specs.Lists.{Text, any, same}
 use native.Mathlib.Numerals.{add-one}
 use Rattle.text.proofs.Tests.{same-is, isT, clash}
@@ -31,30 +31,65 @@ same-letters-is c d x y = elim (ℕ-discrete d 0) as (λ _. same (letters c d) (
     and-true true = refl
     and-true false = refl
 
+-- the keys of the classes, and the class of each slot: the tables of the code
+unfoldable pub keys : List ℕ
+keys =
+    19573 ∷ 19564 ∷ 19572 ∷ 19565 ∷ 19567 ∷ 19822 ∷ 19811 ∷ 19813 ∷ 20068 ∷ 20076 ∷ 20079 ∷ 20579 ∷ 20580 ∷ 20595 ∷ 20581 ∷
+    20585 ∷ 20582 ∷ 20591 ∷ 21357 ∷ 21347 ∷ 21355 ∷ 21359 ∷ 23155 ∷ 23148 ∷ 23152 ∷ 17251 ∷ 17254 ∷ 17267 ∷ 17263 ∷ 17262 ∷
+    19456 ∷ 19712 ∷ 19968 ∷ 20480 ∷ 21248 ∷ 23040 ∷ 17152 ∷ 19523 ∷ []
+
+unfoldable pub slots : List ℕ
+slots =
+    13 ∷ 0 ∷ 31 ∷ 0 ∷ 0 ∷ 0 ∷ 0 ∷ 36 ∷ 37 ∷ 0 ∷ 0 ∷ 0 ∷ 0 ∷ 8 ∷ 0 ∷ 35 ∷ 30 ∷ 19 ∷ 0 ∷ 0 ∷ 33 ∷ 9 ∷ 0 ∷ 0 ∷ 10 ∷ 20 ∷ 6 ∷ 18 ∷ 7 ∷
+    21 ∷ 0 ∷ 25 ∷ 0 ∷ 0 ∷ 26 ∷ 0 ∷ 0 ∷ 5 ∷ 0 ∷ 0 ∷ 0 ∷ 0 ∷ 29 ∷ 28 ∷ 0 ∷ 0 ∷ 0 ∷ 27 ∷ 32 ∷ 1 ∷ 3 ∷ 0 ∷ 4 ∷ 34 ∷ 0 ∷ 0 ∷ 0 ∷ 2 ∷
+    0 ∷ 11 ∷ 12 ∷ 14 ∷ 16 ∷ 23 ∷ 0 ∷ 15 ∷ 0 ∷ 24 ∷ 0 ∷ 0 ∷ 22 ∷ 17 ∷ 0 ∷ 0 ∷ 0 ∷ []
+
+-- the letters in the keys
 unfoldable pub firstLetters : List ℕ
-firstLetters =
-    76 ∷ 76 ∷ 76 ∷ 76 ∷ 76 ∷ 77 ∷ 77 ∷ 77 ∷ 78 ∷ 78 ∷ 78 ∷ 80 ∷ 80 ∷ 80 ∷ 80 ∷ 80 ∷ 80 ∷ 80 ∷ 83 ∷ 83 ∷ 83 ∷ 83 ∷ 90 ∷ 90 ∷ 90 ∷ 67 ∷ 67 ∷
-    67 ∷ 67 ∷ 67 ∷ 76 ∷ 77 ∷ 78 ∷ 80 ∷ 83 ∷ 90 ∷ 67 ∷ 76 ∷ []
+firstLetters = map (λ (x : ℕ). x / 256) keys
 
 unfoldable pub secondLetters : List ℕ
-secondLetters =
-    117 ∷ 108 ∷ 116 ∷ 109 ∷ 111 ∷ 110 ∷ 99 ∷ 101 ∷ 100 ∷ 108 ∷ 111 ∷ 99 ∷ 100 ∷ 115 ∷ 101 ∷ 105 ∷ 102 ∷ 111 ∷ 109 ∷ 99 ∷ 107 ∷ 111 ∷ 115 ∷
-    108 ∷ 112 ∷ 99 ∷ 102 ∷ 115 ∷ 111 ∷ 110 ∷ 0 ∷ 0 ∷ 0 ∷ 0 ∷ 0 ∷ 0 ∷ 0 ∷ 67 ∷ []
+secondLetters = map (λ (x : ℕ). x % 256) keys
 
 spelt : ℕ → ℕ → Bool
-spelt k x = same (letters x (getD secondLetters k 0)) (getD classes k [])
+spelt k x = same (letters (x / 256) (x % 256)) (getD classes k [])
+
+-- each class by its key: one test over the whole table
+key-letters : (k : ℕ) → k < 38 → letters (getD keys k 0 / 256) (getD keys k 0 % 256) ≡ getD classes k []
+unfolding spelt keys classes categories
+key-letters k h = same-is (letters (getD keys k 0 / 256) (getD keys k 0 % 256)) (getD classes k []) (at spelt keys tt k h)
 
 pub class-letters : (k : ℕ) → k < 38 → letters (getD firstLetters k 0) (getD secondLetters k 0) ≡ getD classes k []
-unfolding spelt firstLetters secondLetters classes categories
-class-letters k h = same-is (letters (getD firstLetters k 0) (getD secondLetters k 0)) (getD classes k []) (at spelt firstLetters tt k h)
+unfolding firstLetters secondLetters
+class-letters k h = rw (List·getD-map (λ (x : ℕ). x / 256) keys k 0, List·getD-map (λ (x : ℕ). x % 256) keys k 0) (key-letters k h)
 
-pub place-is : (xs : List Text) (k : Text) (n : ℕ) → n < length xs → ((j : ℕ) → j < n → same k (getD xs j []) ≡ false) → same k (getD xs n []) ≡ true → place xs k ≡ n
-unfolding place
-place-is [] k n h u e = absurd (not-suc-le-zero h)
-place-is (x ∷ xs) k zero h u e = rw (e, place)
-place-is (x ∷ xs) k (suc n) h u e =
-    let ih : place xs k ≡ n = place-is xs k n (omega arith) (λ j l. u (suc j) (omega arith)) e in
-    rw (u 0 (omega arith), place) (omega arith)
+small : ℕ → ℕ → Bool
+small k x = ltb x 65536
+
+pub key-small : (k : ℕ) → k < 38 → getD keys k 0 < 65536
+unfolding small keys
+key-small k h = ltb→lt (getD keys k 0) 65536 (at small keys tt k h)
+
+found-in-slot : ℕ → ℕ → Bool
+found-in-slot k x = eqb (getD slots (x % 135 % 75) 0) k
+
+-- a class stands in the slot of its key
+slot-of : (k : ℕ) → k < 38 → getD slots (getD keys k 0 % 135 % 75) 0 ≡ k
+unfolding found-in-slot keys slots
+slot-of k h = eqb→eq (getD slots (getD keys k 0 % 135 % 75) 0) k (at found-in-slot keys tt k h)
+
+a-class : ℕ → ℕ → Bool
+a-class j x = ltb x 38
+
+-- the class in the slot of two letters
+abbrev pub slot : ℕ → ℕ → ℕ
+slot c d = getD slots ((c * 256 + d) % 135 % 75) 0
+
+pub slot-below : (c d : ℕ) → slot c d < 38
+unfolding a-class slots
+slot-below c d =
+    let j = (c * 256 + d) % 135 % 75 in
+    ltb→lt (getD slots j 0) 38 (at a-class slots tt j (omega arith))
 
 pub place-none : (xs : List Text) (k : Text) → ((j : ℕ) → j < length xs → same k (getD xs j []) ≡ false) → place xs k ≡ length xs
 unfolding place
@@ -67,9 +102,47 @@ pub listed : length classes ≡ 38
 unfolding classes categories
 listed = refl
 
-pub class-here : (c d i a b : ℕ) (r : Bool) → i < 38 → a ≡ getD firstLetters i 0 → b ≡ getD secondLetters i 0
-    → r ≡ same (letters c d) (letters a b) → same (letters c d) (getD classes i []) ≡ r
-class-here c d i a b r h p q e = sym (e ∙ rw (p, q) (ap (same (letters c d)) (class-letters i h)))
+own-place : ℕ → ℕ → Bool
+own-place k x = eqb (place classes (getD classes k [])) k
+
+class-place : (k : ℕ) → k < 38 → place classes (getD classes k []) ≡ k
+unfolding own-place keys classes categories place
+class-place k h = eqb→eq (place classes (getD classes k [])) k (at own-place keys tt k h)
+
+-- letters that no class's key has
+no-class : (c d : ℕ) → ((j : ℕ) → j < 38 → c ≡ getD keys j 0 / 256 → d ≡ getD keys j 0 % 256 → ⊥) → place classes (letters c d) ≡ 38
+no-class c d none = place-none classes (letters c d) (λ j h. other j (omega (arith, listed))) ∙ listed
+  where
+    other : (j : ℕ) → j < 38 → same (letters c d) (getD classes j []) ≡ false
+    other j h =
+        let x = getD keys j 0 in
+        let e = ap (same (letters c d)) (sym (key-letters j h)) ∙ same-letters-is c d (x / 256) (x % 256) in
+        e ∙ elim (ℕ-discrete c (x / 256)) as (λ _. eqb c (x / 256) && eqb d (x % 256) ≡ false) [
+          | no n ↦ rw (ne-eqb c (x / 256) n)
+          | yes p ↦ rw (ne-eqb d (x % 256) (λ q. none j h p q)) (and-false (eqb c (x / 256)))
+        ]
+
+pub large-first : (c d : ℕ) → 256 ≤ c → place classes (letters c d) ≡ 38
+large-first c d l = no-class c d (λ j h p q. let b = key-small j h in omega arith)
+
+pub large-second : (c d : ℕ) → 256 ≤ d → place classes (letters c d) ≡ 38
+large-second c d l = no-class c d (λ j h p q. omega arith)
+
+-- the class of the slot has another key
+pub other-key : (c d : ℕ) → d < 256 → (getD keys (slot c d) 0 ≡ c * 256 + d → ⊥) → place classes (letters c d) ≡ 38
+other-key c d hd differs = no-class c d (λ j h p q. differs (
+    let x = getD keys j 0 in
+    let e : x ≡ c * 256 + d = omega arith in
+    let s : slot c d ≡ j = ap (λ (y : ℕ). getD slots (y % 135 % 75) 0) (sym e) ∙ slot-of j h in
+    rw s e))
+
+pub same-key : (c d : ℕ) → d < 256 → getD keys (slot c d) 0 ≡ c * 256 + d → place classes (letters c d) ≡ slot c d
+same-key c d hd e =
+    let k = slot c d in
+    let h = slot-below c d in
+    let p : getD keys k 0 / 256 ≡ c = omega arith in
+    let q : getD keys k 0 % 256 ≡ d = omega arith in
+    subst (λ (t : Text). place classes t ≡ k) (sym (key-letters k h) ∙ rw (p, q)) (class-place k h)
 
 -- a text of the list, at its place
 pub record Found (xs : List Text) (k : Text) : Type 0 where
