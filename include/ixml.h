@@ -103,8 +103,8 @@ enum {
     IXML_GRAMMAR_TOO_LONG = 1,
     /* The grammar is not UTF-8. */
     IXML_GRAMMAR_NOT_UTF8 = 2,
-    /* The grammar holds a character above U+00FF (one byte order mark at its
-       start is allowed). */
+    /* The grammar holds a character outside the alphabet, see below (one byte
+       order mark at its start is allowed). */
     IXML_GRAMMAR_CHARACTER = 3,
     /* The grammar is not in the ixml language, or nests round brackets or
        comments over 16 deep. */
@@ -127,7 +127,7 @@ enum {
 
     /* The record is not UTF-8. */
     IXML_RECORD_NOT_UTF8 = 12,
-    /* The record holds a character above U+00FF. */
+    /* The record holds a character outside the alphabet. */
     IXML_RECORD_CHARACTER = 13,
     /* The record has over 200 characters. */
     IXML_RECORD_TOO_LONG = 14,
@@ -190,8 +190,9 @@ ixml_answer ixml_convert(const uint8_t *grammar, size_t grammar_length,
  *     10 No  11 Pc  12 Pd  13 Ps  14 Pe  15 Pi  16 Pf  17 Po  18 Sm  19 Sc
  *     20 Sk  21 So  22 Zs  23 Zl  24 Zp  25 Cc  26 Cf  27 Cs  28 Co  29 Cn
  *
- * Known are U+0000 to U+00FF. Every other number gives
- * IXML_CATEGORY_NOT_KNOWN.
+ * Known is the alphabet, the characters that grammars and records may hold:
+ * U+0000 to U+017F, U+0300 to U+036F, U+203F and U+2040. Every other number
+ * gives IXML_CATEGORY_NOT_KNOWN.
  */
 #define IXML_CATEGORY_NOT_KNOWN 30
 

@@ -31,12 +31,13 @@ impl fmt::Display for Category {
     }
 }
 
-/// The category of a code point. Known are U+0000 to U+00FF.
+/// The category of a code point. Known are U+0000 to U+017F, U+0300 to U+036F,
+/// U+203F and U+2040.
 ///
 /// ```
 /// use ixml::{category, Category};
 ///
-/// assert_eq!(category('é' as u32), Some(Category::Ll));
+/// assert_eq!(category('ř' as u32), Some(Category::Ll));
 /// assert_eq!(category('€' as u32), None);
 /// ```
 pub fn category(code: u32) -> Option<Category> {

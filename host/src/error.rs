@@ -66,7 +66,7 @@ macro_rules! errors {
 errors! {
     GrammarTooLong = 1, "the grammar is over 4,096 bytes long";
     GrammarNotUtf8 = 2, "the grammar is not UTF-8";
-    GrammarCharacter = 3, "the grammar holds a character above U+00FF";
+    GrammarCharacter = 3, "the grammar holds a character outside the alphabet (U+0000 to U+017F, U+0300 to U+036F, U+203F, U+2040)";
     NotIxml = 4, "the grammar is not in the ixml language, or nests brackets or comments over 16 deep";
     UndefinedName = 5, "the grammar uses a name that has no rule";
     RepeatedRule = 6, "the grammar has two rules of one name";
@@ -76,7 +76,7 @@ errors! {
     UnknownClass = 10, "the grammar names a character class that does not exist";
     GrammarTooLarge = 11, "the grammar's size is over 512";
     RecordNotUtf8 = 12, "the record is not UTF-8";
-    RecordCharacter = 13, "the record holds a character above U+00FF";
+    RecordCharacter = 13, "the record holds a character outside the alphabet (U+0000 to U+017F, U+0300 to U+036F, U+203F, U+2040)";
     RecordTooLong = 14, "the record has over 200 characters";
     TableTooShort = 15, "the main table or the grammar table is too short";
     NoReading { version_mismatch: bool } = 16, "the grammar does not derive the record";

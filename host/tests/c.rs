@@ -85,7 +85,7 @@ fn program(assert: &str) -> String {
              const ixml_answer right = ixml_check(grammar, 3);\n\
              const ixml_answer wrong = ixml_check(grammar, 4);\n\
              const bool known = ixml_category('A') == 0;\n\
-             const bool unknown = ixml_category(256) == IXML_CATEGORY_NOT_KNOWN;\n\
+             const bool unknown = ixml_category(0x180) == IXML_CATEGORY_NOT_KNOWN;\n\
              if (right.number != IXML_ANSWERED || wrong.number != IXML_NOT_IXML) return 1;\n\
              if (right.length != 0 || right.ambiguous || right.version) return 2;\n\
              if (!known || !unknown) return 3;\n\

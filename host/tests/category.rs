@@ -1,5 +1,7 @@
 //! The category call on every code point, and beyond.
 
+mod common;
+
 use ixml::{category, ffi, Category};
 
 /// The number that the yardstick's category stands for.
@@ -23,11 +25,21 @@ fn every_number_agrees_with_the_yardstick() {
 }
 
 #[test]
+fn vectors() {
+    let vectors = common::vectors::categories();
+    assert!(vectors.len() > 300);
+    for (code, name) in vectors {
+        let known = category(code).map_or("-".to_string(), |it| it.to_string());
+        assert_eq!(known, name, "{code:#x}");
+    }
+}
+
+#[test]
 fn categories_have_the_names_of_the_list() {
     let list =
         "Lu Ll Lt Lm Lo Mn Mc Me Nd Nl No Pc Pd Ps Pe Pi Pf Po Sm Sc Sk So Zs Zl Zp Cc Cf Cs Co Cn";
     let names: Vec<String> = Category::ALL.iter().map(Category::to_string).collect();
     assert_eq!(names.join(" "), list);
     assert_eq!(category('A' as u32), Some(Category::Lu));
-    assert_eq!(category(0x100), None);
+    assert_eq!(category(0x180), None);
 }

@@ -76,7 +76,10 @@ fn documents() {
     for (grammar, record, expected) in cases {
         assert_eq!(xml(grammar, record), expected, "{grammar} | {record}");
     }
-    assert_eq!(xml("a: ~[]*.", "x".repeat(RECORD_CHARACTERS + 1)), "refused 14");
+    assert_eq!(
+        xml("a: ~[]*.", "x".repeat(RECORD_CHARACTERS + 1)),
+        "refused 14"
+    );
 }
 
 #[test]
@@ -159,4 +162,20 @@ fn specification() {
         "<data source='ixml'><value>+100</value><value>+200</value>\
          <value>-300</value><value>+400</value></data>"
     );
+}
+
+/// The specification's complete grammar, of which it shows the XML.
+#[test]
+fn the_complete_grammar_reads_its_own_first_lines() {
+    let complete = include_str!("../../tests/grammars/ixml.ixml");
+    assert_eq!(check(complete.as_bytes()).number, 0);
+    let six: Vec<&str> = complete.lines().take(6).collect();
+    let converted = xml(complete, six.join("\n"));
+    let first = "<ixml><rule name='ixml'><alt><nonterminal name='s'/>\
+                 <option><nonterminal name='prolog'/></option>\
+                 <repeat1><nonterminal name='rule'/><sep><nonterminal name='RS'/></sep></repeat1>\
+                 <nonterminal name='s'/></alt></rule>";
+    assert_eq!(converted.get(..first.len()), Some(first), "{converted}");
+    assert_eq!(converted.matches("<rule ").count(), 6);
+    assert!(converted.contains("<comment>Required spacing</comment>"));
 }

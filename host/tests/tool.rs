@@ -65,6 +65,12 @@ fn vectors_of_convert() {
     run_vectors("convert", 1400);
 }
 
+#[test]
+fn vectors_of_category() {
+    let line = |(code, name): (u32, String)| (format!("category\t{code}"), name);
+    run_lines(vectors::categories().into_iter().map(line).collect());
+}
+
 fn hex(bytes: &[u8]) -> String {
     match bytes {
         [] => "-".to_string(),

@@ -70,7 +70,7 @@ fn a_reader_reads_jobs_of_all_lengths() {
     }
     let refusals = [
         ("a: b.", "", Error::UndefinedName),
-        ("a: 'x'.", "\u{100}", Error::RecordCharacter),
+        ("a: 'x'.", "\u{180}", Error::RecordCharacter),
         ("a: 'x'.", &"x".repeat(RECORD_CHARACTERS + 1), Error::RecordTooLong),
     ];
     for (grammar, record, refusal) in refusals {

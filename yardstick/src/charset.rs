@@ -1,16 +1,20 @@
 //! Sets of the characters that a record may hold.
 
-/// A set of code points from U+0000 to U+00FF.
+use crate::alphabet;
+
+const WORDS: usize = alphabet::KNOWN.div_ceil(64);
+
+/// A set of characters of the alphabet, a bit for each place.
 #[derive(Clone, Copy, Debug, PartialEq, Eq)]
-pub struct CharSet([u64; 4]);
+pub struct CharSet([u64; WORDS]);
 
 impl CharSet {
-    pub const EMPTY: CharSet = CharSet([0; 4]);
+    pub const EMPTY: CharSet = CharSet([0; WORDS]);
 
-    /// Adds a code point; one above U+00FF has no effect, since no record holds it.
+    /// Adds a code point; one outside the alphabet has no effect, since no record holds it.
     pub const fn with(mut self, code: u32) -> CharSet {
-        if code <= 0xFF {
-            self.0[(code / 64) as usize] |= 1 << (code % 64);
+        if let Some(place) = alphabet::place(code) {
+            self.0[place / 64] |= 1 << (place % 64);
         }
         self
     }
@@ -20,8 +24,10 @@ impl CharSet {
     }
 
     pub fn insert_range(&mut self, from: u32, to: u32) {
-        for code in from..=to.min(0xFF) {
-            self.insert(code);
+        for (first, last) in alphabet::SPANS {
+            for code in from.max(first)..=to.min(last) {
+                self.insert(code);
+            }
         }
     }
 
@@ -37,7 +43,7 @@ impl CharSet {
     }
 
     pub fn contains(&self, character: char) -> bool {
-        let code = character as usize;
-        code <= 0xFF && self.0[code / 64] >> (code % 64) & 1 == 1
+        alphabet::place(character as u32)
+            .is_some_and(|place| self.0[place / 64] >> (place % 64) & 1 == 1)
     }
 }

@@ -1,6 +1,7 @@
 //! Made-up grammars and records for tests and timing. Everything follows from
 //! a seed, so a job can be made again.
 
+use crate::alphabet;
 use crate::plain::{plain, Plain, Symbol, Terminal};
 use crate::{statics, syntax};
 
@@ -322,7 +323,10 @@ impl<'t> Sampler<'t> {
             match symbol {
                 Symbol::Insertion(_) => {}
                 Symbol::Terminal { terminal, .. } => {
-                    match example(&self.plain.terminals[terminal], random.below(256)) {
+                    match example(
+                        &self.plain.terminals[terminal],
+                        random.below(alphabet::KNOWN),
+                    ) {
                         Some(text) => out.extend(text),
                         None => return false,
                     }
@@ -351,7 +355,9 @@ impl<'t> Sampler<'t> {
 fn example(terminal: &Terminal, chance: usize) -> Option<Vec<char>> {
     match terminal {
         Terminal::Literal(string) => {
-            let known = string.iter().all(|&character| character <= '\u{FF}');
+            let known = string
+                .iter()
+                .all(|&character| alphabet::contains(character));
             known.then(|| string.clone())
         }
         Terminal::Set(set) => {
@@ -360,7 +366,10 @@ fn example(terminal: &Terminal, chance: usize) -> Option<Vec<char>> {
                 .cycle()
                 .skip(chance % 9)
                 .take(9);
-            let any = (0..=u8::MAX).map(char::from).cycle().skip(chance).take(256);
+            let any = alphabet::characters()
+                .cycle()
+                .skip(chance)
+                .take(alphabet::KNOWN);
             let character = usual
                 .chain(any)
                 .find(|&character| set.contains(character))?;

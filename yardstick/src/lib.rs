@@ -5,6 +5,7 @@
 //! decode the texts, read the grammar, check it, reduce it to plain rules,
 //! parse the record, choose a reading, write the XML.
 
+pub mod alphabet;
 pub mod category;
 pub mod charset;
 pub mod engine;

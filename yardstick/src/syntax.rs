@@ -150,7 +150,7 @@ fn is_name_start(character: char) -> bool {
 
 fn is_name_follower(character: char) -> bool {
     is_name_start(character)
-        || matches!(character, '-' | '.' | '\u{B7}')
+        || matches!(character, '-' | '.' | '\u{B7}' | '\u{203F}' | '\u{2040}')
         || category::is_digit_or_combining(character)
 }
 

@@ -1,10 +1,10 @@
 //! From bytes to characters.
 
+use crate::alphabet;
 use crate::limits;
 use crate::refusal::Refusal;
 
 const BYTE_ORDER_MARK: char = '\u{FEFF}';
-const LAST_CHARACTER: char = '\u{FF}';
 
 /// The grammar's text without its byte order mark; refusals 1 to 3.
 pub fn grammar(bytes: &[u8]) -> Result<&str, Refusal> {
@@ -34,5 +34,5 @@ pub fn record(bytes: &[u8]) -> Result<Vec<char>, Refusal> {
 }
 
 fn in_alphabet(text: &str) -> bool {
-    text.chars().all(|character| character <= LAST_CHARACTER)
+    text.chars().all(alphabet::contains)
 }

@@ -2,8 +2,8 @@
 
 mod common;
 
-use ixml_yardstick::limits::RECORD_CHARACTERS;
 use common::{assert_check, assert_reading, assert_xml, reading, xml, STATE};
+use ixml_yardstick::limits::RECORD_CHARACTERS;
 
 #[test]
 fn case_01_and_02() {
@@ -110,5 +110,8 @@ fn case_14() {
     assert_eq!(xml(grammar, "<&>"), "<a>&lt;&amp;&gt;</a>");
     let longest = "x".repeat(RECORD_CHARACTERS);
     assert_eq!(xml(grammar, &longest), format!("<a>{longest}</a>"));
-    assert_eq!(xml(grammar, "x".repeat(RECORD_CHARACTERS + 1)), "refused 14");
+    assert_eq!(
+        xml(grammar, "x".repeat(RECORD_CHARACTERS + 1)),
+        "refused 14"
+    );
 }

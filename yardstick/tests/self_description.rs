@@ -61,3 +61,11 @@ fn reader_accepts_what_the_grammar_derives() {
     println!("{accepted} of {TEXTS} accepted");
     assert!(accepted > TEXTS / 5 && accepted < TEXTS * 4 / 5);
 }
+
+#[test]
+fn the_complete_grammar_reads_its_own_first_lines() {
+    assert_eq!(check_number(IXML), 0);
+    let six: Vec<&str> = IXML.lines().take(6).collect();
+    let answer = read_answer(IXML, &six.join("\n"));
+    assert_eq!((answer.number, answer.ambiguous), (0, false));
+}

@@ -1,7 +1,7 @@
 //! Every line of the shared test vectors.
 
 use ixml_yardstick::limits::GRAMMAR_TABLE;
-use ixml_yardstick::{check, convert, program, read, Answer};
+use ixml_yardstick::{category, check, convert, program, read, Answer};
 
 /// The lines of all files for one of these calls, a line's first field.
 fn lines(calls: &[&str]) -> Vec<Vec<String>> {
@@ -13,7 +13,9 @@ fn lines(calls: &[&str]) -> Vec<Vec<String>> {
     let mut lines = Vec::new();
     for file in files {
         let text = std::fs::read_to_string(&file).expect("a text");
-        let fields = text.lines().map(|line| line.split('\t').map(str::to_string));
+        let fields = text
+            .lines()
+            .map(|line| line.split('\t').map(str::to_string));
         lines.extend(fields.map(Iterator::collect::<Vec<_>>));
     }
     lines.retain(|fields| calls.contains(&fields[0].as_str()));
@@ -93,5 +95,16 @@ fn programs() {
             String::from_utf8_lossy(&bytes(&line[3])),
             "line {number}"
         );
+    }
+}
+
+#[test]
+fn categories() {
+    let lines = lines(&["category"]);
+    assert!(lines.len() > 300);
+    for line in &lines {
+        let code = line[1].parse().unwrap();
+        let name = category(code).map_or("-", |known| known.code());
+        assert_eq!(name, line[2], "{code:#x}");
     }
 }

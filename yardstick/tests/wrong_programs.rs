@@ -223,7 +223,10 @@ fn b24_splits_a_literal() {
 fn b25_counts_bytes_of_the_record() {
     let record = "é".repeat(RECORD_CHARACTERS);
     assert_eq!(xml("a: ~[]*.", &record), format!("<a>{record}</a>"));
-    assert_eq!(xml("a: ~[]*.", "é".repeat(RECORD_CHARACTERS + 1)), "refused 14");
+    assert_eq!(
+        xml("a: ~[]*.", "é".repeat(RECORD_CHARACTERS + 1)),
+        "refused 14"
+    );
 }
 
 #[test]
@@ -327,7 +330,7 @@ fn b37_skips_byte_order_marks_in_a_loop() {
 
 #[test]
 fn b38_takes_the_category_modulo_256() {
-    assert_eq!(category(0x141), None);
+    assert_eq!(category(0x241), None);
     assert_eq!(category(0x41).map(|category| category.code()), Some("Lu"));
 }
 
@@ -346,7 +349,10 @@ fn deep_trees() {
         .collect();
     grammar.push_str(&format!("r{}: \"x\", r0; \"x\".", rules - 1));
     let answer = read_answer(&grammar, "x".repeat(RECORD_CHARACTERS));
-    assert_eq!((answer.number, answer.length), (0, RECORD_CHARACTERS * rules));
+    assert_eq!(
+        (answer.number, answer.length),
+        (0, RECORD_CHARACTERS * rules)
+    );
     let xml = xml(&grammar, "x".repeat(RECORD_CHARACTERS));
     assert!(xml.starts_with("<r0><r1>") && xml.ends_with("</r1></r0>"));
     assert!(!xml.contains(STATE));

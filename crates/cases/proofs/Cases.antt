@@ -90,7 +90,7 @@ every (c ∷ cs) t = every-more (holds c (and-left (passes c) (all passes cs) t)
 
 pub cases-hold : Every Holds table
 unfolding table buffer job answer filled passes leaves same-answer same-bool computing
-    utf8.utf8 utf8.utf8s utf8.unmarked utf8.known decoding.secondLow decoding.secondHigh decoding.restOf decoding.charOf decoding.decodeIn
+    utf8.utf8 utf8.utf8s utf8.unmarked utf8.alphabet utf8.known decoding.secondLow decoding.secondHigh decoding.restOf decoding.charOf decoding.decodeIn
     decoding.decode category.categories category.classes category.isClass
     static.undefined static.duplicate static.beyond static.unassignable static.banned static.codeOf static.runsBack static.backwards static.noClass static.unclassed plain.size
     names.xmlChar names.nameStart names.nameChar names.xmlName document.twice document.misnamed document.unwritable document.isAttribute document.notOne document.namespaced bytes.escape bytes.bytes

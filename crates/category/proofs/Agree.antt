@@ -1,18 +1,19 @@
--- The table agrees with the range list at all of its 256 entries, and the list knows nothing above them.
-use mathlib.Core.Path.{_≡_, refl, sym, subst}
-use mathlib.Core.Bool.{Bool, true, false, not, _&&_, _||_, and-false}
+-- The table agrees with the range list at all of its entries, and the list knows nothing outside the alphabet.
+use mathlib.Core.Path.{_≡_, refl, sym, ap, _∙_, subst}
+use mathlib.Core.Bool.{Bool, true, false, not, _&&_, and-false}
+use mathlib.Core.Logic.{inl, inr, ⊎-elim}
 use mathlib.Core.List.{List, [], _∷_}
 use Prim.Native.Nat.{ℕ, zero, suc, _<_, _≤_, _/_, _%_}
-use native.Mathlib.Nat.{not-suc-le-zero}
-use native.Mathlib.Decide.{decLt, ℕ-discrete}
 use native.Mathlib.Omega.{arith}
-use lib.Dec.{T, leb, ltb, eqb, eqb→eq, ltb→lt}
+use lib.Dec.{T, leb, ltb, eqb, eqb→eq, leb→le, ltb→lt}
 use lib.ListN.{length, getD}
-use borrow.Author.Tests.{lt-leb, le-leb, ltb-true}
+use borrow.Author.Tests.{le-leb}
 use Rattle.text.specs.Lists.{Text, chars, pick, any, all, same, begins, Span, inside}
-use Rattle.text.proofs.Tests.{T-true, and-left, and-right, same-is}
-use Rattle.text.proofs.Table.{at}
-use Rattle.category.specs.Category.{Row, ranges, look, categories, classes, categoryOf, inClass, place, categoryNumber}
+use Rattle.text.specs.Utf8.{alphabet, known, width, placeIn}
+use Rattle.text.proofs.Tests.{look as look-test, isT, T-true, notT, T-false, and-left, and-right, or-case, or-left, or-right, same-is}
+use Rattle.text.proofs.Spans.{codeAt, above-from, below-to, placed, counted, every-known}
+use Rattle.text.proofs.Table.{at, below, below-at}
+use Rattle.category.specs.Category.{Row, takes, ranges, look, categories, classes, categoryOf, inClass, place, categoryNumber}
 
 unfoldable pub table : List ℕ
 table =
@@ -32,67 +33,94 @@ table =
     0 ∷ 0 ∷ 0 ∷ 0 ∷ 0 ∷ 0 ∷ 0 ∷ 18 ∷ 0 ∷ 0 ∷ 0 ∷ 0 ∷ 0 ∷ 0 ∷ 0 ∷ 1 ∷
     1 ∷ 1 ∷ 1 ∷ 1 ∷ 1 ∷ 1 ∷ 1 ∷ 1 ∷ 1 ∷ 1 ∷ 1 ∷ 1 ∷ 1 ∷ 1 ∷ 1 ∷ 1 ∷
     1 ∷ 1 ∷ 1 ∷ 1 ∷ 1 ∷ 1 ∷ 1 ∷ 18 ∷ 1 ∷ 1 ∷ 1 ∷ 1 ∷ 1 ∷ 1 ∷ 1 ∷ 1 ∷
+    0 ∷ 1 ∷ 0 ∷ 1 ∷ 0 ∷ 1 ∷ 0 ∷ 1 ∷ 0 ∷ 1 ∷ 0 ∷ 1 ∷ 0 ∷ 1 ∷ 0 ∷ 1 ∷
+    0 ∷ 1 ∷ 0 ∷ 1 ∷ 0 ∷ 1 ∷ 0 ∷ 1 ∷ 0 ∷ 1 ∷ 0 ∷ 1 ∷ 0 ∷ 1 ∷ 0 ∷ 1 ∷
+    0 ∷ 1 ∷ 0 ∷ 1 ∷ 0 ∷ 1 ∷ 0 ∷ 1 ∷ 0 ∷ 1 ∷ 0 ∷ 1 ∷ 0 ∷ 1 ∷ 0 ∷ 1 ∷
+    0 ∷ 1 ∷ 0 ∷ 1 ∷ 0 ∷ 1 ∷ 0 ∷ 1 ∷ 1 ∷ 0 ∷ 1 ∷ 0 ∷ 1 ∷ 0 ∷ 1 ∷ 0 ∷
+    1 ∷ 0 ∷ 1 ∷ 0 ∷ 1 ∷ 0 ∷ 1 ∷ 0 ∷ 1 ∷ 1 ∷ 0 ∷ 1 ∷ 0 ∷ 1 ∷ 0 ∷ 1 ∷
+    0 ∷ 1 ∷ 0 ∷ 1 ∷ 0 ∷ 1 ∷ 0 ∷ 1 ∷ 0 ∷ 1 ∷ 0 ∷ 1 ∷ 0 ∷ 1 ∷ 0 ∷ 1 ∷
+    0 ∷ 1 ∷ 0 ∷ 1 ∷ 0 ∷ 1 ∷ 0 ∷ 1 ∷ 0 ∷ 1 ∷ 0 ∷ 1 ∷ 0 ∷ 1 ∷ 0 ∷ 1 ∷
+    0 ∷ 1 ∷ 0 ∷ 1 ∷ 0 ∷ 1 ∷ 0 ∷ 1 ∷ 0 ∷ 0 ∷ 1 ∷ 0 ∷ 1 ∷ 0 ∷ 1 ∷ 1 ∷
+    5 ∷ 5 ∷ 5 ∷ 5 ∷ 5 ∷ 5 ∷ 5 ∷ 5 ∷ 5 ∷ 5 ∷ 5 ∷ 5 ∷ 5 ∷ 5 ∷ 5 ∷ 5 ∷
+    5 ∷ 5 ∷ 5 ∷ 5 ∷ 5 ∷ 5 ∷ 5 ∷ 5 ∷ 5 ∷ 5 ∷ 5 ∷ 5 ∷ 5 ∷ 5 ∷ 5 ∷ 5 ∷
+    5 ∷ 5 ∷ 5 ∷ 5 ∷ 5 ∷ 5 ∷ 5 ∷ 5 ∷ 5 ∷ 5 ∷ 5 ∷ 5 ∷ 5 ∷ 5 ∷ 5 ∷ 5 ∷
+    5 ∷ 5 ∷ 5 ∷ 5 ∷ 5 ∷ 5 ∷ 5 ∷ 5 ∷ 5 ∷ 5 ∷ 5 ∷ 5 ∷ 5 ∷ 5 ∷ 5 ∷ 5 ∷
+    5 ∷ 5 ∷ 5 ∷ 5 ∷ 5 ∷ 5 ∷ 5 ∷ 5 ∷ 5 ∷ 5 ∷ 5 ∷ 5 ∷ 5 ∷ 5 ∷ 5 ∷ 5 ∷
+    5 ∷ 5 ∷ 5 ∷ 5 ∷ 5 ∷ 5 ∷ 5 ∷ 5 ∷ 5 ∷ 5 ∷ 5 ∷ 5 ∷ 5 ∷ 5 ∷ 5 ∷ 5 ∷
+    5 ∷ 5 ∷ 5 ∷ 5 ∷ 5 ∷ 5 ∷ 5 ∷ 5 ∷ 5 ∷ 5 ∷ 5 ∷ 5 ∷ 5 ∷ 5 ∷ 5 ∷ 5 ∷
+    11 ∷ 11 ∷
     []
 
 right : ℕ → ℕ → Bool
-right k x = eqb x (categoryNumber k)
+right k x = eqb x (categoryNumber (codeAt alphabet k))
 
-pub agrees : (k : ℕ) → k < 256 → getD table k 0 ≡ categoryNumber k
-unfolding table right categoryNumber place categories categoryOf look ranges
-agrees k h = eqb→eq (getD table k 0) (categoryNumber k) (at right table tt k h)
+by-place : (k : ℕ) → k < 498 → getD table k 0 ≡ categoryNumber (codeAt alphabet k)
+unfolding table right categoryNumber place categories categoryOf look ranges codeAt alphabet width
+by-place k h = eqb→eq (getD table k 0) (categoryNumber (codeAt alphabet k)) (at right table tt k h)
 
--- every span of the list ends before 256
-ends-below : Span → Bool
-ends-below s = ltb (s .to) 256
+pub agrees : (c : ℕ) → known c ≡ true → getD table (placeIn alphabet c) 0 ≡ categoryNumber c
+unfolding known
+agrees c e =
+    let p = placed alphabet c e in
+    by-place (placeIn alphabet c) (omega (arith, p .1, counted)) ∙ ap categoryNumber (p .0)
 
-outside : (s : Span) (c : ℕ) → T (ends-below s) → 256 ≤ c → inside c s ≡ false
-unfolding ends-below
-outside s c t h =
-    let b = ltb-true (s .to) 256 (T-true (ltb (s .to) 256) t) in
-    let e : leb c (s .to) ≡ false = lt-leb c (s .to) (omega arith) in
-    rw e (and-false (leb (s .from) c))
+-- every span of the list lies within one of the alphabet
+within : Span → Span → Bool
+within s a = leb (a .from) (s .from) && leb (s .to) (a .to)
 
-in-none : (ss : List Span) (c : ℕ) → T (all ends-below ss) → 256 ≤ c → any (inside c) ss ≡ false
-in-none [] c t h = refl
-in-none (s ∷ ss) c t h = rw (outside s c (and-left (ends-below s) (all ends-below ss) t) h, in-none ss c (and-right (ends-below s) (all ends-below ss) t) h)
+covered : Span → Bool
+covered s = any (within s) alphabet
 
-row-below : Row → Bool
-row-below r = all ends-below (r .spans)
+inside-within : (c : ℕ) (s a : Span) → T (within s a) → inside c s ≡ true → inside c a ≡ true
+unfolding within
+inside-within c s a t i =
+    let l = leb→le (a .from) (s .from) (and-left (leb (a .from) (s .from)) (leb (s .to) (a .to)) t) in
+    let h = leb→le (s .to) (a .to) (and-right (leb (a .from) (s .from)) (leb (s .to) (a .to)) t) in
+    let f = above-from c s i in
+    let g = below-to c s i in
+    rw (le-leb (a .from) c (omega arith), le-leb c (a .to) (omega arith))
 
-look-above : (rs : List Row) (c : ℕ) → T (all row-below rs) → 256 ≤ c → look rs c ≡ []
-unfolding look row-below
-look-above [] c t h = refl
-look-above (r ∷ rs) c t h = rw (in-none (r .spans) c (and-left (row-below r) (all row-below rs) t) h) (look-above rs c (and-right (row-below r) (all row-below rs) t) h)
+inside-some : (c : ℕ) (s : Span) (xs : List Span) → T (any (within s) xs) → inside c s ≡ true → T (any (inside c) xs)
+inside-some c s [] t i = absurd t
+inside-some c s (a ∷ xs) t i = ⊎-elim
+    (λ u. or-left (inside c a) (any (inside c) xs) (isT (inside-within c s a u i)))
+    (λ u. or-right (inside c a) (any (inside c) xs) (inside-some c s xs u i))
+    (or-case (within s a) (any (within s) xs) t)
 
-pub unknown : (c : ℕ) → 256 ≤ c → categoryOf c ≡ []
-unfolding categoryOf ranges row-below ends-below
-unknown c h = look-above ranges c tt h
+in-none : (ss : List Span) (c : ℕ) → T (all covered ss) → known c ≡ false → any (inside c) ss ≡ false
+unfolding covered known
+in-none [] c t e = refl
+in-none (s ∷ ss) c t e =
+    let o : inside c s ≡ false = T-false (inside c s) (λ i. notT e (inside-some c s alphabet (and-left (covered s) (all covered ss) t) (T-true (inside c s) i))) in
+    rw (o, in-none ss c (and-right (covered s) (all covered ss) t) e)
 
-pub not-known : (c : ℕ) → 256 ≤ c → categoryNumber c ≡ 30
+row-covered : Row → Bool
+row-covered r = all covered (r .spans)
+
+look-none : (rs : List Row) (c : ℕ) → T (all row-covered rs) → known c ≡ false → look rs c ≡ []
+unfolding look row-covered
+look-none [] c t e = refl
+look-none (r ∷ rs) c t e =
+    rw (in-none (r .spans) c (and-left (row-covered r) (all row-covered rs) t) e, and-false (takes (r .part) c))
+    (look-none rs c (and-right (row-covered r) (all row-covered rs) t) e)
+
+pub unknown : (c : ℕ) → known c ≡ false → categoryOf c ≡ []
+unfolding categoryOf ranges row-covered covered within alphabet
+unknown c e = look-none ranges c tt e
+
+pub not-known : (c : ℕ) → known c ≡ false → categoryNumber c ≡ 30
 unfolding categoryNumber place categories
-not-known c h = rw (unknown c h)
-
--- a test of every number below m
-abbrev pub below : ℕ → (ℕ → Bool) → Bool
-below zero p = true
-below (suc m) p = p m && below m p
-
-pub below-at : (m : ℕ) (p : ℕ → Bool) → T (below m p) → (n : ℕ) → n < m → T (p n)
-below-at zero p t n h = absurd (not-suc-le-zero h)
-below-at (suc m) p t n h = elim (ℕ-discrete n m) as (λ _. T (p n)) [
-  | yes e ↦ subst (λ (k : ℕ). T (p k)) (sym e) (and-left (p m) (below m p) t)
-  | no e ↦ below-at m p (and-right (p m) (below m p) t) n (omega arith)
-]
+not-known c e = rw (unknown c e)
 
 -- a category is known by its number
 named : ℕ → Bool
 named c = same (getD categories (categoryNumber c) []) (categoryOf c)
 
 by-number : (c : ℕ) → getD categories (categoryNumber c) [] ≡ categoryOf c
-unfolding named categoryNumber place categories categoryOf look ranges
-by-number c = elim (decLt c 256) as (λ _. getD categories (categoryNumber c) [] ≡ categoryOf c) [
-  | yes h ↦ same-is (getD categories (categoryNumber c) []) (categoryOf c) (below-at 256 named tt c h)
-  | no h ↦ (let e = unknown c (omega arith) in let f = not-known c (omega arith) in rw (f, e))
+unfolding named categoryNumber place categories categoryOf look ranges codeAt alphabet width
+by-number c = elim (look-test (known c)) as (λ _. getD categories (categoryNumber c) [] ≡ categoryOf c) [
+  | inl e ↦ same-is (getD categories (categoryNumber c) []) (categoryOf c) (every-known named tt c e)
+  | inr e ↦ (let u = unknown c e in let f = not-known c e in rw (f, u))
 ]
 
 -- the classes' first and last categories: the table of the code
@@ -123,10 +151,10 @@ small : ℕ → Bool
 small c = ltb (categoryNumber c) 31
 
 number-below : (c : ℕ) → categoryNumber c < 31
-unfolding small categoryNumber place categories categoryOf look ranges
-number-below c = elim (decLt c 256) as (λ _. categoryNumber c < 31) [
-  | yes h ↦ ltb→lt (categoryNumber c) 31 (below-at 256 small tt c h)
-  | no h ↦ (let f = not-known c (omega arith) in omega arith)
+unfolding small categoryNumber place categories categoryOf look ranges codeAt alphabet width
+number-below c = elim (look-test (known c)) as (λ _. categoryNumber c < 31) [
+  | inl e ↦ ltb→lt (categoryNumber c) 31 (every-known small tt c e)
+  | inr e ↦ (let f = not-known c e in omega arith)
 ]
 
 row : ℕ → Bool

@@ -1,7 +1,7 @@
 -- Categories of code points, and classes.
-use mathlib.Core.Bool.{Bool, true, false}
+use mathlib.Core.Bool.{Bool, true, false, _&&_}
 use mathlib.Core.List.{List, [], _∷_, _++_}
-use Prim.Native.Nat.{ℕ, _+_}
+use Prim.Native.Nat.{ℕ, _+_, _%_}
 use Prim.Native.String.{String}
 use lib.Dec.{eqb}
 use Rattle.text.specs.Lists.{Text, chars, pick, any, same, begins, among, Span, span, inside}
@@ -13,13 +13,31 @@ categories =
     ∷ chars "No" ∷ chars "Pc" ∷ chars "Pd" ∷ chars "Ps" ∷ chars "Pe" ∷ chars "Pi" ∷ chars "Pf" ∷ chars "Po" ∷ chars "Sm" ∷ chars "Sc"
     ∷ chars "Sk" ∷ chars "So" ∷ chars "Zs" ∷ chars "Zl" ∷ chars "Zp" ∷ chars "Cc" ∷ chars "Cf" ∷ chars "Cs" ∷ chars "Co" ∷ chars "Cn" ∷ []
 
--- "The categories of U+0000 to U+00FF … agree everywhere with this list"
+-- the numbers of spans: all of them, the even ones or the odd ones
+pub data Part : Type 0 where
+  each : Part
+  even : Part
+  odd : Part
+
+abbrev pub takes : Part → ℕ → Bool
+takes each c = true
+takes even c = eqb (c % 2) 0
+takes odd c = eqb (c % 2) 1
+
+-- "The categories of U+0000 to U+00FF … agree everywhere with this list", and "The categories: 0300 to 036F are Mn, …"
 pub record Row : Type 0 where
   pub category : Text
+  pub part : Part
   pub spans : List Span
 
 abbrev pub row : String → List Span → Row
-row n s = record { category = chars n; spans = s }
+row n s = record { category = chars n; part = each; spans = s }
+
+abbrev pub evenOf : String → List Span → Row
+evenOf n s = record { category = chars n; part = even; spans = s }
+
+abbrev pub oddOf : String → List Span → Row
+oddOf n s = record { category = chars n; part = odd; spans = s }
 
 abbrev pub at : ℕ → Span
 at a = span a a
@@ -46,11 +64,19 @@ ranges =
     ∷ row "Cf" (at 0xad ∷ [])
     ∷ row "No" (span 0xb2 0xb3 ∷ at 0xb9 ∷ span 0xbc 0xbe ∷ [])
     ∷ row "Pf" (at 0xbb ∷ [])
+    ∷ row "Mn" (span 0x300 0x36f ∷ [])
+    ∷ row "Pc" (span 0x203f 0x2040 ∷ [])
+    ∷ row "Ll" (at 0x138 ∷ at 0x149 ∷ at 0x17f ∷ [])
+    ∷ row "Lu" (at 0x178 ∷ [])
+    ∷ evenOf "Lu" (span 0x100 0x137 ∷ span 0x14a 0x177 ∷ [])
+    ∷ oddOf "Ll" (span 0x100 0x137 ∷ span 0x14a 0x177 ∷ [])
+    ∷ oddOf "Lu" (span 0x139 0x148 ∷ span 0x179 0x17e ∷ [])
+    ∷ evenOf "Ll" (span 0x139 0x148 ∷ span 0x179 0x17e ∷ [])
     ∷ []
 
 unfoldable pub look : List Row → ℕ → Text
 look [] c = []
-look (r ∷ rs) c = pick (any (inside c) (r .spans)) (r .category) (look rs c)
+look (r ∷ rs) c = pick (takes (r .part) c && any (inside c) (r .spans)) (r .category) (look rs c)
 
 -- a code point's category; no letters: "not known here"
 unfoldable pub categoryOf : ℕ → Text

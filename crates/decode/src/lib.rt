@@ -3,7 +3,6 @@ ghost use mathlib.Core.Path.{_≡_};
 ghost use mathlib.Core.Bool.{_&&_};
 ghost use Prim.Native.Nat.{ℕ, _<_};
 ghost use lib.ListN.{length, set};
-ghost use Rattle.text.specs.Utf8.{known as knownChar};
 ghost use Rattle.text.specs.Decode.{secondLow, secondHigh, decode};
 ghost use Rattle.decode.specs.Step.{lead as leadWith, leadOf, stepOf};
 ghost use Rattle.decode.specs.Whole.{Decodes, unmark, begun};
@@ -129,13 +128,6 @@ pub fn step_at(bytes: &[u8], at: BytePlace) -> Step
     Step::Char(v, BytePlace(i + (more + 1)))
 }
 
-// The alphabet.
-pub fn known(code: u32) -> bool
-    ensures { λ r. ⌜ r ≡ knownChar code ⌝ }
-{
-    code <= 0xff
-}
-
 // Stores a character where there is room.
 fn keep(out: &mut [u32], n: usize, code: u32)
     ensures { λ _. ⌜ now (out .exit) ≡ set (now (out .entry)) n code ⌝ }
@@ -159,7 +151,7 @@ pub fn decode_text(bytes: &[u8], out: &mut [u32]) -> Decoding
         };
         let k = n.0;
         keep(out, k, code);
-        fine = text::both(fine, known(code));
+        fine = text::both(fine, text::alphabet::known(code));
         n = CharPlace(k + 1);
         at = next;
     }

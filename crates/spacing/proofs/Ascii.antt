@@ -8,7 +8,7 @@ use borrow.Author.Tests.{leb-true}
 use Rattle.text.specs.Lists.{chars, pick}
 use Rattle.text.proofs.Tests.{T-true}
 use Rattle.category.specs.Category.{inClass, categoryOf, look, ranges}
-use Rattle.category.proofs.Agree.{below, below-at}
+use Rattle.text.proofs.Table.{below, below-at}
 use Rattle.syntax.specs.Syntax.{whitespace, capital, letter, namestart, namefollower}
 use Rattle.syntax.proofs.Classes.{and-right}
 

@@ -1,13 +1,17 @@
 -- Tests on one character: passing and failing, lists of characters, and spacing as such a list.
 use native.Mathlib.Omega.{arith}
 use mathlib.Core.Bool.{Bool, true, false, not, _&&_, _||_}
-use mathlib.Core.Path.{_≡_, refl, sym, _∙_}
+use mathlib.Core.Path.{_≡_, refl, sym, ap, _∙_}
 use mathlib.Core.List.{List, [], _∷_}
 use Prim.Native.Nat.{ℕ, zero, suc, _<_, _≤_}
 use lib.Dec.{leb, eqb}
 use borrow.Author.Tests.{eqb-true, eqb-false, leb-true, leb-false, lt-leb, ne-eqb, not-true}
-use Rattle.text.specs.Lists.{Text, chars, any, all, among, Span, inside}
-use Rattle.category.specs.Category.{Row, ranges, look, categoryOf, inClass}
+use Rattle.text.specs.Lists.{Text, chars, any, all, among}
+use Rattle.text.specs.Utf8.{alphabet, known, width}
+use Rattle.text.proofs.Spans.{codeAt, every-known}
+use Rattle.text.proofs.Tests.{T-true}
+use Rattle.category.specs.Category.{ranges, look, categoryOf, inClass}
+use Rattle.category.proofs.Agree.{unknown}
 use Rattle.syntax.specs.Syntax.{Chr, chr, Is, is, ch, whitespace, quote, capital, letter, bar, isMark, defines, namestart, namefollower}
 use Rattle.syntax.specs.Result.{hd, tl}
 use Rattle.syntax.specs.Spacing.{spacing}
@@ -99,20 +103,7 @@ not-among ks f c p q = go (among c ks) refl
     go true e = absurd (clash (among-not ks f c p e) q)
     go false e = refl
 
--- the category Zs by enumeration up to U+00FF; above it no character has a category
-upto : ℕ → (ℕ → Bool) → Bool
-upto zero g = true
-upto (suc n) g = g n && upto n g
-
-upto-at : (n : ℕ) (g : ℕ → Bool) → upto n g ≡ true → (c : ℕ) → c < n → g c ≡ true
-unfolding upto
-upto-at zero g p c h = absurd (omega arith)
-upto-at (suc n) g p c h = go (eqb c n) refl (λ l. upto-at n g (and-right (g n) (upto n g) p) c l)
-  where
-    go : (b : Bool) → eqb c n ≡ b → (c < n → g c ≡ true) → g c ≡ true
-    go true e f = let h : c ≡ n = eqb-true c n e in let l : g n ≡ true = and-left (g n) (upto n g) p in rw h l
-    go false e f = f (omega (arith, eqb-false c n e))
-
+-- the category Zs by enumeration of the alphabet; outside it no character has a category
 agree : Bool → Bool → Bool
 agree true b = b
 agree false b = not b
@@ -122,44 +113,23 @@ unfolding agree
 agreed true b e = sym e
 agreed false b e = sym (not-true b e)
 
-outside : (c : ℕ) (ss : List Span) → all (λ (s : Span). leb (s .to) 0xff) ss ≡ true → 0xff < c → any (inside c) ss ≡ false
-outside c [] p h = refl
-outside c (s ∷ ss) p h =
-    let l : s .to ≤ 0xff = leb-true (s .to) 0xff (and-left (leb (s .to) 0xff) _ p) in
-    rw (lt-leb c (s .to) (omega arith), and-false (leb (s .from) c)) (outside c ss (and-right (leb (s .to) 0xff) _ p) h)
-
-abbrev low-row : Row → Bool
-low-row r = all (λ (s : Span). leb (s .to) 0xff) (r .spans)
-
-look-above : (rs : List Row) (c : ℕ) → all low-row rs ≡ true → 0xff < c → look rs c ≡ []
-unfolding look
-look-above [] c p h = refl
-look-above (r ∷ rs) c p h = rw (outside c (r .spans) (and-left (low-row r) _ p) h) (look-above rs c (and-right (low-row r) _ p) h)
-
-above : (c : ℕ) → 0xff < c → categoryOf c ≡ []
-unfolding categoryOf ranges
-above c h = look-above ranges c refl h
-
 abbrev blank : ℕ → Bool
 blank c = among c (0x20 ∷ 0xa0 ∷ [])
 
 abbrev agrees : ℕ → Bool
 agrees c = agree (inClass (chars "Zs") c) (blank c)
 
-all-agree : upto 0x100 agrees ≡ true
-unfolding upto agree by-category
-all-agree = refl
-
-not-blank : (c : ℕ) → 0xff < c → blank c ≡ false
-not-blank c h = rw (ne-eqb c 0x20 (λ e. omega arith), ne-eqb c 0xa0 (λ e. omega arith))
+not-blank : (c : ℕ) → known c ≡ false → blank c ≡ false
+unfolding known alphabet
+not-blank c h = rw (ne-eqb c 0x20 (λ e. clash h (ap known e)), ne-eqb c 0xa0 (λ e. clash h (ap known e)))
 
 blanks : (c : ℕ) → inClass (chars "Zs") c ≡ blank c
-unfolding inClass
-blanks c = go (leb c 0xff) refl
+unfolding inClass agree by-category codeAt alphabet width
+blanks c = go (known c) refl
   where
-    go : (b : Bool) → leb c 0xff ≡ b → inClass (chars "Zs") c ≡ blank c
-    go true e = agreed _ _ (upto-at 0x100 agrees all-agree c (omega (arith, leb-true c 0xff e)))
-    go false e = let h : 0xff < c = leb-false c 0xff e in rw (above c h) (sym (not-blank c h))
+    go : (b : Bool) → known c ≡ b → inClass (chars "Zs") c ≡ blank c
+    go true e = agreed _ _ (T-true _ (every-known agrees tt c e))
+    go false e = rw (unknown c e) (sym (not-blank c e))
 
 -- the characters that begin a spacing
 abbrev pub spacings : List ℕ

@@ -1,5 +1,6 @@
 pub mod Tests
 pub mod Numbered
+pub mod Spans
 pub mod Table
 pub mod Step
 pub mod Decode

@@ -4,6 +4,8 @@ use mathlib.Core.Bool.{Bool, true, false, _&&_}
 use mathlib.Core.List.{List, [], _∷_}
 use Prim.Native.Nat.{ℕ, zero, suc, _+_, _<_}
 use native.Mathlib.Nat.{add-zero, zero-add, add-suc, suc-add, le-of-suc-le-suc, not-suc-le-zero}
+use native.Mathlib.Decide.{ℕ-discrete}
+use native.Mathlib.Omega.{arith}
 use lib.Dec.{T}
 use lib.ListN.{length, getD}
 pub use Rattle.text.proofs.Tests.{and-left, and-right}
@@ -22,3 +24,15 @@ from f (x ∷ xs) i t (suc k) h =
 
 pub at : (f : ℕ → ℕ → Bool) (xs : List ℕ) → T (every f 0 xs) → (k : ℕ) → k < length xs → T (f k (getD xs k 0))
 at f xs t k h = subst (λ (m : ℕ). T (f m (getD xs k 0))) (zero-add k) (from f xs 0 t k h)
+
+-- a test of every number below m
+abbrev pub below : ℕ → (ℕ → Bool) → Bool
+below zero p = true
+below (suc m) p = p m && below m p
+
+pub below-at : (m : ℕ) (p : ℕ → Bool) → T (below m p) → (n : ℕ) → n < m → T (p n)
+below-at zero p t n h = absurd (not-suc-le-zero h)
+below-at (suc m) p t n h = elim (ℕ-discrete n m) as (λ _. T (p n)) [
+  | yes e ↦ subst (λ (k : ℕ). T (p k)) (sym e) (and-left (p m) (below m p) t)
+  | no e ↦ below-at m p (and-right (p m) (below m p) t) n (omega arith)
+]

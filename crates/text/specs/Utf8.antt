@@ -3,9 +3,9 @@ use mathlib.Core.Bool.{Bool}
 use mathlib.Core.Path.{_≡_}
 use mathlib.Core.Logic.{_⊎_}
 use mathlib.Core.List.{List, [], _∷_, _++_}
-use Prim.Native.Nat.{ℕ, _+_, _/_, _%_, _<_, _≤_}
-use lib.Dec.{ltb, leb, eqb}
-use Rattle.text.specs.Lists.{Text, pick}
+use Prim.Native.Nat.{ℕ, _+_, _-_, _/_, _%_, _<_, _≤_}
+use lib.Dec.{ltb, eqb}
+use Rattle.text.specs.Lists.{Text, pick, any, Span, span, inside}
 
 -- a Unicode scalar value: a code point that is no surrogate
 pub record Scalar (c : ℕ) : Type 0 where
@@ -38,6 +38,18 @@ unfoldable pub unmarked : Text → Text
 unmarked [] = []
 unmarked (c ∷ cs) = pick (eqb c 0xfeff) cs (c ∷ cs)
 
--- "a character above U+00FF": the alphabet of grammars and records
+-- "Admit U+0100 to U+017F, U+0300 to U+036F, U+203F and U+2040 in grammars and records; 3 and 13 now mean any other character above U+00FF":
+-- the alphabet, in ascending spans that do not meet
+unfoldable pub alphabet : List Span
+alphabet = span 0x0 0x17f ∷ span 0x300 0x36f ∷ span 0x203f 0x2040 ∷ []
+
 unfoldable pub known : ℕ → Bool
-known c = leb c 0xff
+known c = any (inside c) alphabet
+
+-- how many code points the spans have, and the place of one among them; of one that they have not, how many there are
+unfoldable pub width : Span → ℕ
+width s = s .to + 1 - s .from
+
+unfoldable pub placeIn : List Span → ℕ → ℕ
+placeIn [] c = 0
+placeIn (s ∷ ss) c = pick (inside c s) (c - s .from) (width s + placeIn ss c)

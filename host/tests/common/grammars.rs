@@ -80,7 +80,7 @@ pub fn spoil(random: &mut Random, grammar: &mut Vec<u8>) {
             grammar.splice(0..0, marks.bytes());
         }
         4 => {
-            let text = *random.pick(&["\u{100}", "\u{FEFF}", "\u{20AC}", "\u{10000}"]);
+            let text = *random.pick(&["\u{100}", "\u{180}", "\u{FEFF}", "\u{20AC}", "\u{10000}"]);
             insert(random, grammar, text);
         }
         5 | 6 => {

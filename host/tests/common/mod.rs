@@ -134,7 +134,7 @@ impl Job {
         match random.below(4) {
             0 => record.insert(at, random.number() as u8),
             1 => record.truncate(at),
-            2 => record.extend("\u{100}".bytes()),
+            2 => record.extend("\u{180}".bytes()),
             _ => {
                 let missing = (RECORD_CHARACTERS + 1).saturating_sub(record.len());
                 let fewer = random.below(3);

@@ -28,11 +28,22 @@ fn lines(call: &str) -> Vec<Vec<String>> {
     let mut lines = Vec::new();
     for file in files {
         let text = std::fs::read_to_string(&file).expect("a text");
-        let fields = text.lines().map(|line| line.split('\t').map(str::to_string));
+        let fields = text
+            .lines()
+            .map(|line| line.split('\t').map(str::to_string));
         lines.extend(fields.map(Iterator::collect::<Vec<_>>));
     }
     lines.retain(|fields| fields[0] == call);
     lines
+}
+
+/// The vectors of the category call: a number, and the name or `-`.
+pub fn categories() -> Vec<(u32, String)> {
+    let category = |fields: Vec<String>| {
+        assert_eq!(fields.len(), 3, "{fields:?}");
+        (fields[1].parse().expect("a number"), fields[2].clone())
+    };
+    lines("category").into_iter().map(category).collect()
 }
 
 /// The vectors of the program.

@@ -4,7 +4,8 @@
 //! `tests/vectors/README.md` names, and may have more; a line of standard output
 //! has what it answers, in eight columns, and a ninth with the word `touched` if
 //! the call changed a cell that is not its result's. The last three of the eight
-//! are places, which no answer has yet.
+//! are places, which no answer has yet. A line for the category call is answered
+//! by the category's letters alone.
 
 mod lent;
 
@@ -44,8 +45,8 @@ fn run() -> Result<(), String> {
     for (number, line) in (1..).zip(io::stdin().lock().lines()) {
         let at_line = |error: String| format!("line {number}: {error}");
         let line = line.map_err(|error| at_line(error.to_string()))?;
-        let job = Job::parse(&line).map_err(at_line)?;
-        writeln!(output, "{}", job.run()).map_err(|error| at_line(error.to_string()))?;
+        let answer = answer(&line).map_err(at_line)?;
+        writeln!(output, "{answer}").map_err(|error| at_line(error.to_string()))?;
     }
     Ok(())
 }
@@ -55,6 +56,17 @@ enum Call {
     Check,
     Read,
     Convert,
+}
+
+/// The answer to a line of input.
+fn answer(line: &str) -> Result<String, String> {
+    match line.strip_prefix("category\t") {
+        Some(fields) => {
+            let code = number(fields.split('\t').next().unwrap_or_default())?;
+            Ok(ixml::category(code).map_or("-".to_string(), |known| known.to_string()))
+        }
+        None => Ok(Job::parse(line)?.run()),
+    }
 }
 
 /// A line of input.
@@ -149,7 +161,7 @@ fn filled(answer: Answer, room: usize) -> usize {
 }
 
 fn number<T: std::str::FromStr>(text: &str) -> Result<T, String> {
-    text.parse().map_err(|_| format!("{text:?} is no length"))
+    text.parse().map_err(|_| format!("{text:?} is no number"))
 }
 
 /// The bytes of a hex column.
