@@ -6,16 +6,17 @@ use Prim.Native.Nat.{ℕ, _≤_}
 use native.Mathlib.Omega.{arith}
 use lib.Dec.{eqb}
 use borrow.Author.Tests.{ne-eqb}
+use Rattle.text.specs.Stages.{numberOf}
 use Rattle.answer.specs.Answer as defined
 use Rattle.answer.specs.Answer.{Checks}
 use Rattle.answer.specs.Compute.{grammarTests, mismatch, result, outcome, checkOf}
 use Rattle.answer.proofs.Stages.{first-below}
 use Rattle.answer.proofs.Settled.{check-answers}
 use Rattle.load.specs.declared.Passed.{Passed}
-use Rattle.load.specs.declared.Judged.{Judged}
-use Rattle.load.specs.declared.Judged.the-variants.{Grammar as Accepted, Refused}
+use Rattle.load.specs.declared.Loaded.{Loaded}
+use Rattle.load.specs.declared.Loaded.the-variants.{Grammar as Accepted, Refused}
+use Rattle.load.specs.Checked.{stageOf}
 use Rattle.load.specs.Loaded.{Turned, Kept, Loads}
-use Rattle.job.specs.Stages.{whyJudged}
 use Rattle.calls.specs.declared.Answer.{Answer}
 use Rattle.calls.specs.Calls.{shown, Checked}
 
@@ -40,13 +41,13 @@ kept-is bs T p k = ap (λ (n : ℕ). outcome [] (mismatch bs) n (result [] false
 checked : (bs : List ℕ) (a : Answer) → shown a ≡ checkOf bs → Checked bs a
 checked bs a e = record { computed = e; defines = subst (Checks bs) (sym e) (check-answers bs) }
 
-pub refuses : (bs T : List ℕ) (j : Judged) (k n : ℕ) → j ≡ Refused k → n ≡ whyJudged j → Loads bs T j
+pub refuses : (bs T : List ℕ) (j : Loaded) (k n : ℕ) → j ≡ Refused k → n ≡ numberOf (stageOf j) → Loads bs T j
     → Checked bs (record { number = n; length = 0; ambiguous = false; version = false })
 unfolding answer
 refuses bs T j k n q e l =
-    let w : n ≡ k = e ∙ ap whyJudged q in
+    let w : n ≡ k = e ∙ ap (λ (x : Loaded). numberOf (stageOf x)) q in
     rw w (checked bs (record { number = k; length = 0; ambiguous = false; version = false }) (sym (refused-is bs k (subst (Loads bs T) q l))))
 
-pub accepts : (bs T : List ℕ) (j : Judged) (p : Passed) → j ≡ Accepted p → Loads bs T j → Checked bs (record { number = 0; length = 0; ambiguous = false; version = p .mismatch })
+pub accepts : (bs T : List ℕ) (j : Loaded) (p : Passed) → j ≡ Accepted p → Loads bs T j → Checked bs (record { number = 0; length = 0; ambiguous = false; version = p .mismatch })
 unfolding answer
 accepts bs T j p e l = checked bs (record { number = 0; length = 0; ambiguous = false; version = p .mismatch }) (sym (kept-is bs T p (subst (Loads bs T) e l)))

@@ -29,6 +29,7 @@ use Rattle.dynamic_errors.specs.Judgment.{topmost, judgmentOf}
 use Rattle.convert.specs.declared.Converted.{Converted}
 use Rattle.convert.specs.declared.Converted.the-variants.{Xml, Refused as Not-converted}
 use Rattle.convert.specs.Concluded.{Parsing, Ready, Written, NotWritten, Concludes}
+use Rattle.convert.proofs.Conclusions.{written-case, refused-case}
 use Rattle.calls.specs.declared.Answer.{Answer}
 use Rattle.calls.specs.Calls.{shown, whyConverted, refusalOf, ConvertedAs}
 use Rattle.calls.proofs.Outcomes.{refusing, call-refused, call-answered, call-not-chosen, result-is, too-long, fitting, done-is}
@@ -68,7 +69,7 @@ module _ (j : Job) (T new P : List ℕ) (f : LeftParse) (y : IsChosen j T new P 
 
 -- the numbers of a left parse name a derivation of the record's characters
 module _ (j : Job) (T new P : List ℕ) (f : LeftParse) (y : IsChosen j T new P f) where
-  pub parsing : Parsing T (f .root) (take (f .count) P) (take (f .chars) new) (y .tree) (y .row)
+  pub parsing : Parsing T (f .root) (take (f .count) P) (take (f .chars .0) new) (y .tree) (y .row)
   parsing =
       subst (λ (x : Text). Parsing T (f .root) (take (f .count) P) x (y .tree) (y .row)) (sym (y .input .stored)) (record {
         parsed = record {
@@ -80,7 +81,7 @@ module _ (j : Job) (T new P : List ℕ) (f : LeftParse) (y : IsChosen j T new P 
         tokens = y .tokens;
       })
 
-  pub convertible : length T ≡ grammarTable → Ready T (f .root) (take (f .count) P) (take (f .chars) new)
+  pub convertible : length T ≡ grammarTable → Ready T (f .root) (take (f .count) P) (take (f .chars .0) new)
   convertible l = record { table = l; few = omega (arith, length-take (f .count) P, y .short); g = y .tree; t = y .row; parsing = parsing }
 
   pub numbers-in : f .count ≤ length P
@@ -112,8 +113,8 @@ module _ (j : Job) (old : List ℕ) where
   convert-not-chosen T new P p k r a q e w z = refused-as a r old z refl (call-not-chosen j old asXml tests T new P p k r q e w)
 
   module _ (T new P : List ℕ) (f : LeftParse) (y : IsChosen j T new P f) (new′ : List ℕ) (v : Converted)
-      (h : (g : Grammar) (t : Row) → Parsing T (f .root) (take (f .count) P) (take (f .chars) new) g t
-      → Concludes g (take (f .chars) new) t (f .ambiguous) (f .mismatch) old new′ v) where
+      (h : (g : Grammar) (t : Row) → Parsing T (f .root) (take (f .count) P) (take (f .chars .0) new) g t
+      → Concludes g (take (f .chars .0) new) t (f .ambiguous) (f .mismatch) old new′ v) where
     abbrev amb : Bool
     amb = ambiguousOf (y .tree) (y .input .chars) (y .row)
 
@@ -136,7 +137,7 @@ module _ (j : Job) (old : List ℕ) where
     unfolding convertOf
     convert-refused k n a e i z =
         let o : n ≡ k = i ∙ ap whyConverted e in
-        let u : NotWritten cells judgment old new′ k = subst (Concludes (y .tree) (y .input .chars) (y .row) amb (mismatched (y .tree)) old new′) e concludes in
+        let u : NotWritten cells judgment old new′ k = refused-case concludes e in
         let some : k ≡ 0 → ⊥ = λ z. ⊎-elim (λ p. p .1 z) (λ p. (let l = p .1 in omega arith)) (u .why) in
         let at : firstOf tests ≡ k = ⊎-elim
         (λ p. failing j T new P f y last k (p .0) (p .1))
@@ -149,7 +150,7 @@ module _ (j : Job) (old : List ℕ) where
     pub convert-done : (n : ℕ) → v ≡ Xml n → ConvertedAs j old (record { number = 0; length = n; ambiguous = f .ambiguous; version = f .mismatch }) new′
     unfolding convertOf
     convert-done n e =
-        let u : Written cells judgment old new′ n = subst (Concludes (y .tree) (y .input .chars) (y .row) amb (mismatched (y .tree)) old new′) e concludes in
+        let u : Written cells judgment old new′ n = written-case concludes e in
         let first = y .first tests ∙ passing j T new P f y last (u .allowed) ∙ fitting j T new P f y asXml old (u .fits) in
         let o = call-answered j old asXml tests (f .mismatch) _ first (y .version) (result-is j T new P f y asXml) in
         let b = done-is old new′ cells (f .mismatch) amb (f .ambiguous) n (u .buffer) (u .count) (y .mark) in

@@ -10,7 +10,7 @@ ghost use Rattle.calls.specs.Calls.{Checked, whyConverted, refusalOf, Re
 use convert::Converted;
 use job::Parse;
 use job::Refusal;
-use load::Judged;
+use load::Loaded;
 use text::limits;
 use text::refusals;
 
@@ -29,10 +29,10 @@ pub extern "C" fn ixml_check(grammar: &[u8]) -> Answer
     ensures { λ r. ⌜ Checked (now (grammar .entry)) r ⌝ }
 {
     let mut table = [0u32; limits::GRAMMAR_TABLE];
-    let judged = load::load_grammar(grammar, &mut table);
-    let Judged::Grammar(kept) = judged else {
+    let loaded = load::load_grammar(grammar, &mut table);
+    let Loaded::Grammar(kept) = loaded else {
         return Answer {
-            number: job::why_judged(judged),
+            number: load::loaded_number(loaded),
             length: 0,
             ambiguous: false,
             version: false,
@@ -166,7 +166,7 @@ pub extern "C" fn ixml_convert(
         return refuse(job::why_refused(parsed));
     };
     let count = found.count;
-    let chars = found.chars;
+    let chars = found.chars.0;
     let converted = convert::convert(
         &table,
         found.root,

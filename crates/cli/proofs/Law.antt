@@ -16,7 +16,7 @@ use Rattle.answer.specs.Answer.{Line, Topmost, Job, Answer, Converts, grammarLi
 use Rattle.answer.specs.Compute.{convertOf}
 use Rattle.answer.specs.Program.{File, bytes, shows, programJob, Writes, no-grammar, no-record, long-record, job}
 use Rattle.answer.proofs.Settled.{convert-settled, convert-answers}
-use Rattle.cli.specs.Desk.{Seen, shut, begins, Written, noFile, longFile, askedBytes, jobOutcome, jobText, Shows, Holds, Replies}
+use Rattle.cli.specs.Output.{Seen, shut, begins, Written, noFile, longFile, askedBytes, jobOutcome, jobText, Shows, Holds, Replies}
 
 -- no line's number is above m, so neither is the topmost that applies
 topmost-below : (m n : ℕ) (ls : List Line) → T (all (λ l. leb (l .number) m) ls) → Topmost ls n → n ≤ m

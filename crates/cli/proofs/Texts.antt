@@ -12,7 +12,7 @@ use borrow.Author.Tests.{ne-eqb, lt-ltb, le-ltb}
 use Rattle.text.proofs.Tests.{split}
 use Rattle.xml.specs.Bytes.{failDocument}
 use Rattle.answer.specs.Program.{decimal}
-use Rattle.cli.specs.Desk.{Put, refusal, bodyOf}
+use Rattle.cli.specs.Output.{Put, refusal, bodyOf}
 
 -- a text that was copied after the first `at` bytes
 pub put-holds : (text old mid rest tail : List ℕ) (at n : ℕ) → at ≤ length old → n ≡ length text → mid ≡ take (length text) text ++ tail

@@ -2,7 +2,7 @@
 ghost use Prim.Native.Nat.{_≤_};
 ghost use lib.ListN.{length};
 ghost use Rattle.io.specs.Counts.{Counts};
-ghost use Rattle.cli.specs.Desk.{Chunked};
+ghost use Rattle.cli.specs.Output.{Chunked};
 
 // Whether a file can be read, and how many of its bytes were.
 pub struct Loaded {

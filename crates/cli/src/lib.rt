@@ -1,4 +1,4 @@
-// The program's desk: files in, and the bytes that it writes for an answer. No contract can say
+// The program's files and output: files in, and the bytes that it writes for an answer. No contract can say
 // what the system reads; all that follows from the bytes read is proved.
 mod files;
 mod output;

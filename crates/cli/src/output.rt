@@ -7,7 +7,7 @@ ghost use Rattle.xml.specs.Bytes.{failDocument};
 ghost use Rattle.answer.specs.Program.{decimal};
 use text::limits;
 use text::refusals;
-ghost use Rattle.cli.specs.Desk.{Put, Holds, Shows, bodyOf, refusal, noFile, longFile};
+ghost use Rattle.cli.specs.Output.{Put, Holds, Shows, bodyOf, refusal, noFile, longFile};
 
 // The XML and a line end.
 const WRITTEN_BYTES: usize = limits::PROGRAM_BYTES + 1;

@@ -6,6 +6,7 @@ use mathlib.Core.List.{List, [], _∷_, _++_}
 use Prim.Native.Nat.{ℕ, _*_, _<_, _≤_}
 use native.Mathlib.Omega.{arith}
 use lib.ListN.{length, drop}
+use borrow.Author.Tests.{eq-eqb, ne-eqb}
 use Rattle.text.specs.Lists.{Text}
 use Rattle.text.proofs.Tests.{split}
 use Rattle.tree.specs.Tree.{Grammar}
@@ -15,13 +16,12 @@ use Rattle.xml.specs.Bytes.{bytes}
 use Rattle.left_parse.specs.Noted.{Noted, Parsed, Room}
 use Rattle.writer.specs.declared.Written as writer
 use Rattle.writer.specs.declared.Written.the-variants as written
-use Rattle.writer.specs.Whole.{Job, Some, Writable, Answered}
+use Rattle.writer.specs.Whole.{Job, Some, Writable, writtenNumber, writtenCount, Answered}
 use Rattle.dynamic_errors.specs.declared.Verdict.{Verdict}
-use Rattle.dynamic_errors.specs.declared.Verdict.the-variants.{Allowed, Forbidden}
-use Rattle.dynamic_errors.specs.Judgment.{topmost, judgmentOf, Judged}
-use Rattle.dynamic_errors.proofs.Verdicts.{none-of, some-of}
+use Rattle.dynamic_errors.specs.Judgment.{topmost, judgmentOf, verdictNumber, Judged}
+use Rattle.convert.specs.declared.Converted.{Converted}
 use Rattle.convert.specs.declared.Converted.the-variants.{Xml, Refused}
-use Rattle.convert.specs.Concluded.{Parsing, Ready, Written, NotWritten, whyOf, Concludes}
+use Rattle.convert.specs.Concluded.{Parsing, Ready, Written, NotWritten, Concludes}
 
 -- where no line applies, no test holds
 record Clear (t m u b : Bool) : Type 0 where
@@ -64,34 +64,49 @@ module _ {T : List ℕ} {root : ℕ} {P : List ℕ} {r : Text} where
       pub some-later : Ready T root P r → Some T root P r S′
       some-later w = record { g = w .g; t = w .t; job = later-job (w .parsing) }
 
-      pub forbidden : (g : Grammar) (t : Row) (a m : Bool) (old : List ℕ) (k n : ℕ) → Parsing T root P r g t → v ≡ Forbidden k → n ≡ whyOf v → Concludes g r t a m old old (Refused n)
-      forbidden g t a m old k n p e f =
-          let s = some-of v k (judgmentOf g r t) e (j .is g t (its-job p)) in
-          let q : n ≡ judgmentOf g r t = f ∙ ap whyOf e ∙ s .same in
-          record { why = inl (q, λ z. s .some (sym q ∙ z)); buffer = refl }
+      module _ (g : Grammar) (t : Row) (a m : Bool) (old : List ℕ) (n : ℕ) (p : Parsing T root P r g t) (e : n ≡ verdictNumber v) where
+        number : n ≡ judgmentOf g r t
+        number = e ∙ j .is g t (its-job p)
 
-      module _ (g : Grammar) (t : Row) (a m : Bool) (old new : List ℕ) (x : writer.Written) (p : Parsing T root P r g t) (e : v ≡ Allowed)
-          (w : Job T root P r S′ g t → Writable g r t → Answered (bytes a m (document g r t)) old new x) where
-        allowed : judgmentOf g r t ≡ 0
-        allowed = none-of v (judgmentOf g r t) e (j .is g t (its-job p))
+        pub forbidden : (n ≡ 0 → ⊥) → Concludes g r t a m old old (Refused n)
+        forbidden z = record { written = λ q. absurd (z q); not-written = λ _. record { why = inl (number, z); buffer = refl }; told = rw (ne-eqb n 0 z) }
 
-        answered : Answered (bytes a m (document g r t)) old new x
-        answered = w (later-job p) (writable g r t allowed)
+        module _ (z : n ≡ 0) (new : List ℕ) (x : writer.Written)
+            (w : Job T root P r S′ g t → Writable g r t → Answered (bytes a m (document g r t)) old new x) where
+          allowed : judgmentOf g r t ≡ 0
+          allowed = sym number ∙ z
 
-        pub concluded : (n : ℕ) → x ≡ written.Xml n → Concludes g r t a m old new (Xml n)
-        concluded n q = ⊎-elim
-            (λ (l : length old < length (bytes a m (document g r t))). absurd
-            (let s : written.Xml n ≡ written.TooLong = sym q ∙ answered .long l .0 in let z : _≡_ {A = ℕ} 0 1 = cc in omega arith))
-            (λ (l : length (bytes a m (document g r t)) ≤ length old). (let v = answered .fits l in
-            let s : written.Xml n ≡ written.Xml (length (bytes a m (document g r t))) = sym q ∙ v .0 in
-            let c : n ≡ length (bytes a m (document g r t)) = cc in
-            record { allowed = allowed; count = c; fits = l; buffer = v .1 }))
-            (split (length old) (length (bytes a m (document g r t))))
+          answered : Answered (bytes a m (document g r t)) old new x
+          answered = w (later-job p) (writable g r t allowed)
 
-        pub too-long : x ≡ written.TooLong → Concludes g r t a m old new (Refused 23)
-        too-long q = ⊎-elim
-            (λ (l : length old < length (bytes a m (document g r t))). record { why = inr (allowed, refl, l); buffer = answered .long l .1 })
-            (λ (l : length (bytes a m (document g r t)) ≤ length old). absurd
-            (let s : written.TooLong ≡ written.Xml (length (bytes a m (document g r t))) = sym q ∙ answered .fits l .0 in
-            let z : _≡_ {A = ℕ} 0 1 = cc in omega arith))
-            (split (length old) (length (bytes a m (document g r t))))
+          pub concluded : (k : ℕ) → x ≡ written.Xml k → Concludes g r t a m old new (Xml k)
+          concluded k q = ⊎-elim
+              (λ (l : length old < length (bytes a m (document g r t))). absurd (let s = sym (ap writtenNumber q) ∙ answered .long l .0 in omega arith))
+              (λ (l : length (bytes a m (document g r t)) ≤ length old). (let v = answered .fits l in
+              record {
+                written = λ _. record { allowed = allowed; count = sym (ap writtenCount q) ∙ v .1; fits = l; buffer = v .2 };
+                not-written = λ y. absurd (y refl);
+                told = refl;
+              }))
+              (split (length old) (length (bytes a m (document g r t))))
+
+          pub too-long : x ≡ written.TooLong → Concludes g r t a m old new (Refused 23)
+          too-long q = ⊎-elim
+              (λ (l : length old < length (bytes a m (document g r t))). record {
+                written = λ y. absurd (omega arith);
+                not-written = λ _. record { why = inr (allowed, refl, l); buffer = answered .long l .1 };
+                told = refl;
+              })
+              (λ (l : length (bytes a m (document g r t)) ≤ length old). absurd (let s = sym (ap writtenNumber q) ∙ answered .fits l .0 in omega arith))
+              (split (length old) (length (bytes a m (document g r t))))
+
+-- what is promised of each case
+module _ {g : Grammar} {r : Text} {t : Row} {a m : Bool} {old new : List ℕ} {v : Converted} (c : Concludes g r t a m old new v) where
+  pub written-case : {n : ℕ} → v ≡ Xml n → Written (bytes a m (document g r t)) (judgmentOf g r t) old new n
+  written-case e = let d = rw e at c in d .written refl
+
+  pub refused-case : {n : ℕ} → v ≡ Refused n → NotWritten (bytes a m (document g r t)) (judgmentOf g r t) old new n
+  refused-case {n} e = let d = rw e at c in d .not-written (λ z. let s = d .told in other (rw (eq-eqb n 0 z) at s))
+    where
+      other : {k : ℕ} → Refused k ≡ Xml 0 → ⊥
+      other s = absurd (let z : _≡_ {A = ℕ} 0 1 = cc in omega arith)

@@ -4,9 +4,10 @@ use mathlib.Core.Path.{_≡_}
 use mathlib.Core.Logic.{_⊎_}
 use mathlib.Core.List.{List, _++_}
 use Prim.Native.Nat.{ℕ, _<_, _≤_}
+use lib.Dec.{eqb}
 use lib.ListN.{length, drop}
 use Rattle.text.specs.Limits.{grammarTable, readingNumbers}
-use Rattle.text.specs.Lists.{Text}
+use Rattle.text.specs.Lists.{Text, pick}
 use Rattle.tree.specs.Tree.{Grammar}
 use Rattle.tree.specs.Tokens.{grammarTokens}
 use Rattle.derive.specs.Derive.{Row}
@@ -14,8 +15,6 @@ use Rattle.items.specs.Items.{Reads}
 use Rattle.xml.specs.Document.{document}
 use Rattle.xml.specs.Bytes.{bytes}
 use Rattle.left_parse.specs.Noted.{Parsed}
-use Rattle.dynamic_errors.specs.declared.Verdict.{Verdict}
-use Rattle.dynamic_errors.specs.declared.Verdict.the-variants.{Allowed, Forbidden}
 use Rattle.dynamic_errors.specs.Judgment.{judgmentOf}
 use Rattle.convert.specs.declared.Converted.{Converted}
 use Rattle.convert.specs.declared.Converted.the-variants.{Xml, Refused}
@@ -44,11 +43,17 @@ pub record NotWritten (bs : List ℕ) (judgment : ℕ) (old new : List ℕ) (n :
   pub why : ((n ≡ judgment) × (n ≡ 0 → ⊥)) ⊎ ((judgment ≡ 0) × (n ≡ 23) × (length old < length bs))
   pub buffer : new ≡ old
 
--- the number of a verdict
-abbrev pub whyOf : Verdict → ℕ
-whyOf Allowed = 0
-whyOf (Forbidden n) = n
+-- the number and the count of bytes that each case stands for
+abbrev pub convertedNumber : Converted → ℕ
+convertedNumber (Xml n) = 0
+convertedNumber (Refused n) = n
 
-abbrev pub Concludes : Grammar → Text → Row → Bool → Bool → List ℕ → List ℕ → Converted → Type 0
-Concludes g r t ambiguous mismatch old new (Xml n) = Written (bytes ambiguous mismatch (document g r t)) (judgmentOf g r t) old new n
-Concludes g r t ambiguous mismatch old new (Refused n) = NotWritten (bytes ambiguous mismatch (document g r t)) (judgmentOf g r t) old new n
+abbrev pub convertedCount : Converted → ℕ
+convertedCount (Xml n) = n
+convertedCount (Refused n) = 0
+
+-- what the number promises; and that only XML has the number 0
+pub record Concludes (g : Grammar) (r : Text) (t : Row) (ambiguous mismatch : Bool) (old new : List ℕ) (v : Converted) : Type 0 where
+  pub written : convertedNumber v ≡ 0 → Written (bytes ambiguous mismatch (document g r t)) (judgmentOf g r t) old new (convertedCount v)
+  pub not-written : (convertedNumber v ≡ 0 → ⊥) → NotWritten (bytes ambiguous mismatch (document g r t)) (judgmentOf g r t) old new (convertedNumber v)
+  pub told : v ≡ pick (eqb (convertedNumber v) 0) (Xml (convertedCount v)) (Refused (convertedNumber v))

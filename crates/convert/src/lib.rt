@@ -2,8 +2,10 @@
 ghost use mathlib.Core.Path.{_≡_};
 ghost use Rattle.tree.specs.Tree.{Grammar};
 ghost use Rattle.derive.specs.Derive.{Row};
-ghost use Rattle.convert.specs.Concluded.{whyOf, Ready, Parsing, Concludes};
+ghost use Rattle.dynamic_errors.specs.Judgment.{verdictNumber};
+ghost use Rattle.convert.specs.Concluded.{Ready, Parsing, Concludes};
 use dynamic_errors::Verdict;
+use markup::StateWords;
 use text::limits;
 use text::refusals;
 use writer::Written;
@@ -19,11 +21,16 @@ pub enum Converted {
 
 // The number of what forbids a document.
 fn why(judged: Verdict) -> u32
-    ensures { λ r. ⌜ r ≡ whyOf judged ⌝ }
+    ensures { λ r. ⌜ r ≡ verdictNumber judged ⌝ }
 {
     match judged {
         Verdict::Allowed => refusals::ANSWERED,
-        Verdict::Forbidden(number) => number,
+        Verdict::RepeatedAttribute => refusals::REPEATED_ATTRIBUTE,
+        Verdict::NotXmlName => refusals::NOT_XML_NAME,
+        Verdict::NotXmlCharacter => refusals::NOT_XML_CHARACTER,
+        Verdict::AttributeRoot => refusals::ATTRIBUTE_ROOT,
+        Verdict::DeletedRoot => refusals::DELETED_ROOT,
+        Verdict::AttributeXmlns => refusals::ATTRIBUTE_XMLNS,
     }
 }
 
@@ -45,19 +52,15 @@ pub fn convert(
     let mut seen = [0u32; limits::READING_NUMBERS];
     left_parse::note(table, root, parse, &mut scratch);
     let judged = dynamic_errors::first_error(table, root, parse, record, &mut scratch, &mut seen);
-    let Verdict::Allowed = judged else {
-        return Converted::Refused(why(judged));
-    };
-    let written = writer::write_xml(
-        table,
-        root,
-        parse,
-        record,
+    let number = why(judged);
+    if number != refusals::ANSWERED {
+        return Converted::Refused(number);
+    }
+    let due = StateWords {
         ambiguous,
         mismatch,
-        &mut scratch,
-        out,
-    );
+    };
+    let written = writer::write_xml(table, root, parse, record, due, &mut scratch, out);
     let Written::Xml(n) = written else {
         return Converted::Refused(refusals::RESULT_TOO_LONG);
     };

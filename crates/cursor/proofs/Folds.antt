@@ -46,7 +46,7 @@ module _ {T P S₁ S : List ℕ} {b c : Cursor} (R : Relation) (G : Reached T P 
         record { r = A .r; S₀ = A .S₀; t = m .t; k = m .rest; stands = m .stands }
 
     pub on-text : {n n′ : Cursor} → e ≡ Text′ n → Over T P S′ n n′ → (R′ : Relation)
-        → ((r : Text) (k₀ k : Rest) (t : Text) → ((p : Piece) → Pieced T (tokenAt T (n .at .item)) (n .at .place) p → Says T r p t)
+        → ((r : Text) (k₀ k : Rest) (t : Text) → ((p : Piece) → Pieced T (tokenAt T (n .at .item)) (n .at .place .0) p → Says T r p t)
         → 0 < length t → R r k₀ (before (xml.text t) k) → R′ r k₀ k) → Reached T P S₁ S′ b n′ R′
     on-text q E R′ law r S₀ k₀ A =
         let a = G r S₀ k₀ A in

@@ -29,7 +29,7 @@ use Rattle.cursor.proofs.Steps.{cursor}
 
 -- a walk begins
 pub ahead-begin : {T P : List ℕ} {r : Text} {S : List ℕ} {h : Position} {g : Grammar} {starts : Starts} {e₁ i₁ : ℕ} {t : Row} {ss : List Symbol}
-    → Walk T P r S g starts e₁ i₁ h t ss [] → 2 * length P ≤ length S → Ahead T P r S S (cursor h 0) (row (nodes g r t ss (h .place)))
+    → Walk T P r S g starts e₁ i₁ h t ss [] → 2 * length P ≤ length S → Ahead T P r S S (cursor h 0) (row (nodes g r t ss (h .place .0)))
 ahead-begin {r = r} {h = h} {g = g} {starts = starts} {e₁ = e₁} {i₁ = i₁} {t = t} {ss = ss} W room =
     record {
       g = g;
@@ -45,7 +45,7 @@ ahead-begin {r = r} {h = h} {g = g} {starts = starts} {e₁ = e₁} {i₁ = i₁
       room = room;
       deep = omega arith;
       outer = b-none refl refl;
-      meets = sym (ap row (join-none (nodes g r t ss (h .place))));
+      meets = sym (ap row (join-none (nodes g r t ss (h .place .0))));
     }
 
 module _ {T P : List ℕ} {r : Text} {S₀ S : List ℕ} {c : Cursor} {n : Text} {x : Xml} {k : Rest} (N : AtNode T P r S₀ S c n x k) where
@@ -64,7 +64,7 @@ module _ {T P : List ℕ} {r : Text} {S₀ S : List ℕ} {c : Cursor} {n : Text}
   below : Stands T (N .g) (N .starts) (c .at .item) (N .s) × (N .a < length (alts (N .g) (N .s)))
   below = go (seen (N .walk))
     where
-      go : {j : ℕ} → View T r (N .g) (N .starts) (c .at .item) (c .at .place) j (node (N .a) (N .m) (N .children) (N .row)) (N .s ∷ N .ss)
+      go : {j : ℕ} → View T r (N .g) (N .starts) (c .at .item) (c .at .place .0) j (node (N .a) (N .m) (N .children) (N .row)) (N .s ∷ N .ss)
           → Stands T (N .g) (N .starts) (c .at .item) (N .s) × (N .a < length (alts (N .g) (N .s)))
       go (v-node l k′ st b dc dt) = (st, b)
 
@@ -78,8 +78,8 @@ module _ {T P : List ℕ} {r : Text} {S₀ S : List ℕ} {c : Cursor} {n : Text}
           (frame (c .at) (N .s) (N .row) (N .ss) (N .m) (N .walk .to) ∷ N .fs)
       B = after-enter (N .walk) (below .0) (below .1) (N .scratch) S′ h E
 
-      z : h .place ≡ c .at .place
-      z = ap (λ (q : Position). q .place) (E .spot)
+      z : h .place .0 ≡ c .at .place .0
+      z = ap (λ (q : Position). q .place .0) (E .spot)
 
       i : h .inner ≡ c .at .entry + 1
       i = ap (λ (q : Position). q .inner) (E .spot)
@@ -88,7 +88,7 @@ module _ {T P : List ℕ} {r : Text} {S₀ S : List ℕ} {c : Cursor} {n : Text}
       f = frame (c .at) (N .s) (N .row) (N .ss) (N .m) (N .walk .to)
 
       stand : v ≤ h .inner → Outer T (N .g) r v (f ∷ N .fs) (within n none k)
-          → x ≡ spread (N .g) r v (N .children) (alternative (N .g) (N .s) (N .a)) (h .place)
+          → x ≡ spread (N .g) r v (N .children) (alternative (N .g) (N .s) (N .a)) (h .place .0)
           → Ahead T P r S₀ S′ (cursor h v) (within n x k)
       stand d b e = record {
         g = N .g;
@@ -105,19 +105,19 @@ module _ {T P : List ℕ} {r : Text} {S₀ S : List ℕ} {c : Cursor} {n : Text}
         deep = d;
         outer = b;
         meets = ap (λ (y : Xml). within n y k) (e ∙ sym
-            (join-none (spread (N .g) r v (N .children) (alternative (N .g) (N .s) (N .a)) (h .place))));
+            (join-none (spread (N .g) r v (N .children) (alternative (N .g) (N .s) (N .a)) (h .place .0))));
       }
 
-      into-element : kindAt T (c .at .item) ≡ 2 → x ≡ nodes (N .g) r (N .children) (alternative (N .g) (N .s) (N .a)) (c .at .place) → Ahead T P r S₀ S′ (cursor h v) (within n x k)
+      into-element : kindAt T (c .at .item) ≡ 2 → x ≡ nodes (N .g) r (N .children) (alternative (N .g) (N .s) (N .a)) (c .at .place .0) → Ahead T P r S₀ S′ (cursor h v) (within n x k)
       into-element e y =
           let d = two e in
           stand (omega arith) (b-element d e (N .named) (N .outer) (ap (within n none) (N .after))) (y ∙ rw (d, z) refl)
 
-      into-value : kindAt T (c .at .item) ≡ 3 → x ≡ text (value (N .g) r (N .children) (alternative (N .g) (N .s) (N .a)) (c .at .place)) → Ahead T P r S₀ S′ (cursor h v) (within n x k)
+      into-value : kindAt T (c .at .item) ≡ 3 → x ≡ text (value (N .g) r (N .children) (alternative (N .g) (N .s) (N .a)) (c .at .place .0)) → Ahead T P r S₀ S′ (cursor h v) (within n x k)
       into-value e y =
           let d = three e in
           stand (omega arith) (b-attribute (d ∙ i) (N .named) (N .outer) (ap (within n none) (N .after)))
-          (y ∙ rw z (sym (Rattle.cursor.proofs.Laws.spread-value (N .g) r v (c .at .place) (N .children)
+          (y ∙ rw z (sym (Rattle.cursor.proofs.Laws.spread-value (N .g) r v (c .at .place .0) (N .children)
           (alternative (N .g) (N .s) (N .a)) (omega (arith, i)))))
 
   pub enter-less : (S′ : List ℕ) (h : Position) → ends.Entered T P S S′ (c .at) h → (v : ℕ) → weight T P (cursor h v) < weight T P c
@@ -127,7 +127,7 @@ module _ {T P : List ℕ} {r : Text} {S₀ S : List ℕ} {c : Cursor} {n : Text}
   pub past-node : (h : Position) → h ≡ jumped S (c .at) → (v : ℕ) → v ≡ c .value → Ahead T P r S₀ S (cursor h v) k × (weight T P (cursor h v) < weight T P c) × (c .at .entry < h .entry)
   past-node h he v ve =
       let B = after-jump (N .walk) (N .scratch) h he in
-      let z : h .place ≡ N .m = ap (λ (q : Position). q .place) (B .0) in
+      let z : h .place .0 ≡ N .m = ap (λ (q : Position). q .place .0) (B .0) in
       let y : h .entry ≡ c .at .entry + 1 + length (leftParse (N .children)) = ap (λ (q : Position). q .entry) (B .0) in
       let e : v ≡ 0 = ve ∙ N .free in (
         rw e (record {
@@ -166,6 +166,6 @@ module _ {T P : List ℕ} {r : Text} {S₀ S : List ℕ} {c : Cursor} {n : Text}
         scratch = N .scratch;
         room = N .room;
       }) (below .0) (below .1) h I in
-      let z : h .place ≡ c .at .place = ap (λ (q : Position). q .place) (I .spot) in
-      let y : x ≡ nodes (N .g) r (N .children) (alternative (N .g) (N .s) (N .a)) (h .place) = ⊎-elim (λ q. q .1) (λ q. absurd (omega (arith, q .0))) (N .holds) ∙ rw z refl in
+      let z : h .place .0 ≡ c .at .place .0 = ap (λ (q : Position). q .place .0) (I .spot) in
+      let y : x ≡ nodes (N .g) r (N .children) (alternative (N .g) (N .s) (N .a)) (h .place .0) = ⊎-elim (λ q. q .1) (λ q. absurd (omega (arith, q .0))) (N .holds) ∙ rw z refl in
       rw y (ahead-begin W (omega (arith, N .room, same-room)))

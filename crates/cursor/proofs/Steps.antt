@@ -41,8 +41,8 @@ pub record TextThere (T P : List ℕ) (r : Text) (S₀ S : List ℕ) (c : Cursor
   pub x : Terminal
   pub rest : Rest
   pub reads : Reads T (tokenAt T (c .at .item)) (terminalTokens x)
-  pub fit : Holds (fits x (drop (c .at .place) r))
-  pub met : k ≡ before (text (terminalText x (stretch r (c .at .place) (c .at .place + width x)))) rest
+  pub fit : Holds (fits x (drop (c .at .place .0) r))
+  pub met : k ≡ before (text (terminalText x (stretch r (c .at .place .0) (c .at .place .0 + width x)))) rest
   pub over : (n : Position) → Skipped T (c .at) n → Ahead T P r S₀ S (cursor n (c .value)) rest
   pub falls : (n : Position) → Skipped T (c .at) n → weight T P (cursor n (c .value)) < weight T P c
   pub same : (n : Position) → Skipped T (c .at) n → n .entry ≡ c .at .entry
@@ -71,7 +71,7 @@ module _ {T P : List ℕ} {r : Text} {S₀ S : List ℕ} {c : Cursor} {k : Rest}
   ahead-leaves some = leaves-at (A .walk) same-room (A .room) some
 
   abbrev Seen : ℕ → Row → List Symbol → Type 0
-  Seen j t ss = View T r (A .g) (A .starts) (c .at .item) (c .at .place) j t ss
+  Seen j t ss = View T r (A .g) (A .starts) (c .at .item) (c .at .place .0) j t ss
 
   abbrev At : Row → List Symbol → List Frame → Type 0
   At t ss fs = Walk T P r S₀ (A .g) (A .starts) (A .e₁) (A .i₁) (c .at) t ss fs
@@ -80,7 +80,7 @@ module _ {T P : List ℕ} {r : Text} {S₀ S : List ℕ} {c : Cursor} {k : Rest}
   At-n n t ss = Walk T P r S₀ (A .g) (A .starts) (A .e₁) (A .i₁) n t ss (A .fs)
 
   abbrev Meets : Row → List Symbol → Rest → Type 0
-  Meets t ss j = k ≡ before (spread (A .g) r (c .value) t ss (c .at .place)) j
+  Meets t ss j = k ≡ before (spread (A .g) r (c .value) t ss (c .at .place .0)) j
 
   pub text-there : kindAt T (c .at .item) ≡ 1 → TextThere T P r S₀ S c k
   text-there one = go (seen (A .walk)) (A .walk) (A .meets)
@@ -97,9 +97,9 @@ module _ {T P : List ℕ} {r : Text} {S₀ S : List ℕ} {c : Cursor} {k : Rest}
             fit = f;
             met =
                 o
-                ∙ ap (λ (y : Xml). before y (A .rest)) (spread-leaf (A .g) r (c .value) m (c .at .place) x ss t)
-                ∙ before-join (text (terminalText x (stretch r (c .at .place) m))) (spread (A .g) r (c .value) t ss m) (A .rest)
-                ∙ ap (λ (q : ℕ). before (text (terminalText x (stretch r (c .at .place) q))) rest) e;
+                ∙ ap (λ (y : Xml). before y (A .rest)) (spread-leaf (A .g) r (c .value) m (c .at .place .0) x ss t)
+                ∙ before-join (text (terminalText x (stretch r (c .at .place .0) m))) (spread (A .g) r (c .value) t ss m) (A .rest)
+                ∙ ap (λ (q : ℕ). before (text (terminalText x (stretch r (c .at .place .0) q))) rest) e;
             over = λ n K. beyond n (after-leaf W x e R n K);
             falls = λ n K. rw (after-leaf W x e R n K .0) (on-falls T P (c .at) m (item-inside W));
             same = λ n K. ap (λ (q : Position). q .entry) (after-leaf W x e R n K .0);
@@ -108,7 +108,7 @@ module _ {T P : List ℕ} {r : Text} {S₀ S : List ℕ} {c : Cursor} {k : Rest}
           beyond : (n : Position) → (n ≡ Rattle.left_parse.proofs.Walks.spot (c .at .item + 1) (c .at .entry) m (c .at .inner)) × At-n n t ss
               → Ahead T P r S₀ S (cursor n (c .value)) (before (spread (A .g) r (c .value) t ss m) (A .rest))
           beyond n a =
-              let z : n .place ≡ m = ap (λ (q : Position). q .place) (a .0) in
+              let z : n .place .0 ≡ m = ap (λ (q : Position). q .place .0) (a .0) in
               let i : n .inner ≡ c .at .inner = ap (λ (q : Position). q .inner) (a .0) in
               let deep = A .deep in
               record {
@@ -149,11 +149,11 @@ module _ {T P : List ℕ} {r : Text} {S₀ S : List ℕ} {c : Cursor} {k : Rest}
       go (v-leaf k′ e R f d) W o = absurd (omega arith)
       go (v-node {s = s} {ss = ss} {a = a} {m = m} {c = kids} {t = t} l k′ st b dc dt) W o =
           let B = after-enter W st b (A .scratch) S′ n E in
-          let z : n .place ≡ c .at .place = ap (λ (q : Position). q .place) (E .spot) in
+          let z : n .place .0 ≡ c .at .place .0 = ap (λ (q : Position). q .place .0) (E .spot) in
           let i : n .inner ≡ c .at .entry + 1 = ap (λ (q : Position). q .inner) (E .spot) in
           let f = frame (c .at) s t ss m (W .to) in
           let deep = A .deep in
-          let inner = spread (A .g) r (c .value) kids (alternative (A .g) s a) (c .at .place) in
+          let inner = spread (A .g) r (c .value) kids (alternative (A .g) s a) (c .at .place .0) in
           let rest = before (following (A .g) r (c .value) f) (A .rest) in (
             record {
               g = A .g;
@@ -171,7 +171,7 @@ module _ {T P : List ℕ} {r : Text} {S₀ S : List ℕ} {c : Cursor} {k : Rest}
               outer = inner-after (c .value) f (A .outer) four refl (A .deep);
               meets =
                   o
-                  ∙ ap (λ (y : Xml). before y (A .rest)) (spread-node (A .g) r (c .value) (c .at .place) a m kids t s ss (λ v. sym (four v) ∙ node-mark st b))
+                  ∙ ap (λ (y : Xml). before y (A .rest)) (spread-node (A .g) r (c .value) (c .at .place .0) a m kids t s ss (λ v. sym (four v) ∙ node-mark st b))
                   ∙ before-join inner (spread (A .g) r (c .value) t ss m) (A .rest)
                   ∙ ap (λ (q : ℕ). before (spread (A .g) r (c .value) kids (alternative (A .g) s a) q) rest) (sym z);
             },
@@ -198,25 +198,25 @@ module _ {T P : List ℕ} {r : Text} {S₀ S : List ℕ} {c : Cursor} {k : Rest}
           let y : n .entry ≡ c .at .entry = ap (λ (y : Position). y .entry) (D .1) in
           rw (ie ∙ D .3)
           (record {
-            falls = rw (D .1) (leave-falls T P (c .at) (f .item + 1) (c .at .place) (f .link) (omega (arith, N .last, N .lower)));
+            falls = rw (D .1) (leave-falls T P (c .at) (f .item + 1) (c .at .place .0) (f .link) (omega (arith, N .last, N .lower)));
             later = omega arith;
             closes = λ x. close x B;
             passes = λ x x′. pass x x′ B;
           })
         where
-          D : (S′ ≡ opened fs S₀) × (n ≡ Rattle.left_parse.proofs.Walks.spot (f .item + 1) (c .at .entry) (c .at .place) (f .link))
+          D : (S′ ≡ opened fs S₀) × (n ≡ Rattle.left_parse.proofs.Walks.spot (f .item + 1) (c .at .entry) (c .at .place .0) (f .link))
               × Walk T P r S₀ (A .g) (A .starts) (A .e₁) (A .i₁) n (f .row) (f .symbols) fs
               × (getD S (2 * (c .at .inner - 1) + 1) 0 ≡ f .item)
           D = after-leave W e (A .room) S′ n E
 
-          N : Link T r S₀ (A .g) (A .starts) f (c .at .inner) (c .at .entry) (c .at .place)
+          N : Link T r S₀ (A .g) (A .starts) f (c .at .inner) (c .at .entry) (c .at .place .0)
           N = node-ends W
 
           met : k ≡ A .rest
-          met = o ∙ ap (λ (x : Xml). before x (A .rest)) (spread-end (A .g) r (c .value) (c .at .place)) ∙ before-none (A .rest)
+          met = o ∙ ap (λ (x : Xml). before x (A .rest)) (spread-end (A .g) r (c .value) (c .at .place .0)) ∙ before-none (A .rest)
 
-          z : f .from ≡ n .place
-          z = sym (ap (λ (y : Position). y .place) (D .1) ∙ sym (N .from))
+          z : f .from ≡ n .place .0
+          z = sym (ap (λ (y : Position). y .place .0) (D .1) ∙ sym (N .from))
 
           on : (v : ℕ) {j : Rest} → v ≤ f .link → Outer T (A .g) r v fs j → Ahead T P r S₀ S′ (cursor n v) (before (following (A .g) r v f) j)
           on v {j} d B = record {
@@ -261,9 +261,9 @@ module _ {T P : List ℕ} {r : Text} {S₀ S : List ℕ} {c : Cursor} {k : Rest}
   ahead-over five z =
       let w = walk-over (A .walk) (five, z) in
       record {
-        met = A .meets ∙ ap (λ (j : Rest). before (spread (A .g) r (c .value) (A .row) (A .ss) (c .at .place)) j)
+        met = A .meets ∙ ap (λ (j : Rest). before (spread (A .g) r (c .value) (A .row) (A .ss) (c .at .place .0)) j)
             (none-after (rw (w .2) at (A .outer))) ∙ rw (w .0, w .1)
-            (ap (λ (x : Xml). row (join x none)) (spread-end (A .g) r (c .value) (c .at .place)));
+            (ap (λ (x : Xml). row (join x none)) (spread-end (A .g) r (c .value) (c .at .place .0)));
         kept = A .scratch ∙ ap (λ (fs : List Frame). opened fs S₀) (w .2);
       }
     where
@@ -276,7 +276,7 @@ module _ {T P : List ℕ} {r : Text} {S₀ S : List ℕ} {c : Cursor} {k : Rest}
       ⊎ ((kindAt T (c .at .item) ≡ 3) × MetAttribute T P r S₀ S k (tokenAt T (c .at .item)) c)
   at-node free k₂ k₃ = go (seen (A .walk)) (A .walk) (rw free at (A .meets))
     where
-      go : {t : Row} {ss : List Symbol} {j : ℕ} → Seen j t ss → At t ss (A .fs) → k ≡ before (nodes (A .g) r t ss (c .at .place)) (A .rest)
+      go : {t : Row} {ss : List Symbol} {j : ℕ} → Seen j t ss → At t ss (A .fs) → k ≡ before (nodes (A .g) r t ss (c .at .place .0)) (A .rest)
           → ((kindAt T (c .at .item) ≡ 2) × MetElement T P r S₀ S k (tokenAt T (c .at .item)) c)
           ⊎ ((kindAt T (c .at .item) ≡ 3) × MetAttribute T P r S₀ S k (tokenAt T (c .at .item)) c)
       go (v-end e k′) W o = absurd (omega arith)
@@ -291,10 +291,10 @@ module _ {T P : List ℕ} {r : Text} {S₀ S : List ℕ} {c : Cursor} {k : Rest}
           w = node-named st k₂ (omega arith)
 
           inner : Xml
-          inner = nodes (A .g) r kids (alternative (A .g) s a) (c .at .place)
+          inner = nodes (A .g) r kids (alternative (A .g) s a) (c .at .place .0)
 
           said : Text
-          said = value (A .g) r kids (alternative (A .g) s a) (c .at .place)
+          said = value (A .g) r kids (alternative (A .g) s a) (c .at .place .0)
 
           after : Rest
           after = before (nodes (A .g) r t ss m) (A .rest)
@@ -332,7 +332,7 @@ module _ {T P : List ℕ} {r : Text} {S₀ S : List ℕ} {c : Cursor} {k : Rest}
             inner = inner;
             rest = after;
             met = o ∙ ap (λ (x : Xml). before x (A .rest))
-                (nodes-element (A .g) r s ss (c .at .place) a m kids t (sym e ∙ node-mark st b))
+                (nodes-element (A .g) r s ss (c .at .place .0) a m kids t (sym e ∙ node-mark st b))
                 ∙ before-join (elem (nameOf s) inner none) (nodes (A .g) r t ss m) (A .rest);
             named = w .1;
             node = at inner (inl (e, refl));
@@ -345,7 +345,7 @@ module _ {T P : List ℕ} {r : Text} {S₀ S : List ℕ} {c : Cursor} {k : Rest}
             value = said;
             rest = after;
             met = o ∙ ap (λ (x : Xml). before x (A .rest))
-                (nodes-attribute (A .g) r s ss (c .at .place) a m kids t (sym e ∙ node-mark st b))
+                (nodes-attribute (A .g) r s ss (c .at .place .0) a m kids t (sym e ∙ node-mark st b))
                 ∙ before-join (attr (nameOf s) said none) (nodes (A .g) r t ss m) (A .rest);
             named = w .1;
             node = at (text said) (inr (e, refl));

@@ -27,7 +27,7 @@ use Rattle.cursor.proofs.Nodes.{enter-node, enter-less, past-node, insi
 
 module _ {T P S : List ℕ} {c : Cursor} (A : SomeAhead T P S c) where
   -- a terminal that writes nothing
-  pub turn-empty : kindAt T (c .at .item) ≡ 1 → {p : Piece} → Pieced T (tokenAt T (c .at .item)) (c .at .place) p → p .count ≡ 0
+  pub turn-empty : kindAt T (c .at .item) ≡ 1 → {p : Piece} → Pieced T (tokenAt T (c .at .item)) (c .at .place .0) p → p .count ≡ 0
       → {n : Position} → Skipped T (c .at) n → Through T P S S c (cursor n (c .value))
   turn-empty one {p} Q z {n} K =
       let b = text-there (A .ahead) one in
@@ -40,7 +40,7 @@ module _ {T P S : List ℕ} {c : Cursor} (A : SomeAhead T P S c) where
           rw (b .met ∙ ap (λ (t : Text). before (text t) (b .rest)) e ∙ before-none (b .rest)) (b .over n K)
 
   -- a terminal's text
-  pub turn-text : kindAt T (c .at .item) ≡ 1 → (p : Piece) → Pieced T (tokenAt T (c .at .item)) (c .at .place) p → (p .count ≡ 0 → ⊥)
+  pub turn-text : kindAt T (c .at .item) ≡ 1 → (p : Piece) → Pieced T (tokenAt T (c .at .item)) (c .at .place .0) p → (p .count ≡ 0 → ⊥)
       → Rests T P S c c (λ r S₀ k. MetText T P r S₀ S k c)
   turn-text one p Q z = record { goes = go; near = omega arith; later = omega arith }
     where
@@ -48,7 +48,7 @@ module _ {T P S : List ℕ} {c : Cursor} (A : SomeAhead T P S c) where
       go r S₀ k B =
           let b = text-there B one in
           record {
-            t = terminalText (b .x) (stretch r (c .at .place) (c .at .place + width (b .x)));
+            t = terminalText (b .x) (stretch r (c .at .place .0) (c .at .place .0 + width (b .x)));
             rest = b .rest;
             met = b .met;
             some = Q .says (b .x) r (b .reads) (b .fit) .some z;
@@ -174,7 +174,7 @@ settled-some A M = record { r = A .r; S₀ = A .S₀; k = A .k; ahead = M .goes 
 
 -- what is shown, by the kind of the item
 module _ {T S : List ℕ} {c : Cursor} {k : ℕ} (e : k ≡ kindAt T (c .at .item)) where
-  pub shown-text : Shown T S c → k ≡ 1 → (p : Piece) × Pieced T (tokenAt T (c .at .item)) (c .at .place) p × (p .count ≡ 0 → ⊥)
+  pub shown-text : Shown T S c → k ≡ 1 → (p : Piece) × Pieced T (tokenAt T (c .at .item)) (c .at .place .0) p × (p .count ≡ 0 → ⊥)
   shown-text (s-text o p Q z) q = (p, Q, z)
   shown-text (s-node v a b) q = absurd (omega arith)
   shown-text (s-close f i j y x) q = absurd (omega arith)

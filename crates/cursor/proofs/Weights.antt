@@ -23,7 +23,7 @@ enters-at {T} {P} {S₀} {S} {r} {g} {starts} {e₁} {i₁} {h} {row} {ss} {fs} 
     let n = go (seen W) W in
     record { room = omega arith; item = small-of W .item; inner = omega (arith, W .deep, W .inside, W .entries) }
   where
-    go : {row : Row} {ss : List Symbol} {j : ℕ} → View T r g starts (h .item) (h .place) j row ss → Walk T P r S₀ g starts e₁ i₁ h row ss fs → h .entry < length P
+    go : {row : Row} {ss : List Symbol} {j : ℕ} → View T r g starts (h .item) (h .place .0) j row ss → Walk T P r S₀ g starts e₁ i₁ h row ss fs → h .entry < length P
     go (v-end q k) W = absurd (omega arith)
     go (v-leaf k q R f d) W = absurd (omega arith)
     go (v-node l k st b′ dc dt) W = node-list W .0
@@ -38,7 +38,7 @@ module _ (T P : List ℕ) (h : Position) where
   pub on-falls : (m : ℕ) → h .item < length T → weight T P (spot (h .item + 1) (h .entry) m (h .inner)) < weight T P h
   on-falls m l = falls-on ((length P - h .entry) * (length P + 1) + h .inner) (length T) (h .item) l
 
-  pub enter-falls : (p : ℕ) → h .entry < length P → weight T P (spot p (h .entry + 1) (h .place) (h .entry + 1)) < weight T P h
+  pub enter-falls : (p : ℕ) → h .entry < length P → weight T P (spot p (h .entry + 1) (h .place .0) (h .entry + 1)) < weight T P h
   enter-falls p l =
       falls ((length P - (h .entry + 1)) * (length P + 1) + (h .entry + 1)) ((length P - h .entry) * (length P + 1) + h .inner) (length T) p
       (h .item) (later (length P) (h .entry) (h .entry + 1) (h .inner) (h .entry + 1) (omega arith) (omega arith) (omega arith))

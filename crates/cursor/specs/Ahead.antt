@@ -53,7 +53,7 @@ pub record Ahead (T P : List ℕ) (r : Text) (S₀ S : List ℕ) (c : Cursor) (k
   pub room : 2 * length P ≤ length S₀
   pub deep : c .value ≤ c .at .inner
   pub outer : Outer T g r (c .value) fs rest
-  pub meets : k ≡ before (spread g r (c .value) row ss (c .at .place)) rest
+  pub meets : k ≡ before (spread g r (c .value) row ss (c .at .place .0)) rest
 
 pub record SomeAhead (T P S : List ℕ) (c : Cursor) : Type 0 where
   pub r : Text
@@ -66,7 +66,7 @@ pub record AtText (T P : List ℕ) (r : Text) (S₀ S : List ℕ) (c : Cursor) (
   pub all : Rest
   pub ahead : Ahead T P r S₀ S c all
   pub terminal : kindAt T (c .at .item) ≡ 1
-  pub says : (p : Piece) → Pieced T (tokenAt T (c .at .item)) (c .at .place) p → Says T r p t
+  pub says : (p : Piece) → Pieced T (tokenAt T (c .at .item)) (c .at .place .0) p → Says T r p t
   pub over : (n : Position) → Skipped T (c .at) n → Ahead T P r S₀ S (record { at = n; value = c .value }) k
 
 pub record SomeText (T P S : List ℕ) (c : Cursor) : Type 0 where
@@ -97,8 +97,8 @@ pub record AtNode (T P : List ℕ) (r : Text) (S₀ S : List ℕ) (c : Cursor) (
   pub outer : Outer T g r 0 fs rest
   pub token : ℕ
   pub named : Named T (tokenAt T (c .at .item)) token n
-  pub holds : ((kindAt T (c .at .item) ≡ 2) × (x ≡ nodes g r children (alternative g s a) (c .at .place)))
-      ⊎ ((kindAt T (c .at .item) ≡ 3) × (x ≡ text (value g r children (alternative g s a) (c .at .place))))
+  pub holds : ((kindAt T (c .at .item) ≡ 2) × (x ≡ nodes g r children (alternative g s a) (c .at .place .0)))
+      ⊎ ((kindAt T (c .at .item) ≡ 3) × (x ≡ text (value g r children (alternative g s a) (c .at .place .0))))
   pub after : k ≡ before (nodes g r row ss m) rest
 
 pub record SomeNode (T P : List ℕ) (r : Text) (S : List ℕ) (c : Cursor) : Type 0 where
@@ -118,4 +118,4 @@ pub record SomeRow (T P : List ℕ) (r : Text) (S : List ℕ) (c : Cursor) : Typ
 
 -- before the row that stands in the root
 abbrev pub rootAt : ℕ → Cursor
-rootAt item = record { at = record { item = item; entry = 1; place = 0; inner = 0 }; value = 0 }
+rootAt item = record { at = record { item = item; entry = 1; place = record { 0 = 0 }; inner = 0 }; value = 0 }

@@ -113,7 +113,7 @@ pub record KindIn (T : List ℕ) (item value k : ℕ) : Type 0 where
 
 -- at the cursor stands something that is written, or an end that is met
 pub data Shown (T S : List ℕ) (c : Cursor) : Type 0 where
-  s-text : kindAt T (c .at .item) ≡ 1 → (p : Piece) → Pieced T (tokenAt T (c .at .item)) (c .at .place) p → (p .count ≡ 0 → ⊥) → Shown T S c
+  s-text : kindAt T (c .at .item) ≡ 1 → (p : Piece) → Pieced T (tokenAt T (c .at .item)) (c .at .place .0) p → (p .count ≡ 0 → ⊥) → Shown T S c
   s-node : c .value ≡ 0 → 2 ≤ kindAt T (c .at .item) → kindAt T (c .at .item) ≤ 3 → Shown T S c
   s-close : 5 ≤ kindAt T (c .at .item) → 0 < c .at .inner → (item : ℕ) → item ≡ getD S (2 * (c .at .inner - 1) + 1) 0
       → (c .value ≡ c .at .inner) ⊎ ((c .value ≡ 0) × (kindAt T item ≡ 2)) → Shown T S c

@@ -9,6 +9,7 @@ ghost use Rattle.cursor.specs.Ahead.{SomeAhead, SomeText, SomeNode, root
 ghost use Rattle.cursor.specs.Events.{Closes, KindIn, Shown, Settled, Next, Over, Entered, Past, Inside};
 use left_parse::Position;
 use markup::Piece;
+use text::CharPlace;
 
 // Where the walk stands; and, inside an attribute's value, one more than the attribute's entry (0: in no value).
 pub struct Cursor {
@@ -156,7 +157,7 @@ pub fn next(table: &[u32], parse: &[u32], scratch: &mut [u32], from: Cursor) -> 
 
 // The text before which the cursor stands.
 pub fn text_at(table: &[u32], c: Cursor) -> Piece
-    ensures { λ p. ⌜ Pieced (now (table .entry)) (tokenAt (now (table .entry)) (c .at .item)) (c .at .place) p ⌝ }
+    ensures { λ p. ⌜ Pieced (now (table .entry)) (tokenAt (now (table .entry)) (c .at .item)) (c .at .place .0) p ⌝ }
 {
     let h = c.at;
     markup::piece_of(table, items::token_at(table, h.item), h.place)
@@ -215,7 +216,7 @@ pub fn at_root(item: usize) -> Cursor
     let at = Position {
         item,
         entry: 1,
-        place: 0,
+        place: CharPlace(0),
         inner: 0,
     };
     Cursor { at, value: 0 }

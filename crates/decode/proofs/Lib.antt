@@ -1,3 +1,6 @@
-pub mod Steps
-pub mod Whole
 pub mod Answers
+pub mod Bytes
+pub mod Cuts
+pub mod Marks
+pub mod Scans
+pub mod Whole

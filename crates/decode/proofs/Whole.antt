@@ -1,231 +1,165 @@
--- A whole text: the loop over its characters, and the byte order mark.
-use mathlib.Core.Path.{_≡_, refl, sym, ap, _∙_}
-use mathlib.Core.Bool.{Bool, true, false, _&&_, and-false}
+-- A whole text, from two scans: UTF-8 first, then the alphabet.
+use mathlib.Core.Path.{_≡_, refl, sym, ap, subst, _∙_}
+use mathlib.Core.Bool.{Bool, true, false}
 use mathlib.Core.Logic.{⊎-elim}
-use mathlib.Core.List.{List, [], _∷_, _++_}
-use Prim.Native.Nat.{ℕ, zero, suc, _+_, _-_, _≤_, _<_, min}
+use mathlib.Core.List.{List, [], _∷_, _++_, append-nil}
+use Prim.Native.Nat.{ℕ, zero, suc, _+_, _≤_, _<_}
 use native.Mathlib.Omega.{arith}
-use native.Mathlib.Decide.{ℕ-discrete}
-use lib.Dec.{eqb, eqb→eq}
-use lib.ListN.{length, getD, take, drop, set, length-append, length-take, length-drop, drop-of-length-le}
-use lib.Seq.{drop-at, drop-drop, take-nil, take-all}
-use borrow.Author.Tests.{eq-eqb, ne-eqb}
+use lib.ListN.{length, take, drop, length-append}
 use denote.Enum.Declared.{tagOf}
 use types.Run.{OneOf}
-use Rattle.text.specs.Lists.{Text, pick, all, begins}
-use Rattle.text.specs.Utf8.{utf8, utf8s, unmarked, known}
-use Rattle.text.specs.Decode.{Taken, got, cut, bad, charOf, Decoded, text, not-utf8, push, after, decode}
-use Rattle.text.proofs.Tests.{clash, isT}
-use Rattle.text.proofs.Table.{and-left, and-right}
+use Rattle.text.specs.Lists.{Text, all}
+use Rattle.text.specs.Utf8.{Scalar, utf8, utf8s, All, none, more, Utf8, known}
+use Rattle.text.specs.Decode.{got, cut, bad, charOf}
+use Rattle.text.specs.Faults.{Fits, every, Breaks, Cut}
+use Rattle.text.proofs.Tests.{clash}
 use Rattle.text.proofs.Step.{step-sound}
-use Rattle.text.proofs.Decode.{some-bytes, nothing-text, decode-nil, decode-step, decode-mark, mark-bytes}
-use Rattle.decode.proofs.Step.{the-type}
-use Rattle.decode.specs.declared.BytePlace.{BytePlace}
-use Rattle.decode.specs.declared.CharPlace.{CharPlace}
-use Rattle.decode.specs.declared.Step.{Step}
-use Rattle.decode.specs.declared.Step.the-variants.{Char, CutShort, Malformed}
+use Rattle.text.proofs.Decode.{some-bytes, utf8-unique}
+use Rattle.text.proofs.Faults.{first-same, none-cut, none-bad, scalars, passing, fitting, past, one-break, not-both}
+use Rattle.decode.proofs.Decoding.{the-type}
+use Rattle.text.specs.declared.BytePlace.{BytePlace}
+use Rattle.text.specs.declared.CharPlace.{CharPlace}
 use Rattle.decode.specs.declared.Decoding.{Decoding}
-use Rattle.decode.specs.declared.Decoding.the-variants.{Of, NotUtf8, Unknown}
-use Rattle.decode.specs.Step.{stepped, stepOf}
-use Rattle.decode.specs.Whole.{answerOf, over, Decodes, unmark, begun}
+use Rattle.decode.specs.declared.Decoding.the-variants.{Of, CutShort, Malformed, Unknown}
+use Rattle.decode.specs.Scan.{over, Stopped, at-end, at-cut, at-bad, at-unfit, Scans}
+use Rattle.decode.specs.Whole.{Ends, of, cut-short, malformed, unknown, Decodes}
+use Rattle.decode.proofs.Cuts.{cut-step, step-cut}
+use Rattle.decode.proofs.Scans.{over-nil}
 
--- characters in front of what is still to be decoded
-abbrev pushes : Text → Decoded → Decoded
-pushes [] d = d
-pushes (c ∷ cs) d = push c (pushes cs d)
+all-every : (cs : Text) → all every cs ≡ true
+all-every [] = refl
+all-every (c ∷ cs) = all-every cs
 
-pushes-snoc : (cs : Text) (c : ℕ) (d : Decoded) → pushes (cs ++ c ∷ []) d ≡ pushes cs (push c d)
-pushes-snoc [] c d = refl
-pushes-snoc (x ∷ cs) c d = ap (push x) (pushes-snoc cs c d)
+any-fits : {f : ℕ → Bool} {cs : Text} → All (Fits f) cs → All (Fits every) cs
+any-fits none = none
+any-fits (more p ps) = more (record { scalar = p .scalar; passes = refl }) (any-fits ps)
 
-pushes-none : (cs : Text) → pushes cs not-utf8 ≡ not-utf8
-pushes-none [] = refl
-pushes-none (c ∷ cs) = ap (push c) (pushes-none cs)
+-- UTF-8 breaks nowhere
+pub not-broken : (bs : List ℕ) (from p : ℕ) (cs : Text) → Utf8 (drop from bs) cs → Breaks every bs from p → ⊥
+not-broken bs from p cs u b = not-both every bs from p (record { chars = cs; fits = fitting every cs (u .scalars) (all-every cs); spelt = u .spelt }) b
 
-pushes-end : (cs : Text) → pushes cs (text []) ≡ text cs
-pushes-end [] = refl
-pushes-end (c ∷ cs) = ap (push c) (pushes-end cs)
+-- nor does a text of the alphabet break that
+pub not-strange : (bs : List ℕ) (from p : ℕ) (cs : Text) → Utf8 (drop from bs) cs → all known cs ≡ true → Breaks known bs from p → ⊥
+not-strange bs from p cs u k b = not-both known bs from p (record { chars = cs; fits = fitting known cs (u .scalars) k; spelt = u .spelt }) b
 
-over-nil : (old : List ℕ) → old ≡ over [] old
-over-nil old = rw (take-nil (length old))
+-- characters stored again
+over-again : (b d : Text) (old : List ℕ) → over b (over (b ++ d) old) ≡ over (b ++ d) old
+over-again [] d old = sym (over-nil (over d old))
+over-again (c ∷ b) d [] = refl
+over-again (c ∷ b) d (o ∷ old) = ap (_∷_ c) (over-again b d old)
 
-over-snoc : (cs : Text) (c : ℕ) (old : List ℕ) → set (over cs old) (length cs) c ≡ over (cs ++ c ∷ []) old
-over-snoc [] c [] = refl
-over-snoc [] c (o ∷ old) = rw (take-nil (length old))
-over-snoc (x ∷ cs) c [] = refl
-over-snoc (x ∷ cs) c (o ∷ old) = ap (_∷_ x) (over-snoc cs c old)
-
-pub length-over : (cs : Text) (old : List ℕ) → length (over cs old) ≡ length old
-length-over cs old = simp (length-append, length-take, length-drop) (omega arith)
-
-and-assoc : (a b c : Bool) → a && (b && c) ≡ (a && b) && c
-and-assoc true b c = refl
-and-assoc false b c = refl
-
-all-snoc : (cs : Text) (c : ℕ) → all known cs && known c ≡ all known (cs ++ c ∷ [])
-all-snoc [] c = go (known c)
-  where
-    go : (a : Bool) → a ≡ a && true
-    go true = refl
-    go false = refl
-all-snoc (x ∷ cs) c = sym (and-assoc (known x) (all known cs) (known c)) ∙ ap (_&&_ (known x)) (all-snoc cs c)
-
--- where the loop is: the characters so far
-pub record At (bs old out : List ℕ) (i n : ℕ) (fine : Bool) : Type 0 where
-  pub chars : Text
-  pub count : n ≡ length chars
-  pub trails : n ≤ i
-  pub within : i ≤ length bs
-  pub split : decode bs ≡ pushes chars (decode (drop i bs))
-  pub stored : out ≡ over chars old
-  pub known : fine ≡ all known chars
-
-pub begin : (bs old : List ℕ) → At bs old old 0 0 true
-begin bs old = record { chars = []; count = refl; trails = omega arith; within = omega arith; split = refl; stored = over-nil old; known = refl }
-
-some-left : (bs : List ℕ) (i : ℕ) → i < length bs → 0 < length (drop i bs)
-some-left bs i h = simp length-drop (omega arith)
-
-module _ (bs old out : List ℕ) (i n : ℕ) (fine : Bool) (w : At bs old out i n fine) where
-  pub same-len : length out ≡ length old
-  same-len = ap length (w .stored) ∙ length-over (w .chars) old
-
-  none-left : length bs ≤ i → decode bs ≡ text (w .chars)
-  none-left h = w .split ∙ ap (pushes (w .chars)) (ap decode (drop-of-length-le bs h) ∙ decode-nil) ∙ pushes-end (w .chars)
-
-  stored-all : length bs ≤ i → (cs : Text) → decode bs ≡ text cs → out ≡ over cs old
-  stored-all h cs e =
-      let f : text (w .chars) ≡ text cs = sym (none-left h) ∙ e in
-      let g : w .chars ≡ cs = cc in
-      w .stored ∙ ap (λ (x : Text). over x old) g
-
-  pub finish : length bs ≤ i → fine ≡ true → Decodes (decode bs) old (Of (record { 0 = n })) out
-  finish h f = record {
-    answer = rw (none-left h, ← w .known, f) (ap (λ (k : ℕ). Of (record { 0 = k })) (w .count));
-    stored = stored-all h;
+module _ {f : ℕ → Bool} {bs : List ℕ} {from : ℕ} {old new : List ℕ} {r : Decoding} (w : Scans f bs from old r new) where
+  -- where the step takes nothing, UTF-8 breaks
+  broken : 0 < length (drop (w .place) bs) → ((c : ℕ) (t : List ℕ) → Scalar c → drop (w .place) bs ≡ utf8 c ++ t → ⊥) → Breaks every bs from (w .place)
+  broken l n = record {
+    before = w .chars;
+    rest = drop (w .place) bs;
+    fits = any-fits (w .fits);
+    spelt = w .spelt;
+    counts = w .counts;
+    some = l;
+    stops = λ c t p e. n c t (p .scalar) e;
   }
 
-  pub outside : length bs ≤ i → fine ≡ false → Decodes (decode bs) old Unknown out
-  outside h f = record { answer = rw (none-left h, ← w .known, f); stored = stored-all h }
+  cut-here : 0 < length (drop (w .place) bs) → charOf (drop (w .place) bs) ≡ cut → Breaks every bs from (w .place)
+  cut-here l e = broken l (none-cut (drop (w .place) bs) e)
 
-  module _ (h : i < length bs) where
-    -- a fault
-    no-step : (o : Taken) → charOf (drop i bs) ≡ o → OneOf (1 ∷ 2 ∷ []) (tagOf the-type (stepped i o)) → decode (drop i bs) ≡ not-utf8
-    no-step (got c k t) e f = absurd (⊎-elim (λ z. omega arith) (λ z. omega arith) f)
-    no-step cut e f = decode-step (drop i bs) (some-left bs i h) ∙ ap (after decode) e
-    no-step bad e f = decode-step (drop i bs) (some-left bs i h) ∙ ap (after decode) e
+  bad-here : 0 < length (drop (w .place) bs) → charOf (drop (w .place) bs) ≡ bad → Breaks every bs from (w .place)
+  bad-here l e = broken l (none-bad (drop (w .place) bs) e)
 
-    pub fault : (s : Step) → s ≡ stepOf bs i → OneOf (1 ∷ 2 ∷ []) (tagOf the-type s) → Decodes (decode bs) old NotUtf8 out
-    fault s e f =
-        let g : decode bs ≡ not-utf8 = w .split ∙ ap (pushes (w .chars)) (no-step (charOf (drop i bs)) refl (rw e at f)) ∙ pushes-none (w .chars) in
-        record { answer = rw g; stored = λ cs k. absurd (nothing-text cs (sym g ∙ k)) }
+  -- where it takes a character that does not fit, the pattern
+  unfit-here : (c k : ℕ) (t : List ℕ) → charOf (drop (w .place) bs) ≡ got c k t → f c ≡ false → Breaks f bs from (w .place)
+  unfit-here c k t e n =
+      let s = step-sound (drop (w .place) bs) c k t e in
+      record {
+        before = w .chars;
+        rest = drop (w .place) bs;
+        fits = w .fits;
+        spelt = w .spelt;
+        counts = w .counts;
+        some = omega (arith, ap length (s .spelt), length-append (utf8 c) t, some-bytes c);
+        stops = λ d u p q. clash n (ap f (first-same c d t u (s .scalar) (p .scalar) (sym (s .spelt) ∙ q) .0) ∙ p .passes);
+      }
 
-    -- a character
-    record Step1 (c : ℕ) (p : ℕ) : Type 0 where
-      pub far : i < p
-      pub within : p ≤ length bs
-      pub on : decode (drop i bs) ≡ push c (decode (drop p bs))
+  -- read to the end
+  to-end : drop (w .place) bs ≡ [] → Utf8 (drop from bs) (w .chars)
+  to-end e = record { scalars = scalars (w .fits); spelt = w .spelt ∙ ap (_++_ (utf8s (w .chars))) e ∙ append-nil (utf8s (w .chars)) }
 
-    taken : (o : Taken) → charOf (drop i bs) ≡ o → (c : ℕ) (p : BytePlace) → stepped i o ≡ Char c p → Step1 c (p .0)
-    taken (got d k t) e c p f =
-        let s = step-sound (drop i bs) d k t e in
-        let a : d ≡ c = cc in
-        let b : record { 0 = i + k } ≡ p = cc in
-        let q : i + k ≡ p .0 = ap (λ (x : BytePlace). x .0) b in
-        let r : t ≡ drop (i + k) bs = sym (drop-at (utf8 d) t k (sym (s .wide))) ∙ ap (drop k) (sym (s .spelt)) ∙ drop-drop k i bs in
-        let l = simp (length-append, length-drop) at (ap length (s .spelt)) in
-        let m = some-bytes d in
-        let u = s .wide in
-        record { far = omega arith; within = omega arith; on = decode-step (drop i bs) (some-left bs i h) ∙ ap (after decode) e ∙ rw (← a, ← q, ← r) }
-    taken cut e c p f = let z : _≡_ {A = ℕ} 0 1 = cc in absurd (omega arith)
-    taken bad e c p f = let z : _≡_ {A = ℕ} 0 1 = cc in absurd (omega arith)
+-- a fault of UTF-8
+module _ {bs : List ℕ} {from : ℕ} {old new : List ℕ} {r : Decoding} (w : Scans every bs from old r new) where
+  left : List ℕ
+  left = drop (w .place) bs
 
-    module _ (s : Step) (e : s ≡ stepOf bs i) (c : ℕ) (p : BytePlace) (f : s ≡ Char c p) where
-      step : Step1 c (p .0)
-      step = taken (charOf (drop i bs)) refl c p (sym e ∙ f)
+  faults : {d : Decoding} → Stopped every (length (w .chars)) (w .place) left d → OneOf (1 ∷ 2 ∷ 3 ∷ []) (tagOf the-type d) → Ends bs from d × Breaks every bs from (w .place)
+  unfolding left
+  faults (at-end e l) h = absurd (⊎-elim (λ q. omega arith) (λ k. ⊎-elim (λ q. omega arith) (λ q. omega arith) k) h)
+  faults (at-cut {q = p} e l q) h = let b = cut-here w l q in (cut-short {p = p} (rw e b) (rw e (step-cut left l q)), b)
+  faults (at-bad {q = p} e l q) h =
+      let b = bad-here w l q in
+      (malformed {p = p} (rw e b) (rw e (λ x. let z : cut ≡ bad = sym (cut-step left x) ∙ q in let y : _≡_ {A = ℕ} 0 1 = cc in omega arith)), b)
+  faults (at-unfit e q n) h = absurd (clash n refl)
 
-      pub less : length bs - p .0 < length bs - i
-      less = let z = step in omega arith
+  pub refused : OneOf (1 ∷ 2 ∷ 3 ∷ []) (tagOf the-type r) → Decodes bs from old r new
+  unfolding left
+  refused h =
+      let x = faults (w .stopped) h in
+      record { answer = x .0; stored = λ cs u. absurd (not-broken bs from (w .place) cs u (x .1)) }
 
-      pub next : (new : List ℕ) → new ≡ set out n c → (k : Bool) → k ≡ known c → (b : Bool) → b ≡ fine && k → At bs old new (p .0) (n + 1) b
-      next new g k u b v =
-          let z = step in
-          let q = w .trails in
-          let l = z .far in
-          let x = w .count in
-          record {
-            chars = w .chars ++ c ∷ [];
-            count = simp length-append (omega arith);
-            trails = omega arith;
-            within = z .within;
-            split = w .split ∙ ap (pushes (w .chars)) (z .on) ∙ sym (pushes-snoc (w .chars) c (decode (drop (p .0) bs)));
-            stored = g ∙ rw (w .stored, x) (over-snoc (w .chars) c old);
-            known = v ∙ rw (u, w .known) (all-snoc (w .chars) c);
-          }
+  -- none
+  pub utf8-read : (k : CharPlace) → r ≡ Of k → Utf8 (drop from bs) (w .chars)
+  unfolding left
+  utf8-read k q = go (w .stopped) q
+    where
+      go : {d : Decoding} → Stopped every (length (w .chars)) (w .place) left d → d ≡ Of k → Utf8 (drop from bs) (w .chars)
+      go (at-end e l) f = to-end w l
+      go (at-cut e l q) f = absurd (let z : _≡_ {A = ℕ} 0 1 = cc in omega arith)
+      go (at-bad e l q) f = absurd (let z : _≡_ {A = ℕ} 0 1 = cc in omega arith)
+      go (at-unfit e q n) f = absurd (clash n refl)
 
--- the byte order mark
-pub mark-short : (bs : List ℕ) → length bs < 3 → false ≡ begun bs
-mark-short [] h = refl
-mark-short (a ∷ []) h = sym (and-false (eqb 0xef a))
-mark-short (a ∷ b ∷ []) h = rw (and-false (eqb 0xbb b), and-false (eqb 0xef a))
-mark-short (a ∷ b ∷ c ∷ bs) h = absurd (omega arith)
+-- then the alphabet
+module _ {bs : List ℕ} {from : ℕ} {old mid new : List ℕ} {k : Decoding} {r : Decoding} (x : Scans every bs from old k mid) (n : CharPlace) (q : k ≡ Of n)
+    (w : Scans known bs from mid r new) where
+  text : Utf8 (drop from bs) (x .chars)
+  text = utf8-read x n q
 
-pub mark-long : (bs : List ℕ) → 3 ≤ length bs → begun bs ≡ eqb 0xef (getD bs 0 0) && (eqb 0xbb (getD bs 1 0) && (eqb 0xbf (getD bs 2 0) && true))
-mark-long [] h = absurd (omega arith)
-mark-long (a ∷ []) h = absurd (omega arith)
-mark-long (a ∷ b ∷ []) h = absurd (omega arith)
-mark-long (a ∷ b ∷ c ∷ bs) h = refl
+  ends : {d : Decoding} → Stopped known (length (w .chars)) (w .place) (drop (w .place) bs) d → Ends bs from d
+  ends (at-end e l) = of (w .chars) (to-end w l) (passing (w .fits)) e
+  ends (at-cut e l q) = absurd (not-broken bs from (w .place) (x .chars) text (cut-here w l q))
+  ends (at-bad e l q) = absurd (not-broken bs from (w .place) (x .chars) text (bad-here w l q))
+  ends (at-unfit {q = p} {c = c} {k = k} {t = t} e q n) = unknown {p = p} (x .chars) text (rw e (unfit-here w c k t q n))
 
-module _ (bs : List ℕ) (h : 3 ≤ length bs) where
-  pub not-first : (getD bs 0 0 ≡ 0xef → ⊥) → false ≡ begun bs
-  not-first e = sym (mark-long bs h ∙ rw (ne-eqb 0xef (getD bs 0 0) (λ z. e (sym z))))
+  pub decoded : Decodes bs from old r new
+  decoded =
+      let p = past (w .chars) (x .chars) (drop (w .place) bs) (scalars (w .fits)) (text .scalars) (sym (w .spelt) ∙ text .spelt) in
+      record {
+        answer = ends (w .stopped);
+        stored = λ ds u.
+            let e : ds ≡ w .chars ++ p .after = utf8-unique (drop from bs) ds (x .chars) u text ∙ p .is in
+            w .stored ∙ rw (x .stored, p .is, e) (over-again (w .chars) (p .after) old);
+      }
 
-  module _ (a : getD bs 0 0 ≡ 0xef) where
-    pub not-second : (getD bs 1 0 ≡ 0xbb → ⊥) → false ≡ begun bs
-    not-second e = sym (mark-long bs h ∙ rw (eq-eqb 0xef (getD bs 0 0) (sym a), ne-eqb 0xbb (getD bs 1 0) (λ z. e (sym z))))
+-- a text has one answer
+same-char : (p q : CharPlace) → p .0 ≡ q .0 → p ≡ q
+same-char p q e = λ ι. record { 0 = e ι }
 
-    module _ (b : getD bs 1 0 ≡ 0xbb) where
-      pub not-third : (getD bs 2 0 ≡ 0xbf → ⊥) → false ≡ begun bs
-      not-third e = sym (mark-long bs h ∙ rw (eq-eqb 0xef (getD bs 0 0) (sym a), eq-eqb 0xbb (getD bs 1 0) (sym b), ne-eqb 0xbf (getD bs 2 0) (λ z. e (sym z))))
+same-byte : (p q : BytePlace) → p .0 ≡ q .0 → p ≡ q
+same-byte p q e = λ ι. record { 0 = e ι }
 
-      pub all-three : getD bs 2 0 ≡ 0xbf → true ≡ begun bs
-      all-three e = sym (mark-long bs h ∙ rw (eq-eqb 0xef (getD bs 0 0) (sym a), eq-eqb 0xbb (getD bs 1 0) (sym b), eq-eqb 0xbf (getD bs 2 0) (sym e)))
-
-mark-is : (bs : List ℕ) → true ≡ begun bs → bs ≡ 0xef ∷ 0xbb ∷ 0xbf ∷ drop 3 bs
-mark-is [] h = absurd (clash refl (sym h))
-mark-is (a ∷ []) h = absurd (clash (and-false (eqb 0xef a)) (sym h))
-mark-is (a ∷ b ∷ []) h = absurd (clash (sym (mark-short (a ∷ b ∷ []) (omega arith))) (sym h))
-mark-is (a ∷ b ∷ c ∷ bs) h =
-    let t = isT (sym h) in
-    let u = and-right (eqb 0xef a) (eqb 0xbb b && (eqb 0xbf c && true)) t in
-    let p = eqb→eq 0xef a (and-left (eqb 0xef a) (eqb 0xbb b && (eqb 0xbf c && true)) t) in
-    let q = eqb→eq 0xbb b (and-left (eqb 0xbb b) (eqb 0xbf c && true) u) in
-    let r = eqb→eq 0xbf c (and-left (eqb 0xbf c) true (and-right (eqb 0xbb b) (eqb 0xbf c && true) u)) in
-    rw (← p, ← q, ← r)
-
-pub mark-fits : (bs : List ℕ) → true ≡ begun bs → 3 ≤ length bs
-mark-fits bs h = omega (arith, ap length (mark-is bs h))
-
-unmark-push : (d : Decoded) → unmark (push 0xfeff d) ≡ d
-unfolding unmarked
-unmark-push (text cs) = refl
-unmark-push not-utf8 = refl
-
--- after the mark; where there is none, the whole
-skips : (bs : List ℕ) → true ≡ begun bs → unmark (decode bs) ≡ decode (drop 3 bs)
-skips bs h = ap (λ (x : List ℕ). unmark (decode x)) (mark-is bs h) ∙ ap unmark (decode-mark (drop 3 bs)) ∙ unmark-push (decode (drop 3 bs))
-
-pub keeps : (bs : List ℕ) → false ≡ begun bs → unmark (decode bs) ≡ decode bs
-unfolding unmarked
-keeps bs h = go (decode bs) refl
-  where
-    go : (d : Decoded) → decode bs ≡ d → unmark d ≡ d
-    go (text []) e = refl
-    go (text (c ∷ cs)) e = elim (ℕ-discrete c 0xfeff) as (λ _. unmark (text (c ∷ cs)) ≡ text (c ∷ cs)) [
-      | yes f ↦ absurd (clash (sym h) (ap begun (mark-bytes bs cs (e ∙ ap (λ (x : ℕ). text (x ∷ cs)) f))))
-      | no f ↦ rw (ne-eqb c 0xfeff f)
-    ]
-    go not-utf8 e = refl
-
-pub after-mark : (bs : List ℕ) → true ≡ begun bs → decode (take (length bs - 3) (drop 3 bs)) ≡ unmark (decode bs)
-after-mark bs h = ap decode (take-all (length bs - 3) (drop 3 bs) (simp length-drop (omega arith))) ∙ sym (skips bs h)
+module _ (bs : List ℕ) (from : ℕ) where
+  pub one-answer : {r s : Decoding} → Ends bs from r → Ends bs from s → r ≡ s
+  one-answer (of {n = n} cs u k e) (of {n = m} ds v l f) = ap Of (same-char n m (e ∙ ap length (utf8-unique (drop from bs) cs ds u v) ∙ sym f))
+  one-answer (of cs u k e) (cut-short {p = p} b c) = absurd (not-broken bs from (p .0) cs u b)
+  one-answer (of cs u k e) (malformed {p = p} b c) = absurd (not-broken bs from (p .0) cs u b)
+  one-answer (of cs u k e) (unknown {p = p} ds v b) = absurd (not-strange bs from (p .0) cs u k b)
+  one-answer (cut-short {p = p} b c) (of cs u k e) = absurd (not-broken bs from (p .0) cs u b)
+  one-answer (cut-short {p = p} b c) (cut-short {p = q} d f) = ap CutShort (same-byte p q (one-break every bs from (p .0) (q .0) b d))
+  one-answer (cut-short {p = p} b c) (malformed {p = q} d f) = absurd (f (rw (one-break every bs from (p .0) (q .0) b d) at c))
+  one-answer (cut-short {p = p} b c) (unknown ds v d) = absurd (not-broken bs from (p .0) ds v b)
+  one-answer (malformed {p = p} b c) (of cs u k e) = absurd (not-broken bs from (p .0) cs u b)
+  one-answer (malformed {p = p} b c) (cut-short {p = q} d f) = absurd (c (rw (one-break every bs from (q .0) (p .0) d b) at f))
+  one-answer (malformed {p = p} b c) (malformed {p = q} d f) = ap Malformed (same-byte p q (one-break every bs from (p .0) (q .0) b d))
+  one-answer (malformed {p = p} b c) (unknown ds v d) = absurd (not-broken bs from (p .0) ds v b)
+  one-answer (unknown {p = p} cs u b) (of ds v k e) = absurd (not-strange bs from (p .0) ds v k b)
+  one-answer (unknown cs u b) (cut-short {p = q} d f) = absurd (not-broken bs from (q .0) cs u d)
+  one-answer (unknown cs u b) (malformed {p = q} d f) = absurd (not-broken bs from (q .0) cs u d)
+  one-answer (unknown {p = p} cs u b) (unknown {p = q} ds v d) = ap Unknown (same-byte p q (one-break known bs from (p .0) (q .0) b d))

@@ -1,2 +1,3 @@
-pub mod Step
+pub mod Sequence
+pub mod Scan
 pub mod Whole

@@ -1,164 +1,125 @@
-// UTF-8, decoded strictly: one character, a whole text, a grammar's text.
+// UTF-8, decoded strictly: a text from a byte place on, up to the first character that breaks a pattern; a whole text; a grammar's text.
+mod sequence;
+
 ghost use mathlib.Core.Path.{_≡_};
-ghost use mathlib.Core.Bool.{_&&_};
-ghost use Prim.Native.Nat.{ℕ, _<_};
+ghost use Prim.Native.Nat.{_+_, _<_, _≤_};
 ghost use lib.ListN.{length, set};
-ghost use Rattle.text.specs.Decode.{secondLow, secondHigh, decode};
-ghost use Rattle.decode.specs.Step.{lead as leadWith, leadOf, stepOf};
-ghost use Rattle.decode.specs.Whole.{Decodes, unmark, begun};
+ghost use Rattle.text.specs.Faults.{marked as begun, afterMark};
+ghost use Rattle.decode.specs.Scan.{testOf, Scans};
+ghost use Rattle.decode.specs.Whole.{Decodes};
+use crate::sequence::NEVER;
+use crate::sequence::follows;
+use crate::sequence::lead_of;
+use crate::sequence::with_byte;
+pub use text::BytePlace;
+pub use text::CharPlace;
 
-// A place counted in bytes.
-pub struct BytePlace(pub usize);
-
-// A place counted in characters.
-pub struct CharPlace(pub usize);
-
-// What a first byte says: how many bytes follow (4: no character begins so), the limits of the next byte, and its bits.
-pub struct Lead {
-    pub more: usize,
-    pub low: u8,
-    pub high: u8,
-    pub bits: u32,
+// What the characters of a text must be: scalar values, or characters of the alphabet.
+enum Pattern {
+    Utf8,
+    Alphabet,
 }
 
-// One character and the place after it, or the place of its first byte and the fault.
-pub enum Step {
-    Char(u32, BytePlace),
-    CutShort(BytePlace),
-    Malformed(BytePlace),
-}
-
-// A whole text: how many characters, all of the alphabet; or no UTF-8; or a character outside the alphabet.
+// A text: how many characters, all of the alphabet. Or the byte place of the first that breaks UTF-8, by what is wrong with it; or,
+// of UTF-8, that of the first outside the alphabet.
 pub enum Decoding {
     Of(CharPlace),
-    NotUtf8,
-    Unknown,
+    CutShort(BytePlace),
+    Malformed(BytePlace),
+    Unknown(BytePlace),
 }
 
-fn second_low(b: u8) -> u8
-    ensures { λ r. ⌜ r ≡ secondLow b ⌝ }
+// The place after the byte at a place.
+fn after_byte(p: BytePlace) -> BytePlace
+    requires { ⌜ p .0 < 18446744073709551615 ⌝ }
+    ensures { λ r. ⌜ r .0 ≡ p .0 + 1 ⌝ }
 {
-    if b == 0xe0 {
-        return 0xa0;
-    }
-    if b == 0xf0 {
-        return 0x90;
-    }
-    0x80
+    BytePlace(p.0 + 1)
 }
 
-fn second_high(b: u8) -> u8
-    ensures { λ r. ⌜ r ≡ secondHigh b ⌝ }
+// The place after the character at a place.
+pub fn after(p: CharPlace) -> CharPlace
+    requires { ⌜ p .0 < 18446744073709551615 ⌝ }
+    ensures { λ r. ⌜ r .0 ≡ p .0 + 1 ⌝ }
 {
-    if b == 0xed {
-        return 0x9f;
-    }
-    if b == 0xf4 {
-        return 0x8f;
-    }
-    0xbf
+    CharPlace(p.0 + 1)
 }
 
-fn lead_with(more: usize, bits: u8, b: u8) -> Lead
-    ensures { λ r. ⌜ r ≡ leadWith more bits b ⌝ }
+// A scalar value fits a pattern.
+fn fits(pattern: Pattern, code: u32) -> bool
+    ensures { λ r. ⌜ r ≡ testOf pattern code ⌝ }
 {
-    Lead {
-        more,
-        low: second_low(b),
-        high: second_high(b),
-        bits: text::wide_byte(bits),
+    match pattern {
+        Pattern::Utf8 => true,
+        Pattern::Alphabet => text::alphabet::known(code),
     }
-}
-
-fn lead_of(b: u8) -> Lead
-    ensures { λ r. ⌜ r ≡ leadOf b ⌝ }
-{
-    if b < 0x80 {
-        return lead_with(0, b, b);
-    }
-    if b < 0xc2 {
-        return lead_with(4, 0, b);
-    }
-    if b < 0xe0 {
-        return lead_with(1, b - 0xc0, b);
-    }
-    if b < 0xf0 {
-        return lead_with(2, b - 0xe0, b);
-    }
-    if b < 0xf5 {
-        return lead_with(3, b - 0xf0, b);
-    }
-    lead_with(4, 0, b)
-}
-
-// The character at a place.
-pub fn step_at(bytes: &[u8], at: BytePlace) -> Step
-    ensures { λ r. ⌜ r ≡ stepOf (now (bytes .entry)) (at .0) ⌝ }
-{
-    let i = at.0;
-    if bytes.len() <= i {
-        return Step::CutShort(at);
-    }
-    let l = lead_of(bytes[i]);
-    let more = l.more;
-    if more == 4 {
-        return Step::Malformed(at);
-    }
-    let mut low = l.low;
-    let mut high = l.high;
-    let mut v = l.bits;
-    let mut k = 0;
-    while k < more {
-        let j = i + 1 + k;
-        if bytes.len() <= j {
-            return Step::CutShort(at);
-        }
-        let b = bytes[j];
-        if b < low {
-            return Step::Malformed(at);
-        }
-        if high < b {
-            return Step::Malformed(at);
-        }
-        v = v * 64 + text::wide_byte(b - 0x80);
-        low = 0x80;
-        high = 0xbf;
-        k += 1;
-    }
-    Step::Char(v, BytePlace(i + (more + 1)))
 }
 
 // Stores a character where there is room.
-fn keep(out: &mut [u32], n: usize, code: u32)
-    ensures { λ _. ⌜ now (out .exit) ≡ set (now (out .entry)) n code ⌝ }
+fn keep(out: &mut [u32], at: CharPlace, code: u32)
+    ensures { λ _. ⌜ now (out .exit) ≡ set (now (out .entry)) (at .0) code ⌝ }
 {
+    let n = at.0;
     if n < out.len() {
         out[n] = code;
     }
 }
 
-// The characters of a text, stored as far as out has room, all counted. UTF-8 is judged over the whole text, then the alphabet.
-pub fn decode_text(bytes: &[u8], out: &mut [u32]) -> Decoding
-    ensures { λ r. ⌜ Decodes (decode (now (bytes .entry))) (now (out .entry)) r (now (out .exit)) ⌝ }
+// The characters from a byte place on, stored as far as out has room, up to the first that breaks the pattern.
+fn scan(bytes: &[u8], from: BytePlace, pattern: Pattern, out: &mut [u32]) -> Decoding
+    requires { ⌜ from .0 ≤ length (now bytes) ⌝ }
+    ensures { λ r. ⌜ Scans (testOf pattern) (now (bytes .entry)) (from .0) (now (out .entry)) r (now (out .exit)) ⌝ }
 {
-    let mut at = BytePlace(0);
+    let mut at = from;
     let mut n = CharPlace(0);
-    let mut fine = true;
-    while at.0 < bytes.len() {
-        let step = step_at(bytes, at);
-        let Step::Char(code, next) = step else {
-            return Decoding::NotUtf8;
-        };
-        let k = n.0;
-        keep(out, k, code);
-        fine = text::both(fine, text::alphabet::known(code));
-        n = CharPlace(k + 1);
+    'characters: loop {
+        let i = at.0;
+        if bytes.len() <= i {
+            break 'characters Decoding::Of(n);
+        }
+        let mut s = lead_of(bytes[i]);
+        if s.more == NEVER {
+            break 'characters Decoding::Malformed(at);
+        }
+        let mut next = after_byte(at);
+        while 0 < s.more {
+            let j = next.0;
+            if bytes.len() <= j {
+                break 'characters Decoding::CutShort(at);
+            }
+            let b = bytes[j];
+            if !follows(s, b) {
+                break 'characters Decoding::Malformed(at);
+            }
+            s = with_byte(s, b);
+            next = after_byte(next);
+        }
+        if !fits(pattern, s.bits) {
+            break 'characters Decoding::Unknown(at);
+        }
+        keep(out, n, s.bits);
+        n = after(n);
         at = next;
     }
-    if fine {
-        return Decoding::Of(n);
-    }
-    Decoding::Unknown
+}
+
+// UTF-8 is judged over the whole text, then the alphabet.
+fn decode_from(bytes: &[u8], from: BytePlace, out: &mut [u32]) -> Decoding
+    requires { ⌜ from .0 ≤ length (now bytes) ⌝ }
+    ensures { λ r. ⌜ Decodes (now (bytes .entry)) (from .0) (now (out .entry)) r (now (out .exit)) ⌝ }
+{
+    let whole = scan(bytes, from, Pattern::Utf8, out);
+    let Decoding::Of(_) = whole else {
+        return whole;
+    };
+    scan(bytes, from, Pattern::Alphabet, out)
+}
+
+// The characters of a text, stored as far as out has room, all counted.
+pub fn decode_text(bytes: &[u8], out: &mut [u32]) -> Decoding
+    ensures { λ r. ⌜ Decodes (now (bytes .entry)) 0 (now (out .entry)) r (now (out .exit)) ⌝ }
+{
+    decode_from(bytes, BytePlace(0), out)
 }
 
 // The bytes begin with a byte order mark.
@@ -180,13 +141,19 @@ fn marked(bytes: &[u8]) -> bool
     true
 }
 
-// The same of a grammar's text: an initial byte order mark is skipped, once.
-pub fn decode_grammar(bytes: &[u8], out: &mut [u32]) -> Decoding
-    ensures { λ r. ⌜ Decodes (unmark (decode (now (bytes .entry)))) (now (out .entry)) r (now (out .exit)) ⌝ }
+// Where a grammar's characters begin: an initial byte order mark is skipped, once.
+fn after_mark(bytes: &[u8]) -> BytePlace
+    ensures { λ r. ⌜ r .0 ≡ afterMark (now (bytes .entry)) ⌝ }
 {
     if marked(bytes) {
-        let rest = &bytes[3..];
-        return decode_text(rest, out);
+        return BytePlace(3);
     }
-    decode_text(bytes, out)
+    BytePlace(0)
+}
+
+// The same of a grammar's text. Its places count from the first byte too.
+pub fn decode_grammar(bytes: &[u8], out: &mut [u32]) -> Decoding
+    ensures { λ r. ⌜ Decodes (now (bytes .entry)) (afterMark (now (bytes .entry))) (now (out .entry)) r (now (out .exit)) ⌝ }
+{
+    decode_from(bytes, after_mark(bytes), out)
 }

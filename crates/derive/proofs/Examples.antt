@@ -1,19 +1,19 @@
--- Records from the drawer, computed and carried to the definitions.
+-- Records that the starred cases (crates/cases) lack, computed and carried to the definitions.
 use mathlib.Core.Path.{_≡_, refl}
 use mathlib.Core.Bool.{true, false}
 use mathlib.Core.List.{List, [], _∷_}
 use Prim.Native.Nat.{ℕ, _+_}
 use Prim.Native.String.{String}
 use Rattle.text.specs.Lists.{Text, chars}
-use Rattle.tree.specs.Tree.{unmarked, string, range, literal, inclusion, Symbol, terminal, nonterminal, group, option, repeat0, repeat1}
+use Rattle.tree.specs.Tree.{unmarked, string, range, literal, inclusion, Symbol, terminal, nonterminal, option, repeat1}
 use Rattle.tree.specs.Tree.{Alternative, nil, cons, Body, one, also, Rule, no-prolog, Grammar}
 use Rattle.plain.specs.Static.{codeOf}
-use Rattle.derive.specs.Derive.{Row, end, leaf, node, Derivation, leftParse}
+use Rattle.derive.specs.Derive.{Row, end, leaf, node, leftParse}
 use Rattle.derive.specs.Chosen.{Reading, Second}
 use Rattle.derive.specs.Pick.{beside, found, chosenOf}
 use Rattle.derive.specs.Another.{ambiguousOf}
 use Rattle.derive.proofs.Tools.{isT, notT}
-use Rattle.derive.proofs.Choose.{found-reading, none-derives}
+use Rattle.derive.proofs.Choose.{found-reading}
 use Rattle.derive.proofs.Ambiguous.{ambiguous-second}
 
 reads : {g : Grammar} {r : Text} {t : Row} → chosenOf g r ≡ found t → Reading g r t (leftParse t)
@@ -42,71 +42,6 @@ just s = cons s nil
 
 abbrev x : Symbol
 x = lit "x"
-
--- `a: "x".`
-abbrev g1 : Grammar
-g1 = from (one (just x)) []
-
-c1 : Reading g1 (chars "x") (node 0 1 (leaf 1 end) end) (0 ∷ [])
-c1 = reads refl
-
-c1-only : Second g1 (chars "x") (0 ∷ []) → ⊥
-c1-only = only {t = node 0 1 (leaf 1 end) end} refl refl
-
-c2 : (t : Row) → Derivation g1 [] t → ⊥
-c2 = none-derives g1 [] refl
-
--- `a: "x"*.`
-abbrev g3 : Grammar
-g3 = from (one (just (repeat0 x))) []
-
-abbrev t3 : Row
-t3 = node 0 0 (node 1 0 end end) end
-
-c3 : Reading g3 [] t3 (0 ∷ 1 ∷ [])
-c3 = reads refl
-
-c3-only : Second g3 [] (0 ∷ 1 ∷ []) → ⊥
-c3-only = only {t = t3} refl refl
-
-abbrev t4 : Row
-t4 = node 0 2 (node 0 2 (leaf 1 (node 0 2 (leaf 2 (node 1 2 end end)) end)) end) end
-
-c4 : Reading g3 (chars "xx") t4 (0 ∷ 0 ∷ 0 ∷ 1 ∷ [])
-c4 = reads refl
-
-c4-only : Second g3 (chars "xx") (0 ∷ 0 ∷ 0 ∷ 1 ∷ []) → ⊥
-c4-only = only {t = t4} refl refl
-
--- `a: "x"; "x".`
-abbrev g5 : Grammar
-g5 = from (also (just x) (one (just x))) []
-
-c5 : Reading g5 (chars "x") (node 0 1 (leaf 1 end) end) (0 ∷ [])
-c5 = reads refl
-
-c5-second : Second g5 (chars "x") (0 ∷ [])
-c5-second = ambiguous {t = node 0 1 (leaf 1 end) end} refl refl
-
--- `a: a; "x".`
-abbrev g6 : Grammar
-g6 = from (also (just (name "a")) (one (just x))) []
-
-c6 : Reading g6 (chars "x") (node 1 1 (leaf 1 end) end) (1 ∷ [])
-c6 = reads refl
-
-c6-second : Second g6 (chars "x") (1 ∷ [])
-c6-second = ambiguous {t = node 1 1 (leaf 1 end) end} refl refl
-
--- `a: ("x"?)*.`
-abbrev g7 : Grammar
-g7 = from (one (just (repeat0 (group (one (just (option x))))))) []
-
-c7 : Reading g7 [] t3 (0 ∷ 1 ∷ [])
-c7 = reads refl
-
-c7-second : Second g7 [] (0 ∷ 1 ∷ [])
-c7-second = ambiguous {t = t3} refl refl
 
 -- `p: lat, " ", lon. lat: d+. lon: d+. d: ["0"-"9"].`
 abbrev d : Symbol

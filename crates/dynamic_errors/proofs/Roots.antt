@@ -27,8 +27,9 @@ use Rattle.xml_shape.specs.Judges.{Judges}
 use Rattle.xml_shape.specs.Names.{repeated}
 use Rattle.dynamic_errors.specs.declared.Findings.{Findings}
 use Rattle.dynamic_errors.specs.declared.Verdict.{Verdict}
+use Rattle.dynamic_errors.specs.declared.Verdict.the-variants.{Allowed, RepeatedAttribute, NotXmlName, NotXmlCharacter, AttributeRoot, DeletedRoot, AttributeXmlns}
 use Rattle.dynamic_errors.specs.Within.{RowFound}
-use Rattle.dynamic_errors.specs.Judgment.{topmost, judgment, judgmentOf, around, withinRoot, misnamedIn, notOneIn, verdictOf, RowJudged, Judged}
+use Rattle.dynamic_errors.specs.Judgment.{topmost, judgment, judgmentOf, around, withinRoot, misnamedIn, notOneIn, verdictNumber, RowJudged, Judged}
 
 -- each judgment of the document, from that of the row: 17
 module _ (n : Text) (x : Xml) where
@@ -89,13 +90,13 @@ same-line : {t t′ m m′ u u′ b b′ n n′ : Bool} (a : Bool) → t ≡ t�
 same-line a e f g h i = rw (e, f, g, h, i)
 
 -- the judgments of a row make that of the root
-pub row-judged : {T P : List ℕ} {r : Text} {S S₁ S₂ S₃ : List ℕ} {head mark : ℕ} {h : Cursor} {d t m b : Bool} {f : Findings} {q : ℕ}
-    → d ≡ eqb mark 23 → RowFound T P r S S₁ h f → Judges (λ x. withinRoot d x (f .twice)) T P S₁ S₂ h t
+pub row-judged : {T P : List ℕ} {r : Text} {S S₁ S₂ S₃ : List ℕ} {head mark : ℕ} {h : Cursor} {d t m b : Bool} {f : Findings} {v : Verdict}
+    → mark ≡ getD T head 0 → d ≡ eqb mark 23 → RowFound T P r S S₁ h f → Judges (λ x. withinRoot d x (f .twice)) T P S₁ S₂ h t
     → ((k : ℕ) (n : Text) → Named T head k n → m ≡ misnamedIn d n (f .faults .misnamed)) → Judges (notOneIn d) T P S₂ S₃ h b
-    → q ≡ topmost t m (f .faults .unwritable) (eqb mark 22) b (f .faults .namespaced) → RowJudged T P r S S₃ head mark h q
-row-judged {T} {P} {r} {S} {S₁} {S₂} {S₃} {head} {mark} {h} {d} {t} {m} {b} {f} {q} de F J M K e = record { kept = K .kept ∙ J .kept ∙ F .told .kept; is = go }
+    → verdictNumber v ≡ topmost t m (f .faults .unwritable) (eqb mark 22) b (f .faults .namespaced) → RowJudged T P r S S₃ head h v
+row-judged {T} {P} {r} {S} {S₁} {S₂} {S₃} {head} {mark} {h} {d} {t} {m} {b} {f} {v} me de F J M K e = record { kept = K .kept ∙ J .kept ∙ F .told .kept; is = go }
   where
-    go : (k : ℕ) (n : Text) → Named T head k n → (x : Xml) → AtRow T P r S h x → q ≡ judgment (eqb mark 22) (around (eqb mark 23) n x)
+    go : (k : ℕ) (n : Text) → Named T head k n → (x : Xml) → AtRow T P r S h x → verdictNumber v ≡ judgment (eqb k 22) (around (eqb k 23) n x)
     go k n N x A =
         let A₁ : AtRow T P r S₁ h x = rw (F .told .kept) A in
         let A₂ : AtRow T P r S₂ h x = rw (J .kept) A₁ in
@@ -109,6 +110,19 @@ row-judged {T} {P} {r} {S} {S₁} {S₂} {S₃} {head} {mark} {h} {d} {t} {m} {b
         (K .is r x A₂ ∙ not-one-around n x d)
         (D .namespaced ∙ namespaced-around n x d)
         ∙ ap (λ (c : Bool). judgment (eqb mark 22) (around c n x)) de
+        ∙ ap (λ (j : ℕ). judgment (eqb j 22) (around (eqb j 23) n x)) (me ∙ head-number N)
+
+-- the number of the topmost line is the topmost number
+pub top-number : (t m u a b n : Bool)
+    → verdictNumber (pick t RepeatedAttribute (pick m NotXmlName (pick u NotXmlCharacter (pick a AttributeRoot (pick b DeletedRoot (pick n AttributeXmlns Allowed))))))
+    ≡ topmost t m u a b n
+top-number true m u a b n = refl
+top-number false true u a b n = refl
+top-number false false true a b n = refl
+top-number false false false true b n = refl
+top-number false false false false true n = refl
+top-number false false false false false true = refl
+top-number false false false false false false = refl
 
 -- a name is the same as itself
 same-self : (t : Text) → same t t ≡ true
@@ -141,18 +155,13 @@ pub root-standing : {T : List ℕ} {x : ℕ} {P : List ℕ} {r : Text} {S : List
 root-standing {P = P} {item = item} room J e F ce = row-again ce refl (root-row (rooted room (J .job) item (found-first P e F)))
 
 -- the verdict on the root is that on the derivation
-pub root-judged : {T : List ℕ} {x : ℕ} {P : List ℕ} {r : Text} {S S′ : List ℕ} {head mark a item q : ℕ} {c : Cursor} {v : Verdict}
-    → Room T P S → Headed T head → mark ≡ getD T head 0 → a ≡ getD P 0 0 → Found T x a item → c ≡ rootAt item
-    → RowJudged T P r S S′ head mark c q → v ≡ verdictOf q → Judged T x P r S S′ v
-root-judged {T} {x} {P} {r} {S} {S′} {head} {mark} {a} {item} {q} {c} {v} room H me ae F ce J f = record { kept = J .kept; is = λ g t job. f ∙ ap verdictOf (go g t job) }
+pub root-judged : {T : List ℕ} {x : ℕ} {P : List ℕ} {r : Text} {S S′ : List ℕ} {head a item : ℕ} {c : Cursor} {v : Verdict}
+    → Room T P S → Headed T head → a ≡ getD P 0 0 → Found T x a item → c ≡ rootAt item → RowJudged T P r S S′ head c v → Judged T x P r S S′ v
+root-judged {T} {x} {P} {r} {S} {S′} {head} {a} {item} {c} {v} room H ae F ce J = record { kept = J .kept; is = go }
   where
-    go : (g : Grammar) (t : Row) → Job T x P r S g t → q ≡ judgmentOf g r t
+    go : (g : Grammar) (t : Row) → Job T x P r S g t → verdictNumber v ≡ judgmentOf g r t
     go g t job =
         let R = rooted room job item (found-first P ae F) in
-        let N = H .named g (job .tokens) in
         let n = g .root .name in
-        let k = 20 + markNumber (g .root .mark) in
-        let e : mark ≡ k = me ∙ head-number N in
-        J .is k n N (R .inner) (rw ce (R .stands))
-        ∙ ap (λ (j : ℕ). judgment (eqb j 22) (around (eqb j 23) n (R .inner))) e
+        J .is (20 + markNumber (g .root .mark)) n (H .named g (job .tokens)) (R .inner) (rw ce (R .stands))
         ∙ ap₂ judgment (attribute-number (g .root .mark) ∙ ap isAttribute (sym (root-mark g))) (sym (document-around R))

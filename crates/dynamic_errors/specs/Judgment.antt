@@ -15,7 +15,7 @@ use Rattle.left_parse.specs.Steps.{Named}
 use Rattle.writer.specs.Whole.{Job}
 use Rattle.xml_shape.specs.Names.{repeated}
 use Rattle.dynamic_errors.specs.declared.Verdict.{Verdict}
-use Rattle.dynamic_errors.specs.declared.Verdict.the-variants.{Allowed, Forbidden}
+use Rattle.dynamic_errors.specs.declared.Verdict.the-variants.{Allowed, RepeatedAttribute, NotXmlName, NotXmlCharacter, AttributeRoot, DeletedRoot, AttributeXmlns}
 
 -- the number of the first test that holds
 abbrev pub topmost : Bool → Bool → Bool → Bool → Bool → Bool → ℕ
@@ -29,9 +29,15 @@ judgment a d = topmost (twice d) (misnamed d) (unwritable d) a (notOne d) (names
 abbrev pub judgmentOf : Grammar → Text → Row → ℕ
 judgmentOf g r t = judgment (isAttribute (markOf g (root g))) (document g r t)
 
--- the verdict that a number stands for: 0 forbids nothing
-abbrev pub verdictOf : ℕ → Verdict
-verdictOf n = pick (eqb n 0) Allowed (Forbidden n)
+-- the number of a verdict: 0 forbids nothing
+abbrev pub verdictNumber : Verdict → ℕ
+verdictNumber Allowed = 0
+verdictNumber RepeatedAttribute = 17
+verdictNumber NotXmlName = 18
+verdictNumber NotXmlCharacter = 19
+verdictNumber AttributeRoot = 20
+verdictNumber DeletedRoot = 21
+verdictNumber AttributeXmlns = 22
 
 -- the document of what stands in the root: just that, if the root is deleted; else an element
 abbrev pub around : Bool → Text → Xml → Xml
@@ -49,12 +55,12 @@ misnamedIn deleted n found = pick deleted found (not (xmlName n) || found)
 abbrev pub notOneIn : Bool → Xml → Bool
 notOneIn deleted x = pick deleted (notOne x) false
 
--- q is the judgment of the row at c, in a root whose token stands at `head` and has the number `mark` (22: @, 23: deleted)
-pub record RowJudged (T P : List ℕ) (r : Text) (S S' : List ℕ) (head mark : ℕ) (c : Cursor) (q : ℕ) : Type 0 where
+-- v is the verdict on the row at c, in a root whose token stands at `head` and has the number k (22: @, 23: deleted)
+pub record RowJudged (T P : List ℕ) (r : Text) (S S' : List ℕ) (head : ℕ) (c : Cursor) (v : Verdict) : Type 0 where
   pub kept : S' ≡ S
-  pub is : (k : ℕ) (n : Text) → Named T head k n → (x : Xml) → AtRow T P r S c x → q ≡ judgment (eqb mark 22) (around (eqb mark 23) n x)
+  pub is : (k : ℕ) (n : Text) → Named T head k n → (x : Xml) → AtRow T P r S c x → verdictNumber v ≡ judgment (eqb k 22) (around (eqb k 23) n x)
 
 -- v is the verdict on the derivation that the list names, and nothing is noted otherwise than before
 pub record Judged (T : List ℕ) (root : ℕ) (P : List ℕ) (r : Text) (S S' : List ℕ) (v : Verdict) : Type 0 where
   pub kept : S' ≡ S
-  pub is : (g : Grammar) (t : Row) → Job T root P r S g t → v ≡ verdictOf (judgmentOf g r t)
+  pub is : (g : Grammar) (t : Row) → Job T root P r S g t → verdictNumber v ≡ judgmentOf g r t

@@ -11,10 +11,9 @@ ghost use Rattle.cursor.specs.Ahead.{SomeRow, SomeNode};
 ghost use Rattle.writer.specs.Whole.{Some as SomeJob};
 ghost use Rattle.xml_shape.specs.Judges.{Judges};
 ghost use Rattle.dynamic_errors.specs.Within.{Repeats, RowFound};
-ghost use Rattle.dynamic_errors.specs.Judgment.{topmost, withinRoot, misnamedIn, notOneIn, verdictOf, RowJudged, Judged};
+ghost use Rattle.dynamic_errors.specs.Judgment.{topmost, withinRoot, misnamedIn, notOneIn, verdictNumber, RowJudged, Judged};
 use cursor::Cursor;
 use cursor::Event;
-use text::refusals;
 use xml_names::Faults;
 
 // Heads of rules that are marked `-` and `@`.
@@ -53,8 +52,7 @@ fn found_in(
     seen: &mut [u32],
     first: Cursor,
 ) -> Findings
-    requires { ⌜ length (now parse) ≤ length (now seen) ⌝ }
-    requires { ⌜ SomeRow (now table) (now parse) (now «record») (now scratch) first ⌝ }
+    requires { ⌜ (length (now parse) ≤ length (now seen)) × SomeRow (now table) (now parse) (now «record») (now scratch) first ⌝ }
     ensures { λ f. ⌜ RowFound (now (table .entry)) (now (parse .entry)) (now («record» .entry)) (now (scratch .entry)) (now (scratch .exit)) first f ⌝ }
 {
     let mut twice = false;
@@ -81,12 +79,8 @@ fn found_in(
                 faults = xml_names::join(faults, xml_names::of_attribute(table, token));
                 at = cursor::enter(table, parse, scratch, n);
             }
-            Event::Close(_, n) => {
-                at = n;
-            }
-            Event::End => {
-                return Findings { twice, faults };
-            }
+            Event::Close(_, n) => at = n,
+            Event::End => return Findings { twice, faults },
         }
     }
 }
@@ -141,17 +135,28 @@ fn not_one_in(
     false
 }
 
-// A line of the table: its number if it applies, else what the lines below give.
-fn line(applies: bool, number: u32, below: u32) -> u32
-    ensures { λ r. ⌜ r ≡ pick applies number below ⌝ }
+// What is said of a document: it may be written, or what forbids it.
+pub enum Verdict {
+    Allowed,
+    RepeatedAttribute,
+    NotXmlName,
+    NotXmlCharacter,
+    AttributeRoot,
+    DeletedRoot,
+    AttributeXmlns,
+}
+
+// A line of the table: its verdict if it applies, else what the lines below give.
+fn line(applies: bool, verdict: Verdict, below: Verdict) -> Verdict
+    ensures { λ r. ⌜ r ≡ pick applies verdict below ⌝ }
 {
     if applies {
-        return number;
+        return verdict;
     }
     below
 }
 
-// The number of the topmost line that applies.
+// The topmost line that applies.
 fn top_line(
     twice: bool,
     misnamed: bool,
@@ -159,18 +164,18 @@ fn top_line(
     attribute: bool,
     beside: bool,
     namespaced: bool,
-) -> u32
-    ensures { λ r. ⌜ r ≡ topmost twice misnamed unwritable attribute beside namespaced ⌝ }
+) -> Verdict
+    ensures { λ v. ⌜ verdictNumber v ≡ topmost twice misnamed unwritable attribute beside namespaced ⌝ }
 {
-    let n = line(namespaced, refusals::ATTRIBUTE_XMLNS, refusals::ANSWERED);
-    let n = line(beside, refusals::DELETED_ROOT, n);
-    let n = line(attribute, refusals::ATTRIBUTE_ROOT, n);
-    let n = line(unwritable, refusals::NOT_XML_CHARACTER, n);
-    let n = line(misnamed, refusals::NOT_XML_NAME, n);
-    line(twice, refusals::REPEATED_ATTRIBUTE, n)
+    let v = line(namespaced, Verdict::AttributeXmlns, Verdict::Allowed);
+    let v = line(beside, Verdict::DeletedRoot, v);
+    let v = line(attribute, Verdict::AttributeRoot, v);
+    let v = line(unwritable, Verdict::NotXmlCharacter, v);
+    let v = line(misnamed, Verdict::NotXmlName, v);
+    line(twice, Verdict::RepeatedAttribute, v)
 }
 
-// The judgment of a root, whose token is known, by the row that stands in it.
+// The verdict on a root, whose token is known, by the row that stands in it.
 fn judge_row(
     table: &[u32],
     parse: &[u32],
@@ -178,20 +183,20 @@ fn judge_row(
     scratch: &mut [u32],
     seen: &mut [u32],
     head: usize,
-    mark: usize,
     first: Cursor,
-) -> u32
+) -> Verdict
     requires { ⌜ (length (now parse) ≤ length (now seen)) × (head < 4294967298) ⌝ }
     requires { ⌜ SomeRow (now table) (now parse) (now «record») (now scratch) first ⌝ }
-    ensures { λ q. ⌜ RowJudged (now (table .entry)) (now (parse .entry)) (now («record» .entry)) (now (scratch .entry)) (now (scratch .exit)) head mark first q ⌝ }
+    ensures { λ v. ⌜ RowJudged (now (table .entry)) (now (parse .entry)) (now («record» .entry)) (now (scratch .entry)) (now (scratch .exit)) head first v ⌝ }
 {
+    let mark = tokens::look(table, head);
     let deleted = mark == DELETED_HEAD;
+    let attribute = mark == ATTRIBUTE_HEAD;
     let found = found_in(table, parse, record, scratch, seen, first);
     let f = found.faults;
     let twice = twice_in(table, parse, scratch, seen, first, deleted, found.twice);
     let misnamed = misnamed_in(table, head, deleted, f.misnamed);
     let beside = not_one_in(table, parse, scratch, first, deleted);
-    let attribute = mark == ATTRIBUTE_HEAD;
     top_line(
         twice,
         misnamed,
@@ -200,22 +205,6 @@ fn judge_row(
         beside,
         f.namespaced,
     )
-}
-
-// What is said of a document: it may be written, or the number of what forbids it.
-pub enum Verdict {
-    Allowed,
-    Forbidden(u32),
-}
-
-// The verdict that a number stands for.
-fn verdict_of(number: u32) -> Verdict
-    ensures { λ v. ⌜ v ≡ verdictOf number ⌝ }
-{
-    if number == 0 {
-        return Verdict::Allowed;
-    }
-    Verdict::Forbidden(number)
 }
 
 // 17 to 22 of a left parse. `scratch` has its notes, and keeps them; nothing is promised of `seen`.
@@ -232,10 +221,8 @@ pub fn first_error(
     ensures { λ v. ⌜ Judged (now (table .entry)) root (now (parse .entry)) (now («record» .entry)) (now (scratch .entry)) (now (scratch .exit)) v ⌝ }
 {
     let head = markup::head_at(table);
-    let mark = tokens::look(table, head);
     let a = tokens::look(parse, 0);
     let item = left_parse::alternative(table, root, a);
     let first = cursor::at_root(item);
-    let number = judge_row(table, parse, record, scratch, seen, head, mark, first);
-    verdict_of(number)
+    judge_row(table, parse, record, scratch, seen, head, first)
 }

@@ -12,10 +12,12 @@ use lib.Seq.{sets, length-sets, take-take, take-at, length-take-le}
 use Rattle.text.specs.Lists.{pick}
 use Rattle.items.specs.declared.State.{State}
 use Rattle.items.specs.declared.Action.{Action}
-use Rattle.items.specs.Machine.{Entry, entry, nums, entryAt, bothEnds, onceBlock, optionBlock, starBlock, restBlock, listBlock}
-use Rattle.items.specs.Machine.{oneBlock, oneCount, oneFirst, twoBlock, twoCount, twoFirst, laid, Abs, pushed, One, Two, Block}
+use Rattle.repetitions.specs.Blocks.{Entry, entry, nums, entryAt, bothEnds, onceBlock, optionBlock, starBlock, restBlock, listBlock}
+use Rattle.repetitions.specs.Blocks.{oneBlock, oneCount, oneFirst, twoBlock, twoCount, twoFirst, laid}
+use Rattle.items.specs.Machine.{Abs, pushed, One, Two, Block}
 use Rattle.items.specs.Machine.{blockList, Closed, Finished, Fit, Has, Rep, Copied, Space, Act, Ready}
-use Rattle.items.proofs.Windows.{take-sets, win-before, win-after, win-end, stack-under, stack-at, stack-above}
+use Rattle.repetitions.proofs.Stores.{take-sets}
+use Rattle.items.proofs.Windows.{win-before, win-after, win-end, stack-under, stack-at, stack-above}
 
 pub one-length : (k : ℕ) (f : Entry) (i : ℕ) → length (oneBlock k f i) ≡ 3 * oneCount k
 unfolding oneBlock oneCount
@@ -151,53 +153,6 @@ rep-two {T} {a} {b} {T₁} {T₂} k n d from first h o fit en ed ef e₁ e₃ e�
     subst (λ (z : Abs). Has T₂ z) (sym (o .result)) (subst
     (λ (l : List ℕ). Has l (pushed (cut (longer a (twoBlock k (o .f) (o .sep) (a .items)) (twoCount k)) (o .under) c (a .base))
     (entry 4 (a .items + twoFirst k) 0) (a .base))) (sym e₅) w)
-
--- by the operator's token
-pub record Is1 (k : ℕ) (f : Entry) (i : ℕ) (xs : List ℕ) (n m : ℕ) : Type 0 where
-  pub block : oneBlock k f i ≡ xs
-  pub count : oneCount k ≡ n
-  pub first : oneFirst k ≡ m
-
-pub is-option : (k : ℕ) (f : Entry) (i : ℕ) → k ≡ 34 → Is1 k f i (optionBlock f) 3 0
-unfolding oneBlock oneCount oneFirst
-is-option k f i e = record { block = simp (eq-eqb k 34 e); count = simp (eq-eqb k 34 e); first = simp (eq-eqb k 34 e) }
-
-pub is-star : (k : ℕ) (f : Entry) (i : ℕ) → (k ≡ 34 → ⊥) → k ≡ 35 → Is1 k f i (starBlock f i) 4 0
-unfolding oneBlock oneCount oneFirst
-is-star k f i n e = record { block = simp (ne-eqb k 34 n, eq-eqb k 35 e); count = simp (ne-eqb k 34 n, eq-eqb k 35 e); first = simp (ne-eqb k 34 n, eq-eqb k 35 e) }
-
-pub is-plus : (k : ℕ) (f : Entry) (i : ℕ) → (k ≡ 34 → ⊥) → (k ≡ 35 → ⊥) → Is1 k f i (starBlock f i ++ onceBlock f i) 7 4
-unfolding oneBlock oneCount oneFirst
-is-plus k f i n e = record { block = simp (ne-eqb k 34 n, ne-eqb k 35 e); count = simp (ne-eqb k 34 n, ne-eqb k 35 e); first = simp (ne-eqb k 34 n, ne-eqb k 35 e) }
-
-pub least-count : (k : ℕ) → (k ≡ 34 → ⊥) → 4 ≤ oneCount k
-unfolding oneCount
-least-count k n = rw (ne-eqb k 34 n) (both (eqb k 35))
-  where
-    both : (p : Bool) → 4 ≤ pick p 4 7
-    both true = omega arith
-    both false = omega arith
-
-pub record Is2 (k : ℕ) (f sep : Entry) (i : ℕ) (xs : List ℕ) (n m : ℕ) : Type 0 where
-  pub block : twoBlock k f sep i ≡ xs
-  pub count : twoCount k ≡ n
-  pub first : twoFirst k ≡ m
-
-pub is-list : (k : ℕ) (f sep : Entry) (i : ℕ) → k ≡ 38 → Is2 k f sep i (listBlock f sep i) 8 5
-unfolding twoBlock twoCount twoFirst
-is-list k f sep i e = record { block = simp (eq-eqb k 38 e); count = simp (eq-eqb k 38 e); first = simp (eq-eqb k 38 e) }
-
-pub is-maybe : (k : ℕ) (f sep : Entry) (i : ℕ) → (k ≡ 38 → ⊥) → Is2 k f sep i (listBlock f sep i ++ (4 ∷ (i + 5) ∷ 0 ∷ bothEnds)) 11 8
-unfolding twoBlock twoCount twoFirst
-is-maybe k f sep i e = record { block = simp (ne-eqb k 38 e); count = simp (ne-eqb k 38 e); first = simp (ne-eqb k 38 e) }
-
-pub least-two : (k : ℕ) → 8 ≤ twoCount k
-unfolding twoCount
-least-two k = both (eqb k 38)
-  where
-    both : (p : Bool) → 8 ≤ pick p 8 11
-    both true = omega arith
-    both false = omega arith
 
 -- a block above a mark
 module _ {T : List ℕ} {a : Abs} (h : Has T a) (o : Block a) where

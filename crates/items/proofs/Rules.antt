@@ -20,7 +20,8 @@ use Rattle.tokens.proofs.Walk.{by-mark}
 use Rattle.measure.proofs.Sizes.{costs-append, size-costs}
 use Rattle.items.specs.declared.Action.the-variants.{Skip, Push, Open, Operator, Close, Finish}
 use Rattle.items.specs.Items.{Starts, Among, Alternatives, Spelt}
-use Rattle.items.specs.Machine.{Entry, entry, nums, Abs, pushed, Act, Fit, actionOf, lateActionOf}
+use Rattle.repetitions.specs.Blocks.{Entry, entry, nums}
+use Rattle.items.specs.Machine.{Abs, pushed, Act, Fit, actionOf, lateActionOf}
 use Rattle.items.specs.Scanned.{At, Listed, l-none, l-rule, Begins, Bodies, Whole}
 use Rattle.items.specs.Final.{Final, PlacedAll}
 use Rattle.items.proofs.Reps.{act-as}

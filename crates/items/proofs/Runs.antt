@@ -12,7 +12,8 @@ use Rattle.tree.specs.Tokens.{Token, numbers, encode}
 use Rattle.plain.specs.Written.{kind, made}
 use Rattle.tokens.specs.Lengths.{firstNumber}
 use Rattle.items.specs.Items.{Starts, Among, Stands, st-made, Reads, targetAt, kindAt}
-use Rattle.items.specs.Machine.{Entry, entry, nums, Abs, pushed, Act, Fit, actionOf}
+use Rattle.repetitions.specs.Blocks.{Entry, entry, nums}
+use Rattle.items.specs.Machine.{Abs, pushed, Act, Fit, actionOf}
 use Rattle.items.specs.Scanned.{At}
 use Rattle.items.specs.Final.{Placed, PlacedAll, Final}
 use Rattle.items.proofs.Blocks.{placed-append, Blocks, Sound, sound-none, sound-then, blocks-sound}

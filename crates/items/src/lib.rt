@@ -1,7 +1,6 @@
 // The plain rules of a grammar as items in the grammar table, one for each place of a dot, made from the tokens by a machine with a stack.
 mod link;
 mod machine;
-mod operators;
 
 ghost use mathlib.Core.Path.{_≡_};
 ghost use Prim.Native.Nat.{_<_};
@@ -10,23 +9,23 @@ ghost use Rattle.tree.specs.Tree.{Grammar};
 ghost use Rattle.items.specs.Items.{kindAt, targetAt, tokenAt};
 ghost use Rattle.items.specs.Built.{Built};
 ghost use Rattle.items.specs.Scanned.{Prepared, Readable};
+pub use repetitions::ALTERNATIVE_END;
+pub use repetitions::ATTRIBUTE;
+pub use repetitions::DELETED;
+pub use repetitions::ELEMENT;
+pub use repetitions::ITEM_COLUMNS;
+pub use repetitions::ITEM_KIND;
+pub use repetitions::ITEM_TARGET;
+pub use repetitions::ITEM_TOKEN;
+pub use repetitions::ITEMS;
+pub use repetitions::RULE_END;
+pub use repetitions::TERMINAL;
 
 // The parts of the grammar table: the tokens, from 0 on; the items; the rules, in the order of the grammar; the machine's stack.
 // An entry of the stack is an item that has no place yet, or marks where a bracket or a rule begins.
-pub const ITEMS: usize = 12288;
-
 const RULES: usize = 13824;
 
 const STACK: usize = 14848;
-
-// The columns of an item p, each at its own place and ITEM_COLUMNS * p: its kind; its target, the first item of a rule; the place of its token.
-pub const ITEM_COLUMNS: usize = 3;
-
-pub const ITEM_KIND: usize = ITEMS;
-
-pub const ITEM_TARGET: usize = ITEMS + 1;
-
-pub const ITEM_TOKEN: usize = ITEMS + 2;
 
 // The columns of a rule: the place of its head's token; its first item.
 const RULE_COLUMNS: usize = 2;
@@ -42,20 +41,6 @@ const ENTRY_COLUMNS: usize = 3;
 const STACK_BASE: usize = STACK + 1;
 
 const STACK_PLACE: usize = STACK + 2;
-
-// The kinds of items: a terminal; a nonterminal that is written as an element, as an attribute, or not; the end of an alternative
-// that another follows, and of the last one of a rule.
-pub const TERMINAL: u32 = 1;
-
-pub const ELEMENT: u32 = 2;
-
-pub const ATTRIBUTE: u32 = 3;
-
-pub const DELETED: u32 = 4;
-
-pub const ALTERNATIVE_END: u32 = 5;
-
-pub const RULE_END: u32 = 6;
 
 // The kind of an entry that marks where a bracket or a rule begins.
 const BEGINNING: u32 = 0;
@@ -105,12 +90,6 @@ pub fn token_at(table: &[u32], item: usize) -> usize
         return tokens::look(table, ITEM_TOKEN + ITEM_COLUMNS * item);
     }
     0
-}
-
-// Rules are made: the first item of the operator's own, and the item after.
-pub struct Made {
-    pub first: usize,
-    pub next: usize,
 }
 
 // The plain rules of the grammar whose tokens are the first `end` numbers. The result is the first item of the root's rule.

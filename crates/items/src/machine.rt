@@ -19,11 +19,11 @@ use crate::STACK_BASE;
 use crate::STACK_PLACE;
 use crate::State;
 use crate::TERMINAL;
-use crate::operators::copy;
-use crate::operators::item;
-use crate::operators::one;
-use crate::operators::put;
-use crate::operators::two;
+use repetitions::copy;
+use repetitions::item;
+use repetitions::one;
+use repetitions::put;
+use repetitions::two;
 
 fn action_of(k: u32) -> Action
     ensures { λ r. ⌜ r ≡ actionOf k ⌝ }

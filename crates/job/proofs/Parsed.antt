@@ -7,6 +7,7 @@ use Prim.Native.Nat.{ℕ}
 use native.Mathlib.Omega.{arith}
 use lib.Dec.{eqb}
 use borrow.Author.Tests.{ne-eqb}
+use Rattle.text.specs.Stages.{numberOf}
 use Rattle.answer.specs.Answer.{Job}
 use Rattle.answer.specs.Compute.{mismatch}
 use Rattle.job.specs.declared.Start.{Start}
@@ -15,27 +16,27 @@ use Rattle.job.specs.declared.Begun.{Begun}
 use Rattle.job.specs.declared.Begun.the-variants.{At, Refused as Ended}
 use Rattle.job.specs.declared.Read.{Read}
 use Rattle.job.specs.declared.Read.the-variants.{Reading, Refused as Not-read}
-use Rattle.job.specs.Stages.{Started, Begins}
-use Rattle.job.specs.Found.{Ends}
-use Rattle.job.specs.Parses.{whyBegun, whyRead, IsChosen, NotChosen}
+use Rattle.job.specs.Stages.{begunOf, Started, Begins}
+use Rattle.job.specs.Found.{foundOf, Ends}
+use Rattle.job.specs.Parses.{IsChosen, NotChosen}
 
 module _ (j : Job) (T new : List ℕ) where
   pub begun-at : (b : Begun) (s : Start) → b ≡ At s → Begins j T new b → Started j T new s
   begun-at b s q w = subst (Begins j T new) q w
 
   -- a stage before 16 refuses
-  pub ended : (b : Begun) (k n : ℕ) → b ≡ Ended k → n ≡ whyBegun b → Begins j T new b → NotChosen j (record { number = n; mismatch = false })
+  pub ended : (b : Begun) (k n : ℕ) → b ≡ Ended k → n ≡ numberOf (begunOf b) → Begins j T new b → NotChosen j (record { number = n; mismatch = false })
   ended b k n q e w =
       let s = subst (Begins j T new) q w in
-      let h : n ≡ k = e ∙ ap whyBegun q in
+      let h : n ≡ k = e ∙ ap (λ (x : Begun). numberOf (begunOf x)) q in
       rw h (record { some = s .some; is = s .is; version = rw (ne-eqb k 16 (λ z. omega (arith, s .early))) })
 
   module _ (s : Start) (w : Started j T new s) (T′ P : List ℕ) (r : Read) where
     -- there is no reading, or it is too long
-    pub not-chosen : (k n : ℕ) → r ≡ Not-read k → n ≡ whyRead r → Ends j T new s w T′ P r → NotChosen j (record { number = n; mismatch = s .passed .mismatch })
+    pub not-chosen : (k n : ℕ) → r ≡ Not-read k → n ≡ numberOf (foundOf r) → Ends j T new s w T′ P r → NotChosen j (record { number = n; mismatch = s .passed .mismatch })
     not-chosen k n q e x =
         let y = subst (Ends j T new s w T′ P) q x in
-        let h : n ≡ k = e ∙ ap whyRead q in
+        let h : n ≡ k = e ∙ ap (λ (x : Read). numberOf (foundOf x)) q in
         rw h (record { some = λ z. ⊎-elim (λ u. omega arith) (λ u. omega arith) (y .late); is = y .is; version = ap (λ (b : Bool). eqb k 16 && b) (w .grammar .version) })
 
     pub chosen : (f : Found) → r ≡ Reading f → Ends j T new s w T′ P r

@@ -13,6 +13,7 @@ use denote.Enum.Declared.{tagOf}
 use types.Run.{OneOf}
 use Rattle.text.specs.Limits.{grammarTable, readingNumbers, recordChars}
 use Rattle.text.specs.Lists.{Text, pick}
+use Rattle.text.specs.Stages.{numberOf}
 use Rattle.tree.specs.Tree.{Grammar, rules}
 use Rattle.tree.specs.Tokens.{grammarTokens}
 use Rattle.plain.specs.Static.{undefined, duplicate, beyond, banned, backwards, unclassed}
@@ -40,11 +41,11 @@ use Rattle.answer.proofs.Settled.{same-mark}
 use Rattle.reading.specs.declared.Walked.{Walked}
 use Rattle.reading.specs.declared.Walked.the-variants.{Reading as A-reading, TooLong, NoReading}
 use Rattle.reading.proofs.Walked.{the-type}
-use Rattle.reading.specs.Answer.{Answers, IsReading}
+use Rattle.reading.specs.Answer.{Answers, IsReading, NotRead as No-reading, no-reading, too-long, stageOf}
 use Rattle.job.specs.declared.Start.{Start}
 use Rattle.job.specs.Stages.{Started}
 use Rattle.job.proofs.Texts.{got-part}
-use Rattle.job.specs.Found.{whyWalked, firstTest, IsRead, NotRead}
+use Rattle.job.specs.Found.{firstTest, IsRead, NotRead}
 
 -- no static rule is broken
 record Lawful (g : Grammar) : Type 0 where
@@ -71,11 +72,15 @@ or-false : (a b : Bool) → (a || b) ≡ false → a ≡ false
 or-false true b e = e
 or-false false b e = refl
 
--- an answer that is no reading is one of two
-late-refusal : (w : Walked) → OneOf (1 ∷ 2 ∷ []) (tagOf the-type w) → (whyWalked w ≡ 16) ⊎ (whyWalked w ≡ 29)
-late-refusal (A-reading n m) h = absurd (⊎-elim (λ q. omega arith) (λ q. omega arith) h)
-late-refusal TooLong h = inr refl
-late-refusal NoReading h = inl refl
+-- an answer that is no reading is refused
+refuses : (g : Grammar) (r : Text) (P : List ℕ) (w : Walked) → OneOf (1 ∷ 2 ∷ []) (tagOf the-type w) → Answers g r P w → No-reading g r (numberOf (stageOf w))
+refuses g r P (A-reading n m) h a = absurd (⊎-elim (λ q. omega arith) (λ q. omega arith) h)
+refuses g r P TooLong h a = a
+refuses g r P NoReading h a = a
+
+late-refusal : {g : Grammar} {r : Text} {n : ℕ} → No-reading g r n → (n ≡ 16) ⊎ (n ≡ 29)
+late-refusal (no-reading a) = inl refl
+late-refusal (too-long a) = inr refl
 
 module _ (j : Job) (Tab new : List ℕ) (s : Start) (w : Started j Tab new s) where
   abbrev g : Grammar
@@ -100,13 +105,13 @@ module _ (j : Job) (Tab new : List ℕ) (s : Start) (w : Started j Tab new s) wh
     pub prepares : Ready T′ g n root
     prepares = subst (λ (k : ℕ). Ready T′ g k root) (sym (e ∙ w .grammar .sized)) (ready (b .1) proper (laws .simple) (laws .within) (laws .classed))
 
-    pub choosable : (main parse : ℕ) → j .mainTable ≡ main → length T′ ≡ grammarTable → readingNumbers ≤ parse → Choosable T′ n root (take (s .chars) new) main parse
+    pub choosable : (main parse : ℕ) → j .mainTable ≡ main → length T′ ≡ grammarTable → readingNumbers ≤ parse → Choosable T′ n root (take (s .chars .0) new) main parse
     choosable main parse m l p =
-        let short : length (take (s .chars) new) ≤ recordChars = omega (arith, got-part (w .input), w .input .count, w .input .short) in
+        let short : length (take (s .chars .0) new) ≤ recordChars = omega (arith, got-part (w .input), w .input .count, w .input .short) in
         let enough : tableNeed (size g) (length r) ≤ j .mainTable = ltb-false (j .mainTable) (tableNeed (size g) (length r))
         (or-false (ltb (j .mainTable) (tableNeed (size g) (length r))) (ltb (j .secondTable) grammarTable) (w .enough)) in
-        let k : n * stretches (length (take (s .chars) new)) ≡ tableNeed (size g) (length r) = ap
-        (λ (x : ℕ). x * stretches (length (take (s .chars) new))) (e ∙ w .grammar .sized) ∙ ap (λ (x : Text). size g * stretches (length x))
+        let k : n * stretches (length (take (s .chars .0) new)) ≡ tableNeed (size g) (length r) = ap
+        (λ (x : ℕ). x * stretches (length (take (s .chars .0) new))) (e ∙ w .grammar .sized) ∙ ap (λ (x : Text). size g * stretches (length x))
         (w .input .stored) in
         record { grammar = g; ready = prepares; long = l; small = omega (arith, w .grammar .sized, w .grammar .small); short = short; room = omega arith; numbers = p }
 
@@ -118,21 +123,20 @@ module _ (j : Job) (Tab new : List ℕ) (s : Start) (w : Started j Tab new s) wh
           ∙ ap (λ (l : List ℕ). l ++ drop (s .passed .end) (take 12288 T′)) (take-take (s .passed .end) 12288 T′ (w .grammar .inside) ∙ b .0 ∙ w .grammar .stands .held);
     }
 
-    module _ (P : List ℕ) (k : Walked) (a : Answers g (take (s .chars) new) P k) where
+    module _ (P : List ℕ) (k : Walked) (a : Answers g (take (s .chars .0) new) P k) where
       answers : Answers g r P k
       answers = subst (λ (x : Text). Answers g x P k) (w .input .stored) a
 
-      pub not-read : OneOf (1 ∷ 2 ∷ []) (tagOf the-type k) → (n : ℕ) → n ≡ whyWalked k → NotRead j n
-      not-read h n e = rw e (record { late = late-refusal k h; is = go k answers h })
+      pub not-read : OneOf (1 ∷ 2 ∷ []) (tagOf the-type k) → (n : ℕ) → n ≡ numberOf (stageOf k) → NotRead j n
+      not-read h n e = rw e (let b = refuses g r P k h answers in record { late = late-refusal b; is = go b })
         where
-          go : (k : Walked) → Answers g r P k → OneOf (1 ∷ 2 ∷ []) (tagOf the-type k) → (ts : List Test) → firstTest j ts ≡ whyWalked k
-          go (A-reading n m) a h ts = absurd (⊎-elim (λ q. omega arith) (λ q. omega arith) h)
-          go TooLong a h ts =
+          go : {n : ℕ} → No-reading g r n → (ts : List Test) → firstTest j ts ≡ n
+          go (too-long a) ts =
               let c = chosen-found g r (a .reading .chosen) in
               w .grammar .first (recordTests j ts)
               ∙ stage-29 j ts r (w .input .decoded) (w .input .within) (w .input .short) g (w .grammar .is) (w .enough) (a .tree) c
               (subst (λ (p : List ℕ). readingNumbers < length p) (a .reading .parse) (a .long))
-          go NoReading a h ts =
+          go (no-reading a) ts =
               w .grammar .first (recordTests j ts)
               ∙ stage-16 j ts r (w .input .decoded) (w .input .within) (w .input .short) g (w .grammar .is) (w .enough) (lacks-none g r a)
 

@@ -8,50 +8,53 @@ use lib.Dec.{ltb}
 use lib.ListN.{length}
 use borrow.Author.Tests.{lt-ltb, le-ltb}
 use Rattle.text.specs.Limits.{grammarTable, recordChars}
+use Rattle.text.specs.Stages.{numberOf}
+use Rattle.text.specs.declared.CharPlace.{CharPlace}
 use Rattle.plain.specs.Plain.{size}
 use Rattle.answer.specs.Answer.{Job, tableNeed}
 use Rattle.answer.specs.Compute.{firstOf, grammarTests, recordTests}
 use Rattle.answer.proofs.Stages.{first-below, stage-15}
 use Rattle.load.specs.declared.Passed.{Passed}
-use Rattle.load.specs.declared.Judged.{Judged}
-use Rattle.load.specs.declared.Judged.the-variants.{Grammar as Accepted, Refused as Turned-down}
+use Rattle.load.specs.declared.Loaded.{Loaded}
+use Rattle.load.specs.declared.Loaded.the-variants.{Grammar as Accepted, Refused as Turned-down}
+use Rattle.load.specs.Checked.{stageOf}
 use Rattle.load.specs.Loaded.{Turned, Kept, Loads}
 use Rattle.job.specs.declared.Taken.{Taken}
 use Rattle.job.specs.declared.Taken.the-variants.{Chars, Refused}
 use Rattle.job.specs.declared.Begun.the-variants.{At, Refused as Ended}
-use Rattle.job.specs.Stages.{whyJudged, whyTaken, Got, Takes, Begins}
+use Rattle.job.specs.Stages.{takenOf, Got, Takes, Begins}
 
 fifteen-not : _≡_ {A = ℕ} 15 0 → ⊥
 fifteen-not e = omega arith
 
 module _ (j : Job) (T new : List ℕ) where
-  pub ends-grammar : (d : Judged) (k n : ℕ) → d ≡ Turned-down k → n ≡ whyJudged d → Loads (j .grammar) T d → Begins j T new (Ended n)
+  pub ends-grammar : (d : Loaded) (k n : ℕ) → d ≡ Turned-down k → n ≡ numberOf (stageOf d) → Loads (j .grammar) T d → Begins j T new (Ended n)
   ends-grammar d k n q e l =
-      let w : n ≡ k = e ∙ ap whyJudged q in
+      let w : n ≡ k = e ∙ ap (λ (x : Loaded). numberOf (stageOf x)) q in
       let t : Turned (j .grammar) k = subst (Loads (j .grammar) T) q l in
       rw w (record { some = t .some; early = early k (t .first []); is = λ ts. t .first (recordTests j ts) })
     where
       early : (k : ℕ) → firstOf (grammarTests (j .grammar) []) ≡ k → k ≤ 15
       early k e = subst (λ (n : ℕ). n ≤ 15) e (first-below 15 (grammarTests (j .grammar) []) tt)
 
-  module _ (d : Judged) (p : Passed) (q : d ≡ Accepted p) (l : Loads (j .grammar) T d) where
+  module _ (d : Loaded) (p : Passed) (q : d ≡ Accepted p) (l : Loads (j .grammar) T d) where
     kept : Kept (j .grammar) T p
     kept = subst (Loads (j .grammar) T) q l
 
     pub small : p .size ≤ 512
     small = omega (arith, kept .sized, kept .small)
 
-    pub ends-record : (x : Taken) (k n : ℕ) → x ≡ Refused k → n ≡ whyTaken x → Takes (j .input) new x → Begins j T new (Ended n)
+    pub ends-record : (x : Taken) (k n : ℕ) → x ≡ Refused k → n ≡ numberOf (takenOf x) → Takes (j .input) new x → Begins j T new (Ended n)
     ends-record x k n e f t =
-        let w : n ≡ k = f ∙ ap whyTaken e in
+        let w : n ≡ k = f ∙ ap (λ (z : Taken). numberOf (takenOf z)) e in
         let s = subst (Takes (j .input) new) e t j refl in
         rw w (record { some = s .some; early = s .early; is = λ ts. kept .first (recordTests j ts) ∙ s .is ts })
 
-    module _ (x : Taken) (n : ℕ) (e : x ≡ Chars n) (t : Takes (j .input) new x) where
-      got : Got (j .input) new n
+    module _ (x : Taken) (n : CharPlace) (e : x ≡ Chars n) (t : Takes (j .input) new x) where
+      got : Got (j .input) new (n .0)
       got = subst (Takes (j .input) new) e t
 
-      pub few : n ≤ recordChars
+      pub few : n .0 ≤ recordChars
       few = omega (arith, got .count, got .short)
 
       refused : (ltb (j .mainTable) (tableNeed (size (kept .tree)) (length (got .chars))) || ltb (j .secondTable) grammarTable) ≡ true → Begins j T new (Ended 15)
@@ -63,13 +66,13 @@ module _ (j : Job) (T new : List ℕ) where
                 (kept .is) w;
           }
 
-      need-is : (k : ℕ) → k ≡ tableNeed (p .size) n → k ≡ tableNeed (size (kept .tree)) (length (got .chars))
-      need-is k f = f ∙ ap (λ (s : ℕ). tableNeed s n) (kept .sized) ∙ ap (tableNeed (size (kept .tree))) (got .count)
+      need-is : (k : ℕ) → k ≡ tableNeed (p .size) (n .0) → k ≡ tableNeed (size (kept .tree)) (length (got .chars))
+      need-is k f = f ∙ ap (λ (s : ℕ). tableNeed s (n .0)) (kept .sized) ∙ ap (tableNeed (size (kept .tree))) (got .count)
 
-      pub ends-main : (k : ℕ) → k ≡ tableNeed (p .size) n → j .mainTable < k → Begins j T new (Ended 15)
+      pub ends-main : (k : ℕ) → k ≡ tableNeed (p .size) (n .0) → j .mainTable < k → Begins j T new (Ended 15)
       ends-main k f h = refused (rw (lt-ltb (j .mainTable) (tableNeed (size (kept .tree)) (length (got .chars))) (omega (arith, need-is k f))))
 
-      module _ (k : ℕ) (f : k ≡ tableNeed (p .size) n) (h : k ≤ j .mainTable) where
+      module _ (k : ℕ) (f : k ≡ tableNeed (p .size) (n .0)) (h : k ≤ j .mainTable) where
         main-enough : ltb (j .mainTable) (tableNeed (size (kept .tree)) (length (got .chars))) ≡ false
         main-enough = le-ltb (j .mainTable) (tableNeed (size (kept .tree)) (length (got .chars))) (omega (arith, need-is k f))
 

@@ -13,48 +13,52 @@ use Rattle.text.specs.Lists.{Text}
 use Rattle.text.specs.Decode.{text, decode}
 use Rattle.answer.proofs.Stages.{stage-12, stage-13, stage-14}
 use Rattle.decode.specs.declared.Decoding.{Decoding}
-use Rattle.decode.specs.declared.Decoding.the-variants.{Of, NotUtf8, Unknown}
-use Rattle.decode.specs.declared.CharPlace.{CharPlace}
+use Rattle.decode.specs.declared.Decoding.the-variants.{Of, CutShort, Malformed, Unknown}
+use Rattle.text.specs.declared.CharPlace.{CharPlace}
 use Rattle.decode.proofs.Decoding.{the-type}
-use Rattle.decode.specs.Whole.{Decodes, over}
-use Rattle.decode.proofs.Answers.{Known, Tells, tells-of, tells-not, tells-unknown, told}
+use Rattle.decode.specs.Scan.{over}
+use Rattle.decode.specs.Whole.{Decodes}
+use Rattle.decode.proofs.Answers.{Known, Tells, tells-of, tells-cut, tells-malformed, tells-unknown, told}
 use Rattle.job.specs.declared.Taken.the-variants.{Chars, Refused}
 use Rattle.job.specs.Stages.{whyText, Got, Takes}
 
 -- an answer that is no text has a refusal
-some-refusal : (d : Decoding) → OneOf (1 ∷ 2 ∷ []) (tagOf the-type d) → whyText d ≡ 0 → ⊥
-some-refusal (Of n) h e = ⊎-elim (λ q. omega arith) (λ q. omega arith) h
-some-refusal NotUtf8 h e = omega arith
-some-refusal Unknown h e = omega arith
+some-refusal : (d : Decoding) → OneOf (1 ∷ 2 ∷ 3 ∷ []) (tagOf the-type d) → whyText d ≡ 0 → ⊥
+some-refusal (Of n) h e = ⊎-elim (λ q. omega arith) (λ k. ⊎-elim (λ q. omega arith) (λ q. omega arith) k) h
+some-refusal (CutShort p) h e = omega arith
+some-refusal (Malformed p) h e = omega arith
+some-refusal (Unknown p) h e = omega arith
 
 fourteen-not : _≡_ {A = ℕ} 14 0 → ⊥
 fourteen-not e = omega arith
 
-module _ (bs old new : List ℕ) (r : Decoding) (w : Decodes (decode bs) old r new) where
-  pub not-taken : OneOf (1 ∷ 2 ∷ []) (tagOf the-type r) → (n : ℕ) → n ≡ whyText r → Takes bs new (Refused n)
-  not-taken h n e = rw e (go (told w) (some-refusal r h))
+module _ (bs old new : List ℕ) (r : Decoding) (w : Decodes bs 0 old r new) where
+  pub not-taken : OneOf (1 ∷ 2 ∷ 3 ∷ []) (tagOf the-type r) → (n : ℕ) → n ≡ whyText r → Takes bs new (Refused n)
+  not-taken h n e = rw e (go (told bs 0 w .tells) (some-refusal r h))
     where
       go : {d : Decoding} → Tells (decode bs) d → (whyText d ≡ 0 → ⊥) → Takes bs new (Refused (whyText d))
       go (tells-of x) z = absurd (z refl)
-      go (tells-not x) z = λ j q. record { some = z; early = omega arith; is = λ ts. stage-12 j ts (ap decode q ∙ x) }
+      go (tells-cut x) z = λ j q. record { some = z; early = omega arith; is = λ ts. stage-12 j ts (ap decode q ∙ x) }
+      go (tells-malformed x) z = λ j q. record { some = z; early = omega arith; is = λ ts. stage-12 j ts (ap decode q ∙ x) }
       go (tells-unknown x) z = λ j q. record { some = z; early = omega arith; is = λ ts. stage-13 j ts (x .chars) (ap decode q ∙ x .is) (x .outside) }
 
   module _ (k : CharPlace) (e : r ≡ Of k) where
     known : Known (decode bs) (k .0)
-    known = go (told w) e
+    known = go (told bs 0 w .tells) e
       where
         go : {d : Decoding} → Tells (decode bs) d → d ≡ Of k → Known (decode bs) (k .0)
         go (tells-of {k = n} x) q = let p : k ≡ n = cc in record { chars = x .chars; is = x .is; within = x .within; count = ap (λ (z : CharPlace). z .0) p ∙ x .count }
-        go (tells-not x) q = absurd (let z : _≡_ {A = ℕ} 0 1 = cc in omega arith)
+        go (tells-cut x) q = absurd (let z : _≡_ {A = ℕ} 0 1 = cc in omega arith)
+        go (tells-malformed x) q = absurd (let z : _≡_ {A = ℕ} 0 1 = cc in omega arith)
         go (tells-unknown x) q = absurd (let z : _≡_ {A = ℕ} 0 1 = cc in omega arith)
 
     pub too-many : recordChars < k .0 → Takes bs new (Refused 14)
     too-many h = λ j q. record { some = fourteen-not; early = omega arith; is = λ ts. stage-14 j ts (known .chars) (ap decode q ∙ known .is) (known .within) (let c = known .count in omega arith) }
 
-    pub taken : k .0 ≤ recordChars → length old ≡ recordChars → Takes bs new (Chars (k .0))
+    pub taken : k .0 ≤ recordChars → length old ≡ recordChars → Takes bs new (Chars k)
     taken h l =
         let c : k .0 ≡ length (known .chars) = known .count in
-        let s : new ≡ over (known .chars) old = w .stored (known .chars) (known .is) in
+        let s : new ≡ over (known .chars) old = told bs 0 w .stored (known .chars) (known .is) in
         let t : take (length old) (known .chars) ≡ known .chars = take-all (length old) (known .chars) (omega arith) in
         record {
           chars = known .chars;

@@ -5,6 +5,7 @@ use mathlib.Core.List.{List}
 use Prim.Native.Nat.{ℕ, _≤_}
 use lib.ListN.{length, take}
 use Rattle.text.specs.Limits.{grammarTable, readingNumbers}
+use Rattle.text.specs.Stages.{StageAnswer, answered, refused, Settles}
 use Rattle.tree.specs.Tokens.{grammarTokens}
 use Rattle.derive.specs.Derive.{Row, leftParse}
 use Rattle.derive.specs.Pick.{found, chosenOf}
@@ -12,18 +13,11 @@ use Rattle.derive.specs.Another.{ambiguousOf}
 use Rattle.items.specs.Items.{Items, Reads}
 use Rattle.answer.specs.Answer.{Job}
 use Rattle.answer.specs.Compute.{Test, firstOf, grammarTests, recordTests}
-use Rattle.reading.specs.declared.Walked.{Walked}
-use Rattle.reading.specs.declared.Walked.the-variants.{Reading as A-reading, TooLong, NoReading}
 use Rattle.job.specs.declared.Start.{Start}
 use Rattle.job.specs.declared.Found.{Found}
 use Rattle.job.specs.declared.Read.{Read}
 use Rattle.job.specs.declared.Read.the-variants.{Reading, Refused}
 use Rattle.job.specs.Stages.{Started}
-
-abbrev pub whyWalked : Walked → ℕ
-whyWalked (A-reading n m) = 0
-whyWalked TooLong = 29
-whyWalked NoReading = 16
 
 pub record Readable (T new : List ℕ) (main parse : ℕ) (s : Start) : Type 0 where
   pub job : Job
@@ -52,6 +46,10 @@ pub record NotRead (j : Job) (n : ℕ) : Type 0 where
   pub late : (n ≡ 16) ⊎ (n ≡ 29)
   pub is : (ts : List Test) → firstTest j ts ≡ n
 
+-- document 01's number and values for each case
+abbrev pub foundOf : Read → StageAnswer Found ℕ
+foundOf (Reading f) = answered f
+foundOf (Refused n) = refused n
+
 abbrev pub Ends : (j : Job) (T new : List ℕ) (s : Start) → Started j T new s → List ℕ → List ℕ → Read → Type 0
-Ends j T new s w T′ P (Reading f) = IsRead j T new s w T′ P f
-Ends j T new s w T′ P (Refused n) = NotRead j n
+Ends j T new s w T′ P r = Settles (IsRead j T new s w T′ P) (NotRead j) (foundOf r)

@@ -6,6 +6,7 @@ use Prim.Native.Nat.{ℕ, _≤_}
 use lib.Dec.{eqb}
 use lib.ListN.{length, take}
 use Rattle.text.specs.Limits.{grammarTable, recordChars, readingNumbers}
+use Rattle.text.specs.Stages.{StageAnswer, answered, refused, Settles}
 use Rattle.tree.specs.Tree.{Grammar}
 use Rattle.tree.specs.Tokens.{grammarTokens}
 use Rattle.syntax.specs.Parser.{parsed}
@@ -15,10 +16,6 @@ use Rattle.derive.specs.Another.{ambiguousOf}
 use Rattle.items.specs.Items.{Items, Reads}
 use Rattle.answer.specs.Answer.{Job}
 use Rattle.answer.specs.Compute.{Test, firstOf, treeOf, mismatch}
-use Rattle.job.specs.declared.Begun.{Begun}
-use Rattle.job.specs.declared.Begun.the-variants.{At, Refused as Ended}
-use Rattle.job.specs.declared.Read.{Read}
-use Rattle.job.specs.declared.Read.the-variants.{Reading, Refused as Not-read}
 use Rattle.job.specs.declared.LeftParse.{LeftParse}
 use Rattle.job.specs.declared.Refusal.{Refusal}
 use Rattle.job.specs.declared.Parse.{Parse}
@@ -26,15 +23,7 @@ use Rattle.job.specs.declared.Parse.the-variants.{Chosen, Refused}
 use Rattle.job.specs.Stages.{Got}
 use Rattle.job.specs.Found.{firstTest}
 
--- the number of each refusal
-abbrev pub whyBegun : Begun → ℕ
-whyBegun (At s) = 0
-whyBegun (Ended n) = n
-
-abbrev pub whyRead : Read → ℕ
-whyRead (Reading f) = 0
-whyRead (Not-read n) = n
-
+-- the refusal, or none
 abbrev pub whyRefused : Parse → Refusal
 whyRefused (Chosen p) = record { number = 0; mismatch = false }
 whyRefused (Refused r) = r
@@ -50,7 +39,7 @@ pub record IsChosen (j : Job) (T new P : List ℕ) (p : LeftParse) : Type 0 wher
   pub tree : Grammar
   pub is : treeOf (j .grammar) ≡ parsed tree
   pub version : p .mismatch ≡ mismatch (j .grammar)
-  pub input : Got (j .input) new (p .chars)
+  pub input : Got (j .input) new (p .chars .0)
   pub first : (ts : List Test) → firstTest j ts ≡ firstOf ts
   pub row : Row
   pub choice : chosenOf tree (input .chars) ≡ found row
@@ -67,6 +56,10 @@ pub record NotChosen (j : Job) (r : Refusal) : Type 0 where
   pub is : (ts : List Test) → firstTest j ts ≡ r .number
   pub version : (eqb (r .number) 16 && r .mismatch) ≡ (eqb (r .number) 16 && mismatch (j .grammar))
 
+-- document 01's number and values for each case
+abbrev pub parseOf : Parse → StageAnswer LeftParse Refusal
+parseOf (Chosen p) = answered p
+parseOf (Refused r) = refused r
+
 abbrev pub Parses : Job → List ℕ → List ℕ → List ℕ → Parse → Type 0
-Parses j T new P (Chosen p) = IsChosen j T new P p
-Parses j T new P (Refused r) = NotChosen j r
+Parses j T new P r = Settles (IsChosen j T new P) (NotChosen j) (parseOf r)

@@ -7,15 +7,14 @@ use lib.Dec.{ltb}
 use lib.ListN.{length, take}
 use Rattle.text.specs.Limits.{recordChars, grammarTable}
 use Rattle.text.specs.Lists.{Text, all}
+use Rattle.text.specs.Stages.{StageAnswer, answered, refused, Settles}
 use Rattle.text.specs.Utf8.{known}
 use Rattle.text.specs.Decode.{text, decode}
 use Rattle.plain.specs.Plain.{size}
 use Rattle.answer.specs.Answer.{Job, tableNeed}
 use Rattle.answer.specs.Compute.{Test, firstOf, grammarTests, recordTests}
 use Rattle.decode.specs.declared.Decoding.{Decoding}
-use Rattle.decode.specs.declared.Decoding.the-variants.{Of, NotUtf8, Unknown}
-use Rattle.load.specs.declared.Judged.{Judged}
-use Rattle.load.specs.declared.Judged.the-variants.{Grammar as Accepted, Refused as Turned-down}
+use Rattle.decode.specs.declared.Decoding.the-variants.{Of, CutShort, Malformed, Unknown}
 use Rattle.load.specs.Loaded.{Kept}
 use Rattle.job.specs.declared.Taken.{Taken}
 use Rattle.job.specs.declared.Taken.the-variants.{Chars, Refused}
@@ -23,19 +22,12 @@ use Rattle.job.specs.declared.Start.{Start}
 use Rattle.job.specs.declared.Begun.{Begun}
 use Rattle.job.specs.declared.Begun.the-variants.{At, Refused as Ended}
 
--- the number of each refusal
+-- document 01's number for each case
 abbrev pub whyText : Decoding → ℕ
 whyText (Of n) = 0
-whyText NotUtf8 = 12
-whyText Unknown = 13
-
-abbrev pub whyTaken : Taken → ℕ
-whyTaken (Chars n) = 0
-whyTaken (Refused n) = n
-
-abbrev pub whyJudged : Judged → ℕ
-whyJudged (Accepted p) = 0
-whyJudged (Turned-down n) = n
+whyText (CutShort p) = 12
+whyText (Malformed p) = 12
+whyText (Unknown p) = 13
 
 -- the n characters of some bytes stand in a buffer, none above the alphabet, and not too many
 pub record Got (bs new : List ℕ) (n : ℕ) : Type 0 where
@@ -52,16 +44,24 @@ pub record Stopped (first : List Test → ℕ) (n : ℕ) : Type 0 where
   pub early : n ≤ 15
   pub is : (ts : List Test) → first ts ≡ n
 
+-- document 01's number and values for each case
+abbrev pub takenOf : Taken → StageAnswer ℕ ℕ
+takenOf (Chars n) = answered (n .0)
+takenOf (Refused n) = refused n
+
 abbrev pub Takes : List ℕ → List ℕ → Taken → Type 0
-Takes bs new (Chars n) = Got bs new n
-Takes bs new (Refused n) = (j : Job) → j .input ≡ bs → Stopped (λ ts. firstOf (recordTests j ts)) n
+Takes bs new r = Settles (Got bs new) (λ n. (j : Job) → j .input ≡ bs → Stopped (λ ts. firstOf (recordTests j ts)) n) (takenOf r)
 
 -- none of 1 to 15 applies: the table has the grammar's tokens, the buffer the record's characters
 pub record Started (j : Job) (T new : List ℕ) (s : Start) : Type 0 where
   pub grammar : Kept (j .grammar) T (s .passed)
-  pub input : Got (j .input) new (s .chars)
+  pub input : Got (j .input) new (s .chars .0)
   pub enough : (ltb (j .mainTable) (tableNeed (size (grammar .tree)) (length (input .chars))) || ltb (j .secondTable) grammarTable) ≡ false
 
+-- document 01's number and values for each case
+abbrev pub begunOf : Begun → StageAnswer Start ℕ
+begunOf (At s) = answered s
+begunOf (Ended n) = refused n
+
 abbrev pub Begins : Job → List ℕ → List ℕ → Begun → Type 0
-Begins j T new (At s) = Started j T new s
-Begins j T new (Ended n) = Stopped (λ ts. firstOf (grammarTests (j .grammar) (recordTests j ts))) n
+Begins j T new r = Settles (Started j T new) (Stopped (λ ts. firstOf (grammarTests (j .grammar) (recordTests j ts)))) (begunOf r)

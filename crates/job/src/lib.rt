@@ -5,19 +5,22 @@ ghost use lib.ListN.{length};
 ghost use Rattle.text.specs.Limits.{grammarTable, recordChars, mostSize};
 ghost use Rattle.answer.specs.Answer.{Job, tableNeed};
 ghost use Rattle.answer.specs.Answer.{job};
-ghost use Rattle.job.specs.Stages.{whyText, whyTaken, whyJudged, Takes, Started, Begins};
-ghost use Rattle.job.specs.Found.{whyWalked, Readable, Ends};
-ghost use Rattle.job.specs.Parses.{whyBegun, whyRead, whyRefused, Lent, Parses};
+ghost use Rattle.text.specs.Stages.{numberOf};
+ghost use Rattle.reading.specs.Answer.{stageOf as walkedOf};
+ghost use Rattle.job.specs.Stages.{whyText, takenOf, begunOf, Takes, Started, Begins};
+ghost use Rattle.job.specs.Found.{foundOf, Readable, Ends};
+ghost use Rattle.job.specs.Parses.{whyRefused, Lent, Parses};
 use decode::Decoding;
-use load::Judged;
+use load::Loaded;
 use load::Passed;
 use reading::Walked;
+use text::CharPlace;
 use text::limits;
 use text::refusals;
 
-// How many characters a record has.
+// Where the record's characters end.
 pub enum Taken {
-    Chars(usize),
+    Chars(CharPlace),
     Refused(u32),
 }
 
@@ -26,8 +29,9 @@ fn why_text(decoded: Decoding) -> u32
 {
     match decoded {
         Decoding::Of(_) => refusals::ANSWERED,
-        Decoding::NotUtf8 => refusals::RECORD_NOT_UTF8,
-        Decoding::Unknown => refusals::RECORD_CHARACTER,
+        Decoding::CutShort(_) => refusals::RECORD_NOT_UTF8,
+        Decoding::Malformed(_) => refusals::RECORD_NOT_UTF8,
+        Decoding::Unknown(_) => refusals::RECORD_CHARACTER,
     }
 }
 
@@ -37,14 +41,13 @@ fn take_record(record: &[u8], text: &mut [u32]) -> Taken
     ensures { λ r. ⌜ Takes (now («record» .entry)) (now (text .exit)) r ⌝ }
 {
     let decoded = decode::decode_text(record, text);
-    let Decoding::Of(count) = decoded else {
+    let Decoding::Of(end) = decoded else {
         return Taken::Refused(why_text(decoded));
     };
-    let n = count.0;
-    if limits::RECORD_CHARACTERS < n {
+    if limits::RECORD_CHARACTERS < end.0 {
         return Taken::Refused(refusals::RECORD_TOO_LONG);
     }
-    Taken::Chars(n)
+    Taken::Chars(end)
 }
 
 // The numbers that the main table needs.
@@ -55,10 +58,10 @@ fn need(size: usize, n: usize) -> usize
     size * ((n + 1) * (n + 2) / 2)
 }
 
-// What the first stages find: the grammar's tokens, size and version mark, and the count of the record's characters.
+// What the first stages find: the grammar's tokens, size and version mark, and where the record's characters end.
 pub struct Start {
     pub passed: Passed,
-    pub chars: usize,
+    pub chars: CharPlace,
 }
 
 pub enum Begun {
@@ -66,17 +69,8 @@ pub enum Begun {
     Refused(u32),
 }
 
-pub fn why_judged(judged: Judged) -> u32
-    ensures { λ r. ⌜ r ≡ whyJudged judged ⌝ }
-{
-    match judged {
-        Judged::Grammar(_) => refusals::ANSWERED,
-        Judged::Refused(number) => number,
-    }
-}
-
 fn why_taken(taken: Taken) -> u32
-    ensures { λ r. ⌜ r ≡ whyTaken taken ⌝ }
+    ensures { λ r. ⌜ r ≡ numberOf (takenOf taken) ⌝ }
 {
     match taken {
         Taken::Chars(_) => refusals::ANSWERED,
@@ -96,15 +90,15 @@ fn begin(
     requires { ⌜ (length (now table) ≡ grammarTable) × (length (now text) ≡ recordChars) ⌝ }
     ensures { λ r. ⌜ Begins (job (now (grammar .entry)) (now («record» .entry)) main second) (now (table .exit)) (now (text .exit)) r ⌝ }
 {
-    let judged = load::load_grammar(grammar, table);
-    let Judged::Grammar(passed) = judged else {
-        return Begun::Refused(why_judged(judged));
+    let loaded = load::load_grammar(grammar, table);
+    let Loaded::Grammar(passed) = loaded else {
+        return Begun::Refused(load::loaded_number(loaded));
     };
     let taken = take_record(record, text);
     let Taken::Chars(chars) = taken else {
         return Begun::Refused(why_taken(taken));
     };
-    if main < need(text::wide(passed.size), chars) {
+    if main < need(text::wide(passed.size), chars.0) {
         return Begun::Refused(refusals::TABLE_TOO_SHORT);
     }
     if second < limits::GRAMMAR_TABLE {
@@ -126,7 +120,7 @@ pub enum Read {
 }
 
 fn why_walked(walked: Walked) -> u32
-    ensures { λ r. ⌜ r ≡ whyWalked walked ⌝ }
+    ensures { λ r. ⌜ r ≡ numberOf (walkedOf walked) ⌝ }
 {
     match walked {
         Walked::Reading(_, _) => refusals::ANSWERED,
@@ -150,7 +144,7 @@ fn read_record(
     let passed = start.passed;
     let size = text::wide(passed.size);
     let root = items::build_items(table, passed.end);
-    let n = start.chars;
+    let n = start.chars.0;
     let walked = parser::choose(table, size, root, &text[..n], main, parse);
     let Walked::Reading(count, ambiguous) = walked else {
         return Read::Refused(why_walked(walked));
@@ -163,7 +157,7 @@ fn read_record(
 }
 
 fn why_begun(begun: Begun) -> u32
-    ensures { λ r. ⌜ r ≡ whyBegun begun ⌝ }
+    ensures { λ r. ⌜ r ≡ numberOf (begunOf begun) ⌝ }
 {
     match begun {
         Begun::At(_) => refusals::ANSWERED,
@@ -172,7 +166,7 @@ fn why_begun(begun: Begun) -> u32
 }
 
 fn why_read(read: Read) -> u32
-    ensures { λ r. ⌜ r ≡ whyRead read ⌝ }
+    ensures { λ r. ⌜ r ≡ numberOf (foundOf read) ⌝ }
 {
     match read {
         Read::Reading(_) => refusals::ANSWERED,
@@ -180,12 +174,12 @@ fn why_read(read: Read) -> u32
     }
 }
 
-// What a result is made from: where the root's rule begins, how many numbers the left parse has, how many characters the record,
+// What a result is made from: where the root's rule begins, how many numbers the left parse has, where the record's characters end,
 // and the two marks.
 pub struct LeftParse {
     pub root: usize,
     pub count: usize,
-    pub chars: usize,
+    pub chars: CharPlace,
     pub ambiguous: bool,
     pub mismatch: bool,
 }
@@ -235,6 +229,7 @@ pub fn parse_record(
         });
     };
     let mismatch = start.passed.mismatch;
+    let chars = start.chars;
     let read = read_record(table, start, text, main, parse);
     let Read::Reading(found) = read else {
         return Parse::Refused(Refusal {
@@ -245,7 +240,7 @@ pub fn parse_record(
     Parse::Chosen(LeftParse {
         root: found.root,
         count: found.count,
-        chars: start.chars,
+        chars,
         ambiguous: found.ambiguous,
         mismatch,
     })

@@ -26,11 +26,11 @@ small-of W =
 
 -- over a terminal
 pub after-leaf : {T P S₀ : List ℕ} {r : Text} {g : Grammar} {starts : Starts} {e₁ i₁ : ℕ} {h : Position} {fs : List Frame} {m : ℕ} {t : Row}
-    {s : Symbol} {ss : List Symbol} → Walk T P r S₀ g starts e₁ i₁ h (leaf m t) (s ∷ ss) fs → (x : Terminal) → m ≡ h .place + width x
+    {s : Symbol} {ss : List Symbol} → Walk T P r S₀ g starts e₁ i₁ h (leaf m t) (s ∷ ss) fs → (x : Terminal) → m ≡ h .place .0 + width x
     → Reads T (tokenAt T (h .item)) (terminalTokens x)
     → (n : Position) → Skipped T h n → (n ≡ spot (h .item + 1) (h .entry) m (h .inner)) × Walk T P r S₀ g starts e₁ i₁ n t ss fs
 after-leaf {h = h} {m = m} W x q R n K =
-    let z : h .place + K .w ≡ m = ap (λ (k : ℕ). h .place + k) (K .wide .is x R) ∙ sym q in
+    let z : h .place .0 + K .w ≡ m = ap (λ (k : ℕ). h .place .0 + k) (K .wide .is x R) ∙ sym q in
     let y : n ≡ spot (h .item + 1) (h .entry) m (h .inner) = K .spot ∙ ap (λ (k : ℕ). spot (h .item + 1) (h .entry) k (h .inner)) z in
     (y, rw y (walk-leaf W))
 
@@ -56,7 +56,7 @@ module _ {T P S₀ S : List ℕ} {r : Text} {g : Grammar} {starts : Starts} {e�
 -- out of a node
 pub after-leave : {T P S₀ S : List ℕ} {r : Text} {g : Grammar} {starts : Starts} {e₁ i₁ : ℕ} {h : Position} {f : Frame} {fs : List Frame}
     → Walk T P r S₀ g starts e₁ i₁ h end [] (f ∷ fs) → S ≡ opened (f ∷ fs) S₀ → 2 * length P ≤ length S₀
-    → (S′ : List ℕ) (n : Position) → Left S S′ h n → (S′ ≡ opened fs S₀) × (n ≡ spot (f .item + 1) (h .entry) (h .place) (f .link))
+    → (S′ : List ℕ) (n : Position) → Left S S′ h n → (S′ ≡ opened fs S₀) × (n ≡ spot (f .item + 1) (h .entry) (h .place .0) (f .link))
     × Walk T P r S₀ g starts e₁ i₁ n (f .row) (f .symbols) fs × (getD S (2 * (h .inner - 1) + 1) 0 ≡ f .item)
 after-leave {P = P} {S₀ = S₀} {S = S} {h = h} {f = f} {fs = fs} W e room S′ n L =
     let N = node-ends W in
@@ -67,8 +67,8 @@ after-leave {P = P} {S₀ = S₀} {S = S} {h = h} {f = f} {fs = fs} W e room S�
     let b : 2 * f .entry + 1 < length S₀ = omega arith in
     let u : getD S (2 * (h .inner - 1)) 0 ≡ f .link = rw (j, e) (link-of f fs S₀ b) in
     let p : getD S (2 * (h .inner - 1) + 1) 0 ≡ f .item = rw (j, e) (item-of f fs S₀ b) in
-    let z : n ≡ spot (f .item + 1) (h .entry) (h .place) (f .link) = L .spot ∙ rw (u, p) in
-    (L .scratch ∙ rw (j, e) (opened-back (W .chain) S₀ (h .entry) (h .place) (N .ends) (N .stops)), z, rw z (walk-leave W), p)
+    let z : n ≡ spot (f .item + 1) (h .entry) (h .place .0) (f .link) = L .spot ∙ rw (u, p) in
+    (L .scratch ∙ rw (j, e) (opened-back (W .chain) S₀ (h .entry) (h .place .0) (N .ends) (N .stops)), z, rw z (walk-leave W), p)
 
 -- before the children of a node, as a walk of its own
 pub walk-inside : {T P r S : List ℕ} {h : Position} {g : Grammar} {starts : Starts} {s : Symbol} {a : ℕ} {c : Row}

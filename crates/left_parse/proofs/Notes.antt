@@ -32,27 +32,27 @@ found-at {g = g} {starts = starts} {h = h} {a = a} {s = s} W st l to F =
 module _ {T P S F : List ℕ} {h : Position} {e₁ i₁ : ℕ} where
   -- a terminal
   pub going-leaf : Going T P S h F e₁ i₁ → kindAt T (h .item) ≡ 1 → (w : ℕ) → Wide T (tokenAt T (h .item)) w
-      → Going T P S (spot (h .item + 1) (h .entry) (h .place + w) (h .inner)) F e₁ i₁
+      → Going T P S (spot (h .item + 1) (h .entry) (h .place .0 + w) (h .inner)) F e₁ i₁
   going-leaf G k w wide = go (seen (G .walk)) (G .walk)
     where
-      go : {row : Row} {ss : List Symbol} {j : ℕ} → View T (G .r) (G .g) (G .starts) (h .item) (h .place) j row ss → Walk T P (G .r) F (G .g) (G .starts) e₁ i₁ h row ss (G .fs)
-          → Going T P S (spot (h .item + 1) (h .entry) (h .place + w) (h .inner)) F e₁ i₁
+      go : {row : Row} {ss : List Symbol} {j : ℕ} → View T (G .r) (G .g) (G .starts) (h .item) (h .place .0) j row ss → Walk T P (G .r) F (G .g) (G .starts) e₁ i₁ h row ss (G .fs)
+          → Going T P S (spot (h .item + 1) (h .entry) (h .place .0 + w) (h .inner)) F e₁ i₁
       go (v-end q k′) W = absurd (omega arith)
       go (v-node l k′ st b c d) W = absurd (omega arith)
       go (v-leaf {x = x} {ss = ss} {m = m} {t = t} k′ q R f d) W =
-          let z : h .place + w ≡ m = ap (λ (n : ℕ). h .place + n) (wide .is x R) ∙ sym q in
+          let z : h .place .0 + w ≡ m = ap (λ (n : ℕ). h .place .0 + n) (wide .is x R) ∙ sym q in
           record { g = G .g; r = G .r; starts = G .starts; row = t; ss = ss; fs = G .fs; under = G .under; walk = rw z (walk-leaf W); scratch = G .scratch; noted = G .noted; room = G .room }
 
-  pub leaf-inside : Going T P S h F e₁ i₁ → kindAt T (h .item) ≡ 1 → (w : ℕ) → Wide T (tokenAt T (h .item)) w → h .place + w < 4294967296
+  pub leaf-inside : Going T P S h F e₁ i₁ → kindAt T (h .item) ≡ 1 → (w : ℕ) → Wide T (tokenAt T (h .item)) w → h .place .0 + w < 4294967296
   leaf-inside G k w wide = let N = going-leaf G k w wide in omega (arith, place-inside (N .walk), N .walk .record-length)
 
   -- a node
   pub going-enter : Going T P S h F e₁ i₁ → 2 ≤ kindAt T (h .item) → kindAt T (h .item) ≤ 4 → (to : ℕ) → Found T (targetAt T (h .item)) (getD P (h .entry) 0) to
-      → (h .entry < length P) × Going T P (set (set S (2 * h .entry) (h .inner)) (2 * h .entry + 1) (h .item)) (spot to (h .entry + 1) (h .place) (h .entry + 1)) F e₁ i₁
+      → (h .entry < length P) × Going T P (set (set S (2 * h .entry) (h .inner)) (2 * h .entry + 1) (h .item)) (spot to (h .entry + 1) (h .place .0) (h .entry + 1)) F e₁ i₁
   going-enter G k k₄ to found = go (seen (G .walk)) (G .walk)
     where
-      go : {row : Row} {ss : List Symbol} {j : ℕ} → View T (G .r) (G .g) (G .starts) (h .item) (h .place) j row ss → Walk T P (G .r) F (G .g) (G .starts) e₁ i₁ h row ss (G .fs)
-          → (h .entry < length P) × Going T P (set (set S (2 * h .entry) (h .inner)) (2 * h .entry + 1) (h .item)) (spot to (h .entry + 1) (h .place) (h .entry + 1)) F e₁ i₁
+      go : {row : Row} {ss : List Symbol} {j : ℕ} → View T (G .r) (G .g) (G .starts) (h .item) (h .place .0) j row ss → Walk T P (G .r) F (G .g) (G .starts) e₁ i₁ h row ss (G .fs)
+          → (h .entry < length P) × Going T P (set (set S (2 * h .entry) (h .inner)) (2 * h .entry + 1) (h .item)) (spot to (h .entry + 1) (h .place .0) (h .entry + 1)) F e₁ i₁
       go (v-end q k′) W = absurd (omega arith)
       go (v-leaf k′ q R f d) W = absurd (omega arith)
       go (v-node {s = s} {ss = ss} {a = n} {m = m} {c = c} {t = t} l k′ st b′ dc dt) W =
@@ -89,13 +89,13 @@ module _ {T P S F : List ℕ} {h : Position} {e₁ i₁ : ℕ} where
 
   -- the end of a node
   pub going-leave : Going T P S h F e₁ i₁ → 5 ≤ kindAt T (h .item) → 0 < h .inner → (u p : ℕ) → u ≡ getD S (2 * (h .inner - 1)) 0 → p ≡ getD S (2 * (h .inner - 1) + 1) 0
-      → (u < h .inner) × Going T P (set (set S (2 * (h .inner - 1)) (h .entry)) (2 * (h .inner - 1) + 1) (h .place)) (spot (p + 1) (h .entry) (h .place) u) F e₁ i₁
+      → (u < h .inner) × Going T P (set (set S (2 * (h .inner - 1)) (h .entry)) (2 * (h .inner - 1) + 1) (h .place .0)) (spot (p + 1) (h .entry) (h .place .0) u) F e₁ i₁
   going-leave G k some u p ue pe = go (seen (G .walk)) (G .walk .chain) (G .walk) (G .scratch)
     where
-      go : {row : Row} {ss : List Symbol} {fs : List Frame} {n j j′ : ℕ} → View T (G .r) (G .g) (G .starts) (h .item) (h .place) j row ss
+      go : {row : Row} {ss : List Symbol} {fs : List Frame} {n j j′ : ℕ} → View T (G .r) (G .g) (G .starts) (h .item) (h .place .0) j row ss
           → Chain T (G .r) F (G .g) (G .starts) e₁ i₁ fs (h .inner) n j′
           → Walk T P (G .r) F (G .g) (G .starts) e₁ i₁ h row ss fs → S ≡ opened fs (G .under)
-          → (u < h .inner) × Going T P (set (set S (2 * (h .inner - 1)) (h .entry)) (2 * (h .inner - 1) + 1) (h .place)) (spot (p + 1) (h .entry) (h .place) u) F e₁ i₁
+          → (u < h .inner) × Going T P (set (set S (2 * (h .inner - 1)) (h .entry)) (2 * (h .inner - 1) + 1) (h .place .0)) (spot (p + 1) (h .entry) (h .place .0) u) F e₁ i₁
       go (v-leaf k′ q R f d) c W e = absurd (omega arith)
       go (v-node l k′ st b c′ d) c W e = absurd (omega arith)
       go (v-end q k′) (bottom x y z) W e = absurd (omega arith)
@@ -122,13 +122,13 @@ module _ {T P S F : List ℕ} {h : Position} {e₁ i₁ : ℕ} where
               fs = fs;
               under = U;
               walk = rw (u′, p′) (walk-leave W);
-              scratch = rw (j, e) (opened-back (W .chain) U (h .entry) (h .place) a b);
+              scratch = rw (j, e) (opened-back (W .chain) U (h .entry) (h .place .0) a b);
               noted = G .noted;
               room = simp length-set room;
             },
           )
 
-  pub going-over : Going T P S h F e₁ i₁ → Over T h → (h .entry ≡ e₁) × (h .place ≡ i₁) × ((k : ℕ) → k < 2 * e₁ → getD F k 0 ≡ getD S k 0)
+  pub going-over : Going T P S h F e₁ i₁ → Over T h → (h .entry ≡ e₁) × (h .place .0 ≡ i₁) × ((k : ℕ) → k < 2 * e₁ → getD F k 0 ≡ getD S k 0)
   going-over G o =
       let w = walk-over (G .walk) o in
       let e = w .3 in
@@ -137,7 +137,7 @@ module _ {T P S F : List ℕ} {h : Position} {e₁ i₁ : ℕ} where
 
 -- the steps, with the weight that falls
 module _ {T P S F₀ : List ℕ} {h : Position} {e₀ i₀ : ℕ} (G₀ : Going T P S h F₀ e₀ i₀) where
-  pub stepped-leaf : kindAt T (h .item) ≡ 1 → (w : ℕ) → Wide T (tokenAt T (h .item)) w → Stepped T P S S h (spot (h .item + 1) (h .entry) (h .place + w) (h .inner))
+  pub stepped-leaf : kindAt T (h .item) ≡ 1 → (w : ℕ) → Wide T (tokenAt T (h .item)) w → Stepped T P S S h (spot (h .item + 1) (h .entry) (h .place .0 + w) (h .inner))
   stepped-leaf k w wide = record {
     goes = λ F e₁ i₁ G. going-leaf G k w wide;
     falls = falls-on ((length P - h .entry) * (length P + 1) + h .inner) (length T) (h .item) (item-inside (G₀ .walk));
@@ -149,7 +149,7 @@ module _ {T P S F₀ : List ℕ} {h : Position} {e₀ i₀ : ℕ} (G₀ : Going 
       let inside = going-enter-inside (seen W) W in
       record { room = omega (arith, G₀ .room); item = omega (arith, item-inside W, W .table); inner = omega (arith, W .deep, W .entries) }
     where
-      going-enter-inside : {row : Row} {ss : List Symbol} {j : ℕ} → View T (G₀ .r) (G₀ .g) (G₀ .starts) (h .item) (h .place) j row ss
+      going-enter-inside : {row : Row} {ss : List Symbol} {j : ℕ} → View T (G₀ .r) (G₀ .g) (G₀ .starts) (h .item) (h .place .0) j row ss
           → Walk T P (G₀ .r) F₀ (G₀ .g) (G₀ .starts) e₀ i₀ h row ss (G₀ .fs) → h .entry < length P
       going-enter-inside (v-end q k′) W = absurd (omega arith)
       going-enter-inside (v-leaf k′ q R f d) W = absurd (omega arith)
@@ -255,7 +255,7 @@ going-begin {S = S} {g = g} {r = r} room B N = record {
 
 -- all are noted, and then the first
 pub going-end : {T P S : List ℕ} {g : Grammar} {r : Text} {item : ℕ} {t : Row} {h : Position} (B : Begins T P r S g item t) (S′ : List ℕ) (N : Has (getD S 0 0) (getD S 1 0) (B .tree .children))
-    → Going T P S′ h (N .list) (1 + length (leftParse (B .tree .children))) (length r) → Over T h → Noted (set (set S′ 0 (h .entry)) 1 (h .place)) 0 t
+    → Going T P S′ h (N .list) (1 + length (leftParse (B .tree .children))) (length r) → Over T h → Noted (set (set S′ 0 (h .entry)) 1 (h .place .0)) 0 t
 going-end {P = P} {h = h} B S′ N G o =
     let v = going-over G o in
     let c = B .tree .children in
@@ -264,15 +264,15 @@ going-end {P = P} {h = h} B S′ N G o =
     let n = v .0 in
     let l = length-set S′ 0 (h .entry) in
     let two : 2 ≤ length S′ = omega arith in
-    let e : getD (set (set S′ 0 (h .entry)) 1 (h .place)) 0 0 ≡ h .entry = getD-set-other (set S′ 0 (h .entry)) 1 0 (h .place) 0
+    let e : getD (set (set S′ 0 (h .entry)) 1 (h .place .0)) 0 0 ≡ h .entry = getD-set-other (set S′ 0 (h .entry)) 1 0 (h .place .0) 0
     (λ e. omega arith) ∙ getD-set-same S′ 0 (h .entry) 0 (omega arith) in
-    let i : getD (set (set S′ 0 (h .entry)) 1 (h .place)) 1 0 ≡ h .place = getD-set-same (set S′ 0 (h .entry)) 1 (h .place) 0 (omega arith) in
+    let i : getD (set (set S′ 0 (h .entry)) 1 (h .place .0)) 1 0 ≡ h .place .0 = getD-set-same (set S′ 0 (h .entry)) 1 (h .place .0) 0 (omega arith) in
     let z : 0 + 1 + length (leftParse c) ≡ 1 + length (leftParse c) = omega arith in
     rw (B .tree .is) (
       e ∙ n ∙ sym z,
       i ∙ v .1,
-      noted-same (N .list) (set (set S′ 0 (h .entry)) 1 (h .place)) 1 c
-          (λ k a b. v .2 k b ∙ sym (getD-set-other (set S′ 0 (h .entry)) 1 k (h .place) 0 (λ e. omega arith)
+      noted-same (N .list) (set (set S′ 0 (h .entry)) 1 (h .place .0)) 1 c
+          (λ k a b. v .2 k b ∙ sym (getD-set-other (set S′ 0 (h .entry)) 1 k (h .place .0) 0 (λ e. omega arith)
           ∙ getD-set-other S′ 0 k (h .entry) 0 (λ e. omega arith))) (N .noted),
       tt,
     )

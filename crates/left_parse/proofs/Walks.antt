@@ -18,7 +18,7 @@ use Rattle.left_parse.proofs.Scratch.{innermost, outer}
 use Rattle.left_parse.proofs.Items.{View, v-end, v-leaf, v-node, view, next-spells, first-stands, spells-kind, in-table}
 
 abbrev pub spot : ℕ → ℕ → ℕ → ℕ → Position
-spot p e i n = record { item = p; entry = e; place = i; inner = n }
+spot p e i n = record { item = p; entry = e; place = record { 0 = i }; inner = n }
 
 pub list-head : (p : List ℕ) (at a : ℕ) (xs : List ℕ) → drop at p ≡ a ∷ xs → (at < length p) × (getD p at 0 ≡ a) × (drop (at + 1) p ≡ xs)
 list-head p at a xs e =
@@ -63,13 +63,13 @@ abbrev pub frame : Position → Symbol → Row → List Symbol → ℕ → ℕ �
 frame h s t ss m to = record { entry = h .entry; link = h .inner; item = h .item; symbol = s; row = t; symbols = ss; from = m; to = to }
 
 module _ {T P S : List ℕ} {r : Text} {g : Grammar} {starts : Starts} {e₁ i₁ : ℕ} where
-  pub seen : {h : Position} {row : Row} {ss : List Symbol} {fs : List Frame} (W : Walk T P r S g starts e₁ i₁ h row ss fs) → View T r g starts (h .item) (h .place) (W .to) row ss
+  pub seen : {h : Position} {row : Row} {ss : List Symbol} {fs : List Frame} (W : Walk T P r S g starts e₁ i₁ h row ss fs) → View T r g starts (h .item) (h .place .0) (W .to) row ss
   seen W = view (W .spells) (W .derives)
 
   pub item-inside : {h : Position} {row : Row} {ss : List Symbol} {fs : List Frame} → Walk T P r S g starts e₁ i₁ h row ss fs → h .item < length T
   item-inside {h} W = in-table T (h .item) (spells-kind (W .spells))
 
-  pub place-inside : {h : Position} {row : Row} {ss : List Symbol} {fs : List Frame} (W : Walk T P r S g starts e₁ i₁ h row ss fs) → (h .place ≤ W .to) × (W .to ≤ length r)
+  pub place-inside : {h : Position} {row : Row} {ss : List Symbol} {fs : List Frame} (W : Walk T P r S g starts e₁ i₁ h row ss fs) → (h .place .0 ≤ W .to) × (W .to ≤ length r)
   place-inside W = (forward g r (W .derives), omega (arith, chain-last (W .chain), W .last))
 
   pub node-last : {h : Position} {a m : ℕ} {c t : Row} {s : Symbol} {ss : List Symbol} {fs : List Frame} → Walk T P r S g starts e₁ i₁ h (node a m c t) (s ∷ ss) fs → m ≤ length r
@@ -132,7 +132,7 @@ module _ {T P S : List ℕ} {r : Text} {g : Grammar} {starts : Starts} {e₁ i�
 
   pub walk-enter : {h : Position} {a m : ℕ} {c t : Row} {s : Symbol} {ss : List Symbol} {fs : List Frame} (W : Walk T P r S g starts e₁ i₁ h (node a m c t) (s ∷ ss) fs)
       → (p : ℕ) → Spells T g starts p (alternative g s a)
-      → Walk T P r S g starts e₁ i₁ (spot p (h .entry + 1) (h .place) (h .entry + 1)) c (alternative g s a)
+      → Walk T P r S g starts e₁ i₁ (spot p (h .entry + 1) (h .place .0) (h .entry + 1)) c (alternative g s a)
       (frame h s t ss m (W .to) ∷ fs)
   walk-enter {h} {a} {m} {c} {t} {s} {ss} {fs} W p sp =
       let n = node-list W in
@@ -165,11 +165,11 @@ module _ {T P S : List ℕ} {r : Text} {g : Grammar} {starts : Starts} {e₁ i�
       }
 
   -- the innermost open node ends here
-  pub node-ends : {h : Position} {f : Frame} {fs : List Frame} → Walk T P r S g starts e₁ i₁ h end [] (f ∷ fs) → Link T r S g starts f (h .inner) (h .entry) (h .place)
+  pub node-ends : {h : Position} {f : Frame} {fs : List Frame} → Walk T P r S g starts e₁ i₁ h end [] (f ∷ fs) → Link T r S g starts f (h .inner) (h .entry) (h .place .0)
   node-ends {h} W = rw (end-place (W .derives)) (rw (add-zero (h .entry)) at (innermost (W .chain)))
 
   pub walk-leave : {h : Position} {f : Frame} {fs : List Frame} → Walk T P r S g starts e₁ i₁ h end [] (f ∷ fs)
-      → Walk T P r S g starts e₁ i₁ (spot (f .item + 1) (h .entry) (h .place) (f .link)) (f .row) (f .symbols) fs
+      → Walk T P r S g starts e₁ i₁ (spot (f .item + 1) (h .entry) (h .place .0) (f .link)) (f .row) (f .symbols) fs
   walk-leave {h} {f} {fs} W =
       let L = node-ends W in
       record {
@@ -191,7 +191,7 @@ module _ {T P S : List ℕ} {r : Text} {g : Grammar} {starts : Starts} {e₁ i�
 
   -- the end of all
   pub walk-over : {h : Position} {row : Row} {ss : List Symbol} {fs : List Frame} → Walk T P r S g starts e₁ i₁ h row ss fs → Over T h
-      → (row ≡ end) × (ss ≡ []) × (fs ≡ []) × (h .entry ≡ e₁) × (h .place ≡ i₁)
+      → (row ≡ end) × (ss ≡ []) × (fs ≡ []) × (h .entry ≡ e₁) × (h .place .0 ≡ i₁)
   walk-over {h} W o = over-row {e = h .entry} (seen W) (o .0) (o .1) (W .chain)
 
 -- the weight falls

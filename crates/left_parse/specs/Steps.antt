@@ -45,10 +45,10 @@ pub record Leaves (S : List ℕ) (h : Position) : Type 0 where
   pub some : 0 < h .inner
   pub room : 2 * h .inner ≤ length S
   pub entry : h .entry < 4294967296
-  pub place : h .place < 4294967296
+  pub place : h .place .0 < 4294967296
 
 pub record Left (S S' : List ℕ) (h r : Position) : Type 0 where
-  pub scratch : S' ≡ set (set S (2 * (h .inner - 1)) (h .entry)) (2 * (h .inner - 1) + 1) (h .place)
+  pub scratch : S' ≡ set (set S (2 * (h .inner - 1)) (h .entry)) (2 * (h .inner - 1) + 1) (h .place .0)
   pub spot : r ≡ record { item = getD S (2 * (h .inner - 1) + 1) 0 + 1; entry = h .entry; place = h .place; inner = getD S (2 * (h .inner - 1)) 0 }
 
 -- a token that holds a name stands at a place
@@ -59,17 +59,17 @@ pub record Named (T : List ℕ) (token first : ℕ) (n : Text) : Type 0 where
 pub record Small (h : Position) : Type 0 where
   pub item : h .item < 4294967296
   pub entry : h .entry < 4294967296
-  pub place : h .place < 4294967296
+  pub place : h .place .0 < 4294967296
 
 -- over a terminal
 pub record Skipped (T : List ℕ) (h r : Position) : Type 0 where
   pub w : ℕ
   pub wide : Wide T (tokenAt T (h .item)) w
-  pub spot : r ≡ record { item = h .item + 1; entry = h .entry; place = h .place + w; inner = h .inner }
+  pub spot : r ≡ record { item = h .item + 1; entry = h .entry; place = record { 0 = h .place .0 + w }; inner = h .inner }
 
 -- over a node, by its notes
 abbrev pub jumped : List ℕ → Position → Position
-jumped S h = record { item = h .item + 1; entry = getD S (2 * h .entry) 0; place = getD S (2 * h .entry + 1) 0; inner = h .inner }
+jumped S h = record { item = h .item + 1; entry = getD S (2 * h .entry) 0; place = record { 0 = getD S (2 * h .entry + 1) 0 }; inner = h .inner }
 
 -- before the children of a node, as a walk of its own
 pub record Inside (T P : List ℕ) (h r : Position) : Type 0 where

@@ -58,7 +58,7 @@ pub record Walk (T P : List ℕ) (r : Text) (S : List ℕ) (g : Grammar) (starts
   pub more : List ℕ
   pub rules : (x : ℕ) (s : Symbol) → Among x s starts → Alternatives T g starts x (alts g s)
   pub spells : Spells T g starts (h .item) ss
-  pub derives : Derives g r row ss (h .place) to
+  pub derives : Derives g r row ss (h .place .0) to
   pub noted : Noted S (h .entry) row
   pub chain : Chain T r S g starts e₁ i₁ fs (h .inner) (h .entry + length (leftParse row)) to
   pub list : drop (h .entry) P ≡ leftParse row ++ (rests fs ++ more)

@@ -10,16 +10,14 @@ ghost use Rattle.derive.specs.Derive.{Row};
 ghost use Rattle.left_parse.specs.Noted.{Noted, Parsed, Room};
 ghost use Rattle.left_parse.specs.Walk.{Over};
 ghost use Rattle.left_parse.specs.Steps.{Symbolic, Passed, Found, Enters, Entered, Leaves, Left, Small, Skipped, jumped, Inside, Going, Stepped};
-use items::kind_at;
-use items::token_at;
-use tokens::look;
+use text::CharPlace;
 
 // Where a walk stands: the item of the next symbol, the next entry, the place in the record, and one more than the innermost
 // open entry (0: none is open).
 pub struct Position {
     pub item: usize,
     pub entry: usize,
-    pub place: usize,
+    pub place: CharPlace,
     pub inner: usize,
 }
 
@@ -83,10 +81,11 @@ pub fn enter(table: &[u32], parse: &[u32], scratch: &mut [u32], h: Position) -> 
     let item = alternative(table, x, a);
     scratch[at] = h.inner as u32;
     scratch[at + NOTE_PLACE] = h.item as u32;
+    let place = h.place;
     Position {
         item,
         entry: h.entry + 1,
-        place: h.place,
+        place,
         inner: h.entry + 1,
     }
 }
@@ -99,12 +98,13 @@ pub fn leave(scratch: &mut [u32], h: Position) -> Position
     let at = NOTE_COLUMNS * (h.inner - 1);
     let link = tokens::look(scratch, at);
     let item = tokens::look(scratch, at + NOTE_PLACE);
+    let place = h.place;
     scratch[at] = h.entry as u32;
-    scratch[at + NOTE_PLACE] = h.place as u32;
+    scratch[at + NOTE_PLACE] = place.0 as u32;
     Position {
         item: item + 1,
         entry: h.entry,
-        place: h.place,
+        place,
         inner: link,
     }
 }
@@ -115,10 +115,11 @@ pub fn skip(table: &[u32], h: Position) -> Position
     ensures { λ r. ⌜ Skipped (now (table .entry)) h r ⌝ }
 {
     let w = tokens::terminal_width(table, items::token_at(table, h.item));
+    let place = h.place;
     Position {
         item: h.item + 1,
         entry: h.entry,
-        place: h.place + w,
+        place: CharPlace(place.0 + w),
         inner: h.inner,
     }
 }
@@ -133,7 +134,7 @@ pub fn jump(scratch: &[u32], h: Position) -> Position
     Position {
         item: h.item + 1,
         entry: e,
-        place: m,
+        place: CharPlace(m),
         inner: h.inner,
     }
 }
@@ -146,10 +147,11 @@ pub fn inside(table: &[u32], parse: &[u32], h: Position) -> Position
     let a = tokens::look(parse, h.entry);
     let x = items::target_at(table, h.item);
     let item = alternative(table, x, a);
+    let place = h.place;
     Position {
         item,
         entry: h.entry + 1,
-        place: h.place,
+        place,
         inner: 0,
     }
 }
@@ -172,10 +174,11 @@ fn step(table: &[u32], parse: &[u32], scratch: &mut [u32], h: Position) -> Posit
     let k = items::kind_at(table, h.item);
     if k == TERMINAL {
         let w = tokens::terminal_width(table, items::token_at(table, h.item));
+        let place = h.place;
         return Position {
             item: h.item + 1,
             entry: h.entry,
-            place: h.place + w,
+            place: CharPlace(place.0 + w),
             inner: h.inner,
         };
     }
@@ -196,12 +199,13 @@ pub fn note(table: &[u32], root: usize, parse: &[u32], scratch: &mut [u32])
     let mut h = Position {
         item,
         entry: 1,
-        place: 0,
+        place: CharPlace(0),
         inner: 0,
     };
     while more(table, h) {
         h = step(table, parse, scratch, h);
     }
+    let end = h.place;
     scratch[0] = h.entry as u32;
-    scratch[NOTE_PLACE] = h.place as u32;
+    scratch[NOTE_PLACE] = end.0 as u32;
 }

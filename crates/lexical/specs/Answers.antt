@@ -1,5 +1,5 @@
 -- What reading a word answers: the definition's answer on the text from the place on, and what the table holds.
-use mathlib.Core.Bool.{Bool, _&&_}
+use mathlib.Core.Bool.{Bool, true, false, _&&_}
 use mathlib.Core.Path.{_≡_}
 use mathlib.Core.List.{List, [], _∷_, _++_}
 use Prim.Native.Nat.{ℕ, _+_, _-_, _<_, _≤_}
@@ -7,7 +7,8 @@ use lib.ListN.{length, take, drop, set}
 use Rattle.text.specs.Lists.{Text}
 use Rattle.tree.specs.Tree.{Mark, Chars, string, hex}
 use Rattle.tree.specs.Tokens.{markNumber, capped, counted}
-use Rattle.syntax.specs.Result.{Result, ok, fail, map}
+use Rattle.syntax.specs.Syntax.{namestart}
+use Rattle.syntax.specs.Result.{Result, ok, fail, map, hd}
 use Rattle.syntax.specs.Spacing.{skip}
 use Rattle.syntax.specs.Lexical.{read-chars, read-mark, run, ending, last-dot}
 use Rattle.spacing.specs.declared.Step.{Step}
@@ -37,6 +38,15 @@ pub record Copied (E : Result Text → Type 0) (s : Text) (p n : ℕ) (o : List 
 abbrev pub After-copy : (Result Text → Type 0) → Text → ℕ → ℕ → List ℕ → ℕ → Step → List ℕ → Type 0
 After-copy E s p n o at (At q b) o' = Copied E s p n o at o' (q .0) (b .0)
 After-copy E s p n o at No o' = E fail
+
+-- the characters of a name that begins at p, from the second cell after at on
+pub record Named (s : Text) (p : ℕ) (o : List ℕ) (at : ℕ) (o' : List ℕ) (q b : ℕ) : Type 0 where
+  pub starts : namestart (hd (drop p s)) ≡ true
+  pub copied : Copied (λ x. run (drop p s) ≡ x) s p 0 o (at + 2) o' q b
+
+abbrev pub After-run : Text → ℕ → List ℕ → ℕ → Step → List ℕ → Type 0
+After-run s p o at (At q b) o' = Named s p o at o' (q .0) (b .0)
+After-run s p o at No o' = namestart (hd (drop p s)) ≡ false
 
 -- a hex number read from p to q
 pub record Hexed (E : Result ℕ → Type 0) (s : Text) (p q v : ℕ) : Type 0 where

@@ -14,6 +14,7 @@ ghost use Rattle.lexical.specs.Answers.{Space, After-chars, Headable, To
 use crate::numbers::hex;
 use crate::strings::string;
 use decode::CharPlace;
+use decode::after;
 use spacing::Cell;
 use spacing::NUMBER_SIGN;
 use spacing::Past;
@@ -132,8 +133,7 @@ pub fn mark(text: &[u32], p: CharPlace) -> Marked
     if !is_mark(c) {
         return Marked::At(p, 0);
     }
-    let i = p.0;
-    let Past::At(q) = skip(text, CharPlace(i + 1)) else {
+    let Past::At(q) = skip(text, after(p)) else {
         return Marked::No;
     };
     Marked::At(q, mark_number(c))

@@ -4,10 +4,11 @@ ghost use Prim.Native.Nat.{_-_, _<_, _≤_};
 ghost use lib.ListN.{length, drop};
 ghost use Rattle.syntax.specs.Lexical.{run, read-name, read-use, ended as Ended};
 ghost use Rattle.spacing.specs.Answers.{Room};
-ghost use Rattle.lexical.specs.Answers.{Space, Copied, After-name, Stops};
+ghost use Rattle.lexical.specs.Answers.{Space, Copied, After-run, After-name, Stops};
 use crate::Run;
 use crate::head;
 use decode::CharPlace;
+use decode::after;
 use spacing::Cell;
 use spacing::FULL_STOP;
 use spacing::Past;
@@ -23,24 +24,26 @@ fn copy_run(text: &[u32], p: CharPlace, out: &mut [u32], at: Cell) -> Run
     requires { ⌜ Space (now text) (p .0) 0 (now out) (at .0) ⌝ }
     ensures { λ r. ⌜ Copied (λ x. run (drop (p .0) (now (text .entry))) ≡ x) (now (text .entry)) (p .0) 0 (now (out .entry)) (at .0) (now (out .exit)) (r .0 .0) (r .1 .0) ⌝ }
 {
-    let mut i = p.0;
-    let mut j = at.0;
-    while i < text.len() {
+    let mut from = p;
+    let mut to = at;
+    while from.0 < text.len() {
+        let i = from.0;
         let c = text[i];
         if !name_follower(c) {
-            return Run(CharPlace(i), Cell(j));
+            return Run(from, to);
         }
+        let j = to.0;
         out[j] = c;
-        i += 1;
-        j += 1;
+        from = after(from);
+        to = Cell(j + 1);
     }
-    Run(CharPlace(i), Cell(j))
+    Run(from, to)
 }
 
-// A name at the head of a rule, as a token of a kind.
-pub fn name(text: &[u32], p: CharPlace, k: u32, out: &mut [u32], at: Cell) -> Step
+// The characters of a name, copied behind the two cells of its token's head.
+fn name_run(text: &[u32], p: CharPlace, out: &mut [u32], at: Cell) -> Step
     requires { ⌜ Room (now text) (p .0) (now out) (at .0) ⌝ }
-    ensures { λ r. ⌜ After-name read-name k (now (text .entry)) (p .0) (now (out .entry)) (at .0) r (now (out .exit)) ⌝ }
+    ensures { λ r. ⌜ After-run (now (text .entry)) (p .0) (now (out .entry)) (at .0) r (now (out .exit)) ⌝ }
 {
     if !name_start(peek(text, p)) {
         return Step::No;
@@ -49,6 +52,17 @@ pub fn name(text: &[u32], p: CharPlace, k: u32, out: &mut [u32], at: Cell) -> St
     let run = copy_run(text, p, out, Cell(j + 2));
     let q = run.0;
     let b = run.1;
+    Step::At(q, b)
+}
+
+// A name at the head of a rule, as a token of a kind.
+pub fn name(text: &[u32], p: CharPlace, k: u32, out: &mut [u32], at: Cell) -> Step
+    requires { ⌜ Room (now text) (p .0) (now out) (at .0) ⌝ }
+    ensures { λ r. ⌜ After-name read-name k (now (text .entry)) (p .0) (now (out .entry)) (at .0) r (now (out .exit)) ⌝ }
+{
+    let Step::At(q, b) = name_run(text, p, out, at) else {
+        return Step::No;
+    };
     head(out, at, k, b);
     Step::At(q, b)
 }
@@ -92,13 +106,9 @@ pub fn used_name(text: &[u32], p: CharPlace, k: u32, out: &mut [u32], at: Cell) 
     requires { ⌜ Room (now text) (p .0) (now out) (at .0) ⌝ }
     ensures { λ r. ⌜ After-name read-use k (now (text .entry)) (p .0) (now (out .entry)) (at .0) r (now (out .exit)) ⌝ }
 {
-    if !name_start(peek(text, p)) {
+    let Step::At(q, b) = name_run(text, p, out, at) else {
         return Step::No;
-    }
-    let j = at.0;
-    let run = copy_run(text, p, out, Cell(j + 2));
-    let q = run.0;
-    let b = run.1;
+    };
     let n = q.0;
     let m = b.0;
     if stops(text, p, q) {

@@ -10,6 +10,7 @@ ghost use Rattle.syntax.specs.Lexical.{read-hex, digits as Digits};
 ghost use Rattle.lexical.specs.Answers.{After-number};
 use crate::Number;
 use decode::CharPlace;
+use decode::after;
 use spacing::END;
 use spacing::digit;
 use spacing::digit_value;
@@ -32,17 +33,18 @@ fn digits(text: &[u32], p: CharPlace) -> Number
     requires { ⌜ p .0 ≤ length (now text) ⌝ }
     ensures { λ r. ⌜ After-number (λ x. Digits 0 (drop (p .0) (now (text .entry))) ≡ x) (now (text .entry)) (p .0) r ⌝ }
 {
-    let mut i = p.0;
+    let mut at = p;
     let mut v: u32 = 0;
-    while i < text.len() {
+    while at.0 < text.len() {
+        let i = at.0;
         let c = text[i];
         if !digit(c) {
-            return Number::Value(CharPlace(i), v);
+            return Number::Value(at, v);
         }
         v = next_value(v, c);
-        i += 1;
+        at = after(at);
     }
-    Number::Value(CharPlace(i), v)
+    Number::Value(at, v)
 }
 
 // The digits after the # at a place.
@@ -50,9 +52,9 @@ pub fn hex(text: &[u32], p: CharPlace) -> Number
     requires { ⌜ ch 35 (hd (drop (p .0) (now text))) ≡ true ⌝ }
     ensures { λ r. ⌜ After-number (λ x. read-hex (drop (p .0) (now (text .entry))) ≡ x) (now (text .entry)) (p .0 + 1) r ⌝ }
 {
-    let i = p.0;
-    if !digit(peek(text, CharPlace(i + 1))) {
+    let first = after(p);
+    if !digit(peek(text, first)) {
         return Number::No;
     }
-    digits(text, CharPlace(i + 1))
+    digits(text, first)
 }

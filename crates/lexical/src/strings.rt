@@ -7,6 +7,7 @@ ghost use Rattle.syntax.specs.Syntax.{quote as Quote};
 ghost use Rattle.syntax.specs.Lexical.{read-string, quoted};
 ghost use Rattle.lexical.specs.Answers.{Space, After-copy};
 use decode::CharPlace;
+use decode::after;
 use spacing::Cell;
 use spacing::Step;
 use spacing::peek;
@@ -18,24 +19,27 @@ fn copy_quoted(text: &[u32], p: CharPlace, q: u32, out: &mut [u32], at: Cell) ->
     requires { ⌜ Space (now text) (p .0) 0 (now out) (at .0) × (Quote q ≡ true) ⌝ }
     ensures { λ r. ⌜ After-copy (λ x. quoted q (drop (p .0) (now (text .entry))) false ≡ x) (now (text .entry)) (p .0) 1 (now (out .entry)) (at .0) r (now (out .exit)) ⌝ }
 {
-    let mut i = p.0;
-    let mut j = at.0;
-    while i < text.len() {
+    let mut from = p;
+    let mut to = at;
+    while from.0 < text.len() {
+        let i = from.0;
+        let j = to.0;
         let c = text[i];
+        let next = after(from);
         if c == q {
-            if peek(text, CharPlace(i + 1)) != q {
-                return Step::At(CharPlace(i + 1), Cell(j));
+            if peek(text, next) != q {
+                return Step::At(next, to);
             }
             out[j] = q;
-            i += 2;
-            j += 1;
+            from = after(next);
+            to = Cell(j + 1);
         } else {
             if !plain(q, c) {
                 return Step::No;
             }
             out[j] = c;
-            i += 1;
-            j += 1;
+            from = next;
+            to = Cell(j + 1);
         }
     }
     Step::No
@@ -50,13 +54,10 @@ pub fn string(text: &[u32], p: CharPlace, out: &mut [u32], at: Cell) -> Step
     if !quote(q) {
         return Step::No;
     }
-    let i = p.0;
-    let j = at.0;
-    let Step::At(u, b) = copy_quoted(text, CharPlace(i + 1), q, out, at) else {
+    let Step::At(u, b) = copy_quoted(text, after(p), q, out, at) else {
         return Step::No;
     };
-    let m = b.0;
-    if m == j {
+    if b.0 == at.0 {
         return Step::No;
     }
     Step::At(u, b)

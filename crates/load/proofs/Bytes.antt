@@ -10,25 +10,27 @@ use lib.ListN.{length, take, drop, length-append}
 use lib.Seq.{take-all, take-at}
 use Rattle.text.specs.Limits.{grammarBytes, grammarTable, mostSize}
 use Rattle.text.specs.Lists.{Text, all, pick}
+use Rattle.text.specs.Stages.{StageAnswer, Settles}
 use Rattle.text.specs.Utf8.{Utf8, utf8, utf8s, unmarked, known}
 use Rattle.text.specs.Decode.{Decoded, text, not-utf8, decode}
+use Rattle.text.specs.Faults.{afterMark}
 use Rattle.text.proofs.Decode.{some-bytes, decode-sound}
 use Rattle.tree.specs.Tree.{Grammar}
 use Rattle.syntax.specs.Parser.{Parsed, parsed, no-parse, parse}
 use Rattle.answer.specs.Compute.{Test, firstOf, treeOf, grammarTests, mismatch}
 use Rattle.answer.proofs.Stages.{stage-1, stage-2, stage-3, stage-4, stage-static, tree-is, mismatch-is}
 use Rattle.decode.specs.declared.Decoding.{Decoding}
-use Rattle.decode.specs.declared.Decoding.the-variants.{Of, NotUtf8, Unknown}
-use Rattle.decode.specs.declared.CharPlace.{CharPlace}
+use Rattle.decode.specs.declared.Decoding.the-variants.{Of, CutShort, Malformed, Unknown}
+use Rattle.text.specs.declared.CharPlace.{CharPlace}
 use denote.Enum.Declared.{tagOf}
 use types.Run.{OneOf}
 use Rattle.decode.proofs.Decoding.{the-type}
-use Rattle.decode.specs.Whole.{Decodes, unmark, over}
-use Rattle.decode.proofs.Answers.{Tells, tells-of, tells-not, tells-unknown, told}
+use Rattle.decode.specs.Scan.{over}
+use Rattle.decode.specs.Whole.{Decodes, unmark}
+use Rattle.decode.proofs.Answers.{Tells, tells-of, tells-cut, tells-malformed, tells-unknown, Told, told-grammar}
 use Rattle.load.specs.declared.Passed.{Passed}
-use Rattle.load.specs.declared.Judged.{Judged}
-use Rattle.load.specs.declared.Judged.the-variants.{Grammar as Accepted, Refused}
-use Rattle.load.specs.Judged.{Stands, Passes, Refuses, judgeTests}
+use Rattle.load.specs.declared.Loaded.{Loaded}
+use Rattle.load.specs.Checked.{stageOf}
 use Rattle.load.specs.Loaded.{Roomy, Reads, reads-none, reads-refused, reads-grammar, Turned, Kept, Loads, whyOf}
 
 -- no more characters than bytes
@@ -78,13 +80,16 @@ no-text bs e = go (decode bs) refl e
     go (text ds) q f = absurd (let z : _≡_ {A = ℕ} 0 1 = cc in omega arith)
     go not-utf8 q f = refl
 
-module _ (bs old new : List ℕ) (r : Decoding) (w : Decodes (unmark (decode bs)) old r new) where
+module _ (bs old new : List ℕ) (r : Decoding) (w : Decodes bs (afterMark bs) old r new) where
+  told : Told (unmark (decode bs)) old r new
+  told = told-grammar bs w
+
   pub got : (k : CharPlace) → r ≡ Of k → length bs ≤ 4096 → length old ≡ 4096 → Got bs new (k .0)
-  got k e l o = go (told w) e
+  got k e l o = go (told .tells) e
     where
       stored-at : (cs : Text) → unmark (decode bs) ≡ text cs → length cs ≤ length bs → take (length cs) new ≡ cs
       stored-at cs q f =
-          let s : new ≡ over cs old = w .stored cs q in
+          let s : new ≡ over cs old = told .stored cs q in
           let t : take (length old) cs ≡ cs = take-all (length old) cs (omega arith) in
           rw (s, t) (take-at cs (drop (length cs) old) (length cs) refl)
 
@@ -103,16 +108,18 @@ module _ (bs old new : List ℕ) (r : Decoding) (w : Decodes (unmark (decode bs)
             few = omega arith;
             stored = rw m (stored-at (x .chars) (x .is) (omega arith)) ∙ u .is;
           }
-      go (tells-not x) q = absurd (let z : _≡_ {A = ℕ} 0 1 = cc in omega arith)
+      go (tells-cut x) q = absurd (let z : _≡_ {A = ℕ} 0 1 = cc in omega arith)
+      go (tells-malformed x) q = absurd (let z : _≡_ {A = ℕ} 0 1 = cc in omega arith)
       go (tells-unknown x) q = absurd (let z : _≡_ {A = ℕ} 0 1 = cc in omega arith)
 
   -- a text that is not decoded is refused
   pub turned : length bs ≤ 4096 → (whyOf r ≡ 0 → ⊥) → Turned bs (whyOf r)
-  turned l h = go (told w) h
+  turned l h = go (told .tells) h
     where
       go : {d : Decoding} → Tells (unmark (decode bs)) d → (whyOf d ≡ 0 → ⊥) → Turned bs (whyOf d)
       go (tells-of x) z = absurd (z refl)
-      go (tells-not x) z = record { some = z; first = λ ts. stage-2 bs ts l (no-text bs x) }
+      go (tells-cut x) z = record { some = z; first = λ ts. stage-2 bs ts l (no-text bs x) }
+      go (tells-malformed x) z = record { some = z; first = λ ts. stage-2 bs ts l (no-text bs x) }
       go (tells-unknown x) z =
           let u = unmarked-text bs (x .chars) (x .is) in
           record { some = z; first = λ ts. stage-3 bs ts l (u .chars) (u .decoded) (ap (all known) (sym (u .is)) ∙ x .outside) }
@@ -126,10 +133,10 @@ four-not e = omega arith
 pub too-long : (bs : List ℕ) → 4096 < length bs → Turned bs 1
 too-long bs l = record { some = one-not; first = λ ts. stage-1 bs ts l }
 
-pub loaded : (bs new T : List ℕ) (n : ℕ) → length bs ≤ 4096 → Got bs new n → (r : Judged) → Reads (take n new) T r → Loads bs T r
-loaded bs new T n l d r h = go r (subst (λ (s : Text). Reads s T r) (d .stored) h)
+pub loaded : (bs new T : List ℕ) (n : ℕ) → length bs ≤ 4096 → Got bs new n → (r : Loaded) → Reads (take n new) T (stageOf r) → Loads bs T r
+loaded bs new T n l d r h = go (stageOf r) (subst (λ (s : Text). Reads s T (stageOf r)) (d .stored) h)
   where
-    go : (r : Judged) → Reads (unmarked (d .chars)) T r → Loads bs T r
+    go : (a : StageAnswer Passed ℕ) → Reads (unmarked (d .chars)) T a → Settles (Kept bs T) (Turned bs) a
     go _ (reads-none e) = record { some = four-not; first = λ ts. stage-4 bs ts l (d .chars) (d .decoded) (d .within) e }
     go _ (reads-refused f) =
         record { some = f .refuses .some; first = λ ts. stage-static bs ts l (d .chars) (d .decoded) (d .within) (f .tree) (f .parse) ∙ f .refuses .first ts }
@@ -153,10 +160,11 @@ pub roomy : (bs new T : List ℕ) (n : ℕ) → Got bs new n → length T ≡ gr
 roomy bs new T n d t = let s = ap length (d .stored) in let c = d .count in let f = d .few in record { chars = omega arith; table = t }
 
 -- an answer that is no text has a refusal
-pub some-refusal : (d : Decoding) → OneOf (1 ∷ 2 ∷ []) (tagOf the-type d) → whyOf d ≡ 0 → ⊥
-some-refusal (Of n) h e = ⊎-elim (λ q. omega arith) (λ q. omega arith) h
-some-refusal NotUtf8 h e = omega arith
-some-refusal Unknown h e = omega arith
+pub some-refusal : (d : Decoding) → OneOf (1 ∷ 2 ∷ 3 ∷ []) (tagOf the-type d) → whyOf d ≡ 0 → ⊥
+some-refusal (Of n) h e = ⊎-elim (λ q. omega arith) (λ k. ⊎-elim (λ q. omega arith) (λ q. omega arith) k) h
+some-refusal (CutShort p) h e = omega arith
+some-refusal (Malformed p) h e = omega arith
+some-refusal (Unknown p) h e = omega arith
 
 pub whole-part : (bs new : List ℕ) (n : ℕ) → Got bs new n → n ≡ length (take n new)
 whole-part bs new n d = let s = ap length (d .stored) in let c = d .count in omega arith

@@ -7,6 +7,7 @@ use native.Mathlib.Omega.{arith}
 use lib.ListN.{length, take}
 use Rattle.text.specs.Limits.{grammarBytes, grammarTable}
 use Rattle.text.specs.Lists.{Text}
+use Rattle.text.specs.Stages.{refused}
 use Rattle.tree.specs.Tree.{Grammar}
 use Rattle.syntax.specs.Parser.{Parsed, parsed, no-parse, parse}
 use Rattle.syntax.proofs.Sound.{sound}
@@ -15,16 +16,16 @@ use Rattle.reader.specs.declared.Reading.{Reading}
 use Rattle.reader.specs.declared.Reading.the-variants.{Grammar as A-grammar, NoGrammar}
 use Rattle.reader.specs.Answers.{Readable, Held, Read-as}
 use Rattle.load.specs.declared.Passed.{Passed}
-use Rattle.load.specs.declared.Judged.{Judged}
-use Rattle.load.specs.declared.Judged.the-variants.{Grammar as Accepted, Refused}
-use Rattle.load.specs.Judged.{Stands, Standing, Judges, Passes}
+use Rattle.load.specs.declared.Loaded.{Loaded}
+use Rattle.load.specs.declared.Loaded.the-variants.{Grammar as Accepted, Refused}
+use Rattle.load.specs.Checked.{Stands, Standing, TreeChecked, Passes, stageOf}
 use Rattle.load.specs.Loaded.{Roomy, Reads, reads-none, reads-refused, reads-grammar}
 
 pub readable : (s : Text) (T : List ℕ) → Roomy s T → Readable s T
 readable s T r = let a = r .chars in let b = r .table in record { room = omega arith; few = omega arith }
 
-pub no-tree : (s : Text) (T : List ℕ) (x : Reading) → x ≡ NoGrammar → Read-as s x T → Reads s T (Refused 4)
-no-tree s T x e h = reads-none (subst (λ (y : Reading). Read-as s y T) e h)
+pub no-tree : (s : Text) (T : List ℕ) (x : Reading) → x ≡ NoGrammar → Read-as s x T → Reads s T (refused 4)
+no-tree s T x e h = reads-none (subst (λ (y : Reading). Read-as s y T) e h .none)
 
 held : (s : Text) (T : List ℕ) (x : Reading) (b : Cell) → x ≡ A-grammar b → Read-as s x T → Held s T (b .0)
 held s T x b e h = subst (λ (y : Reading). Read-as s y T) e h
@@ -38,8 +39,8 @@ standing s T x b e h l n =
     let k = w .cells in
     record { grammar = w .tree; stands = stands s T (b .0) w; within = omega arith; short = omega arith }
 
-pub judged : (s : Text) (T : List ℕ) (x : Reading) (b : Cell) → x ≡ A-grammar b → Read-as s x T → length s ≤ 4096 → (r : Judged) → Judges T (b .0) r → Reads s T r
-judged s T x b e h l (Accepted p) j =
+pub checked : (s : Text) (T : List ℕ) (x : Reading) (b : Cell) → x ≡ A-grammar b → Read-as s x T → length s ≤ 4096 → (r : Loaded) → TreeChecked T (b .0) r → Reads s T (stageOf r)
+checked s T x b e h l (Accepted p) j =
     let w = held s T x b e h in
     let q = j (w .tree) (stands s T (b .0) w) in
     let k = w .cells in
@@ -51,6 +52,6 @@ judged s T x b e h l (Accepted p) j =
       inside = omega arith;
       passes = subst (λ (n : ℕ). Passes (w .tree) n p) (sym t) q;
     })
-judged s T x b e h l (Refused n) j =
+checked s T x b e h l (Refused n) j =
     let w = held s T x b e h in
     reads-refused (record { tree = w .tree; parse = w .same; refuses = j (w .tree) (stands s T (b .0) w) })

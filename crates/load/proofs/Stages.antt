@@ -1,7 +1,7 @@
 -- The tests from 5 to 11 come to what the static rules and the size say.
 use mathlib.Core.Bool.{Bool, true, false}
 use mathlib.Core.Path.{_≡_, refl, sym, ap, _∙_}
-use mathlib.Core.List.{List, _∷_}
+use mathlib.Core.List.{List, [], _∷_}
 use Prim.Native.Nat.{ℕ, _≤_, _<_}
 use native.Mathlib.Omega.{arith}
 use lib.Dec.{ltb}
@@ -14,14 +14,17 @@ use Rattle.plain.specs.Static.{undefined, duplicate, beyond, banned, backwards,
 use Rattle.plain.specs.Plain.{size}
 use Rattle.answer.specs.Compute.{Test, test, firstOf}
 use Rattle.static_errors.specs.declared.Ruling.{Ruling}
-use Rattle.static_errors.specs.declared.Ruling.the-variants.{Kept, Broken}
-use Rattle.static_errors.specs.Held.{staticOf, rulingOf}
-use Rattle.static_errors.proofs.Rulings.{none-of, some-of}
+use Rattle.static_errors.specs.declared.Ruling.the-variants.{Kept}
+use Rattle.static_errors.specs.Held.{staticOf, ruleNumber}
+use Rattle.static_errors.proofs.Rulings.{some-rule}
+use Rattle.static_errors.proofs.Ruling.{the-type}
+use denote.Enum.Declared.{tagOf}
+use types.Run.{OneOf}
 use Rattle.static_errors.specs.Held as static
 use Rattle.tokens.specs.Lengths as tokens
 use Rattle.measure.specs.Costs as sizes
 use Rattle.load.specs.declared.Passed.{Passed}
-use Rattle.load.specs.Judged.{Stands, Standing, judgeTests, Refuses, Passes, whyBroken}
+use Rattle.load.specs.Checked.{Stands, Standing, treeTests, Refuses, Passes}
 use Rattle.load.proofs.Proper.{grammar-proper}
 use Rattle.load.proofs.Written.{written-proper}
 
@@ -61,17 +64,14 @@ static-refuses g n e h =
     }
 
 -- the same of a ruling
-pub broken : (g : Grammar) (v : Ruling) (k n : ℕ) → v ≡ Broken k → n ≡ whyBroken v → v ≡ rulingOf (staticOf g) → Refuses g n
-broken g v k n q f e =
-    let s = some-of v k (staticOf g) q e in
-    let w : n ≡ staticOf g = f ∙ ap whyBroken q ∙ s .same in
-    static-refuses g n w (λ z. s .some (sym w ∙ z))
+pub broken : (g : Grammar) (v : Ruling) (n : ℕ) → OneOf (1 ∷ 2 ∷ 3 ∷ 4 ∷ 5 ∷ 6 ∷ []) (tagOf the-type v) → n ≡ ruleNumber v → ruleNumber v ≡ staticOf g → Refuses g n
+broken g v n q f e = static-refuses g n (f ∙ e) (λ z. some-rule v q (sym f ∙ z))
 
 -- a ruling that no rule is broken
-pub kept : (g : Grammar) (v : Ruling) → v ≡ Kept → v ≡ rulingOf (staticOf g) → staticOf g ≡ 0
-kept g v q e = none-of v (staticOf g) q e
+pub kept : (g : Grammar) (v : Ruling) → v ≡ Kept → ruleNumber v ≡ staticOf g → staticOf g ≡ 0
+kept g v q e = sym e ∙ ap ruleNumber q
 
-passes-static : (g : Grammar) → staticOf g ≡ 0 → (ts : List Test) → firstOf (judgeTests g ts) ≡ firstOf (test 11 (λ _. ltb mostSize (size g)) ∷ ts)
+passes-static : (g : Grammar) → staticOf g ≡ 0 → (ts : List Test) → firstOf (treeTests g ts) ≡ firstOf (test 11 (λ _. ltb mostSize (size g)) ∷ ts)
 unfolding staticOf
 passes-static g z ts = none-passes (undefined g) (duplicate g) (beyond g) (banned g) (backwards g) (unclassed g) (test 11 (λ _. ltb mostSize (size g)) ∷ ts) z
 

@@ -1,4 +1,4 @@
--- A grammar's bytes to a judged tree in the table: refusals 1 to 11.
+-- A grammar's bytes to a checked tree in the table: refusals 1 to 11.
 use mathlib.Core.Bool.{Bool}
 use mathlib.Core.Path.{_≡_}
 use mathlib.Core.List.{List}
@@ -6,6 +6,7 @@ use Prim.Native.Nat.{ℕ, _*_, _≤_}
 use lib.ListN.{length}
 use Rattle.text.specs.Limits.{grammarBytes, grammarTable, mostSize}
 use Rattle.text.specs.Lists.{Text}
+use Rattle.text.specs.Stages.{StageAnswer, answered, refused, Settles}
 use Rattle.tree.specs.Tree.{Grammar}
 use Rattle.syntax.specs.Parser.{Parsed, parsed, no-parse, parse}
 use Rattle.plain.specs.Plain.{size}
@@ -13,11 +14,10 @@ use Rattle.plain.specs.Static.{mismatched}
 use Rattle.answer.specs.Compute.{Test, firstOf, treeOf, grammarTests, mismatch}
 use Rattle.static_errors.specs.Held.{staticOf}
 use Rattle.decode.specs.declared.Decoding.{Decoding}
-use Rattle.decode.specs.declared.Decoding.the-variants.{Of, NotUtf8, Unknown}
+use Rattle.decode.specs.declared.Decoding.the-variants.{Of, CutShort, Malformed, Unknown}
 use Rattle.load.specs.declared.Passed.{Passed}
-use Rattle.load.specs.declared.Judged.{Judged}
-use Rattle.load.specs.declared.Judged.the-variants.{Grammar as Accepted, Refused}
-use Rattle.load.specs.Judged.{Stands, Passes, Refuses, judgeTests}
+use Rattle.load.specs.declared.Loaded.{Loaded}
+use Rattle.load.specs.Checked.{Stands, Passes, Refuses, stageOf}
 
 -- the table is one that a grammar's characters have room in
 pub record Roomy (s : Text) (T : List ℕ) : Type 0 where
@@ -39,10 +39,10 @@ pub record Fails (s : Text) (n : ℕ) : Type 0 where
   pub refuses : Refuses tree n
 
 -- of characters: 4 without a tree
-pub data Reads (s : Text) (T : List ℕ) : Judged → Type 0 where
-  reads-none : parse s ≡ no-parse → Reads s T (Refused 4)
-  reads-refused : {n : ℕ} → Fails s n → Reads s T (Refused n)
-  reads-grammar : {p : Passed} → Parses s T p → Reads s T (Accepted p)
+pub data Reads (s : Text) (T : List ℕ) : StageAnswer Passed ℕ → Type 0 where
+  reads-none : parse s ≡ no-parse → Reads s T (refused 4)
+  reads-refused : {n : ℕ} → Fails s n → Reads s T (refused n)
+  reads-grammar : {p : Passed} → Parses s T p → Reads s T (answered p)
 
 -- of bytes
 pub record Turned (bs : List ℕ) (n : ℕ) : Type 0 where
@@ -60,12 +60,12 @@ pub record Kept (bs T : List ℕ) (p : Passed) : Type 0 where
   pub small : size tree ≤ mostSize
   pub static : staticOf tree ≡ 0
 
-abbrev pub Loads : List ℕ → List ℕ → Judged → Type 0
-Loads bs T (Accepted p) = Kept bs T p
-Loads bs T (Refused n) = Turned bs n
+abbrev pub Loads : List ℕ → List ℕ → Loaded → Type 0
+Loads bs T r = Settles (Kept bs T) (Turned bs) (stageOf r)
 
 -- 2 and 3 are the refusals of a text that is not decoded
 abbrev pub whyOf : Decoding → ℕ
 whyOf (Of n) = 0
-whyOf NotUtf8 = 2
-whyOf Unknown = 3
+whyOf (CutShort p) = 2
+whyOf (Malformed p) = 2
+whyOf (Unknown p) = 3

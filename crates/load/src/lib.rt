@@ -1,4 +1,4 @@
-// A grammar's bytes to its tree in a table, judged by refusals 1 to 11.
+// A grammar's bytes to its tree in a table, checked by refusals 1 to 11.
 use decode::Decoding;
 use reader::Reading;
 use static_errors::Ruling;
@@ -6,7 +6,9 @@ use text::limits;
 use text::refusals;
 ghost use mathlib.Core.Path.{_≡_};
 ghost use lib.ListN.{length};
-ghost use Rattle.load.specs.Judged.{whyBroken, Standing, Judges};
+ghost use Rattle.static_errors.specs.Held.{ruleNumber};
+ghost use Rattle.text.specs.Stages.{numberOf};
+ghost use Rattle.load.specs.Checked.{stageOf, Standing, TreeChecked};
 ghost use Rattle.load.specs.Loaded.{Roomy, Reads, Loads, whyOf};
 ghost use Rattle.text.specs.Limits.{grammarTable};
 
@@ -19,52 +21,67 @@ pub struct Passed {
     pub mismatch: bool,
 }
 
-pub enum Judged {
+pub enum Loaded {
     Grammar(Passed),
     Refused(u32),
 }
 
-// The number of the static rule that is broken.
-fn why_broken(ruling: Ruling) -> u32
-    ensures { λ r. ⌜ r ≡ whyBroken ruling ⌝ }
+// The number of what is loaded: 0, or the refusal's.
+pub fn loaded_number(loaded: Loaded) -> u32
+    ensures { λ r. ⌜ r ≡ numberOf (stageOf loaded) ⌝ }
 {
-    match ruling {
-        Ruling::Kept => refusals::ANSWERED,
-        Ruling::Broken(number) => number,
+    match loaded {
+        Loaded::Grammar(_) => refusals::ANSWERED,
+        Loaded::Refused(number) => number,
     }
 }
 
-// Judges the tree in the first numbers of the table by refusals 5 to 11.
-pub fn judge(table: &[u32], end: usize) -> Judged
+// The number of the static rule that is broken.
+fn why_broken(ruling: Ruling) -> u32
+    ensures { λ r. ⌜ r ≡ ruleNumber ruling ⌝ }
+{
+    match ruling {
+        Ruling::Kept => refusals::ANSWERED,
+        Ruling::UndefinedName => refusals::UNDEFINED_NAME,
+        Ruling::RepeatedRule => refusals::REPEATED_RULE,
+        Ruling::HexTooLarge => refusals::HEX_TOO_LARGE,
+        Ruling::HexNoCharacter => refusals::HEX_NO_CHARACTER,
+        Ruling::BackwardRange => refusals::BACKWARD_RANGE,
+        Ruling::UnknownClass => refusals::UNKNOWN_CLASS,
+    }
+}
+
+// Checks the tree in the first numbers of the table by refusals 5 to 11.
+pub fn check_tree(table: &[u32], end: usize) -> Loaded
     requires { ⌜ Standing (now table) end ⌝ }
-    ensures { λ r. ⌜ Judges (now (table .entry)) end r ⌝ }
+    ensures { λ r. ⌜ TreeChecked (now (table .entry)) end r ⌝ }
 {
     let ruling = static_errors::static_refusal(table, end);
     let Ruling::Kept = ruling else {
-        return Judged::Refused(why_broken(ruling));
+        return Loaded::Refused(why_broken(ruling));
     };
     let size = measure::grammar_size(table, end);
     if LARGEST < size {
-        return Judged::Refused(refusals::GRAMMAR_TOO_LARGE);
+        return Loaded::Refused(refusals::GRAMMAR_TOO_LARGE);
     }
     let mismatch = static_errors::version_mismatch(table, end);
-    Judged::Grammar(Passed {
+    Loaded::Grammar(Passed {
         end,
         size,
         mismatch,
     })
 }
 
-// The tree of a grammar's characters, judged.
-pub fn read_text(text: &[u32], table: &mut [u32]) -> Judged
+// The tree of a grammar's characters, checked.
+pub fn read_text(text: &[u32], table: &mut [u32]) -> Loaded
     requires { ⌜ Roomy (now text) (now table) ⌝ }
-    ensures { λ r. ⌜ Reads (now (text .entry)) (now (table .exit)) r ⌝ }
+    ensures { λ r. ⌜ Reads (now (text .entry)) (now (table .exit)) (stageOf r) ⌝ }
 {
     let read = reader::read_grammar(text, table);
     let Reading::Grammar(end) = read else {
-        return Judged::Refused(refusals::NOT_IXML);
+        return Loaded::Refused(refusals::NOT_IXML);
     };
-    judge(table, end.0)
+    check_tree(table, end.0)
 }
 
 // The refusal of a text that is not decoded.
@@ -73,23 +90,24 @@ fn why(decoded: Decoding) -> u32
 {
     match decoded {
         Decoding::Of(_) => refusals::ANSWERED,
-        Decoding::NotUtf8 => refusals::GRAMMAR_NOT_UTF8,
-        Decoding::Unknown => refusals::GRAMMAR_CHARACTER,
+        Decoding::CutShort(_) => refusals::GRAMMAR_NOT_UTF8,
+        Decoding::Malformed(_) => refusals::GRAMMAR_NOT_UTF8,
+        Decoding::Unknown(_) => refusals::GRAMMAR_CHARACTER,
     }
 }
 
-// The tree of a grammar's bytes in the table, judged by refusals 1 to 11.
-pub fn load_grammar(grammar: &[u8], table: &mut [u32]) -> Judged
+// The tree of a grammar's bytes in the table, checked by refusals 1 to 11.
+pub fn load_grammar(grammar: &[u8], table: &mut [u32]) -> Loaded
     requires { ⌜ length (now table) ≡ grammarTable ⌝ }
     ensures { λ r. ⌜ Loads (now (grammar .entry)) (now (table .exit)) r ⌝ }
 {
     if limits::GRAMMAR_BYTES < grammar.len() {
-        return Judged::Refused(refusals::GRAMMAR_TOO_LONG);
+        return Loaded::Refused(refusals::GRAMMAR_TOO_LONG);
     }
     let mut text = [0u32; limits::GRAMMAR_BYTES];
     let decoded = decode::decode_grammar(grammar, &mut text);
     let Decoding::Of(count) = decoded else {
-        return Judged::Refused(why(decoded));
+        return Loaded::Refused(why(decoded));
     };
     let n = count.0;
     read_text(&text[..n], table)

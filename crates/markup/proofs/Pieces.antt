@@ -17,6 +17,7 @@ use Rattle.tokens.proofs.Names.{held-count, held-name}
 use Rattle.left_parse.proofs.Items.{named-holding, tokens-in, first-number, reads-first, mark-number}
 use Rattle.markup.specs.Out.{enc, spelt}
 use Rattle.markup.specs.declared.Piece.{Piece}
+use Rattle.markup.specs.declared.Source.the-variants.{Table, Record}
 use Rattle.left_parse.specs.Steps.{Wide, Named}
 use Rattle.markup.specs.Pieces.{said, Says, Pieced, Headed}
 use Rattle.markup.proofs.Texts.{spelt-capped}
@@ -58,8 +59,11 @@ pub spelt-plain : (n : Text) → concatMap (spelt 0) n ≡ n
 spelt-plain [] = refl
 spelt-plain (c ∷ cs) = ap (λ (t : Text). c ∷ t) (spelt-plain cs)
 
-abbrev pub piece : Bool → ℕ → ℕ → Piece
-piece b f n = record { inserted = b; from = f; count = n }
+abbrev pub inserted : ℕ → ℕ → Piece
+inserted cell n = record { from = Table cell; count = n }
+
+abbrev pub taken : ℕ → ℕ → Piece
+taken place n = record { from = Record (record { 0 = place }); count = n }
 
 some-of : (t : Text) (n : ℕ) → length t ≡ n → (n ≡ 0 → ⊥) → 0 < length t
 some-of t n e h = omega arith
@@ -76,11 +80,11 @@ mark-deleted deleted k e z = refl
 
 module _ (T : List ℕ) (token place : ℕ) where
   -- an inserted string
-  pub pieced-quoted : getD T token 0 ≡ 29 → (n : ℕ) → n ≡ getD T (token + 1) 0 → Pieced T token place (piece true (token + 2) n)
+  pub pieced-quoted : getD T token 0 ≡ 29 → (n : ℕ) → n ≡ getD T (token + 1) 0 → Pieced T token place (inserted (token + 2) n)
   unfolding first-number
   pieced-quoted e n ne = record { says = go }
     where
-      go : (x : Terminal) (r : Text) → Reads T token (terminalTokens x) → Holds (fits x (drop place r)) → Says T r (piece true (token + 2) n) (terminalText x (stretch r place (place + width x)))
+      go : (x : Terminal) (r : Text) → Reads T token (terminalTokens x) → Holds (fits x (drop place r)) → Says T r (inserted (token + 2) n) (terminalText x (stretch r place (place + width x)))
       go (literal m (string cs)) r R f = absurd (omega (arith, reads-first T token (literal m (string cs)) R, mark-number m))
       go (literal m (hex k)) r R f = absurd (omega (arith, reads-first T token (literal m (hex k)) R, mark-number m))
       go (inclusion m ms) r R f = absurd (omega (arith, reads-first T token (inclusion m ms) R, mark-number m))
@@ -93,11 +97,11 @@ module _ (T : List ℕ) (token place : ℕ) where
           record { same = λ mode h. rw t; tests = λ f h. rw t; none = λ z. none-of cs (sym c ∙ z); some = λ z. some-of cs n (sym c) z }
 
   -- an inserted character
-  pub pieced-coded : getD T token 0 ≡ 30 → Pieced T token place (piece true (token + 1) 1)
+  pub pieced-coded : getD T token 0 ≡ 30 → Pieced T token place (inserted (token + 1) 1)
   unfolding first-number
   pieced-coded e = record { says = go }
     where
-      go : (x : Terminal) (r : Text) → Reads T token (terminalTokens x) → Holds (fits x (drop place r)) → Says T r (piece true (token + 1) 1) (terminalText x (stretch r place (place + width x)))
+      go : (x : Terminal) (r : Text) → Reads T token (terminalTokens x) → Holds (fits x (drop place r)) → Says T r (inserted (token + 1) 1) (terminalText x (stretch r place (place + width x)))
       go (literal m (string cs)) r R f = absurd (omega (arith, reads-first T token (literal m (string cs)) R, mark-number m))
       go (literal m (hex k)) r R f = absurd (omega (arith, reads-first T token (literal m (hex k)) R, mark-number m))
       go (inclusion m ms) r R f = absurd (omega (arith, reads-first T token (inclusion m ms) R, mark-number m))
@@ -108,14 +112,14 @@ module _ (T : List ℕ) (token place : ℕ) where
           record { same = λ mode h. rw t (spelt-capped mode k h); tests = λ f h. rw t (ap (λ (b : Bool). b || false) (h k)); none = λ z. absurd (omega arith); some = λ z. omega arith }
 
   -- deleted
-  pub pieced-deleted : (getD T token 0 ≡ 29 → ⊥) → (getD T token 0 ≡ 30 → ⊥) → getD T token 0 % 4 ≡ 3 → Pieced T token place (piece false place 0)
+  pub pieced-deleted : (getD T token 0 ≡ 29 → ⊥) → (getD T token 0 ≡ 30 → ⊥) → getD T token 0 % 4 ≡ 3 → Pieced T token place (taken place 0)
   unfolding first-number
   pieced-deleted a b e = record { says = go }
     where
-      none : (r t : Text) → t ≡ [] → Says T r (piece false place 0) t
+      none : (r t : Text) → t ≡ [] → Says T r (taken place 0) t
       none r t z = record { same = λ mode h. rw z; tests = λ f h. rw z; none = λ _. z; some = λ h. absurd (h refl) }
 
-      go : (x : Terminal) (r : Text) → Reads T token (terminalTokens x) → Holds (fits x (drop place r)) → Says T r (piece false place 0) (terminalText x (stretch r place (place + width x)))
+      go : (x : Terminal) (r : Text) → Reads T token (terminalTokens x) → Holds (fits x (drop place r)) → Says T r (taken place 0) (terminalText x (stretch r place (place + width x)))
       go (literal m (string cs)) r R f =
           none r (terminalText (literal m (string cs)) (stretch r place (place + length cs)))
           (rw (mark-deleted m 4 (rw (reads-first T token (literal m (string cs)) R) at e) (omega arith)))
@@ -147,11 +151,11 @@ fits-some (insertion k) u f z = absurd (z refl)
 module _ (T : List ℕ) (token place : ℕ) where
   -- of the record
   pub pieced-read : (getD T token 0 ≡ 29 → ⊥) → (getD T token 0 ≡ 30 → ⊥) → (getD T token 0 % 4 ≡ 3 → ⊥) → (w : ℕ) → Wide T token w
-      → Pieced T token place (piece false place w)
+      → Pieced T token place (taken place w)
   unfolding first-number
   pieced-read a b e w wide = record { says = go }
     where
-      part : (x : Terminal) (r : Text) (t : Text) → w ≡ width x → Holds (fits x (drop place r)) → t ≡ stretch r place (place + width x) → Says T r (piece false place w) t
+      part : (x : Terminal) (r : Text) (t : Text) → w ≡ width x → Holds (fits x (drop place r)) → t ≡ stretch r place (place + width x) → Says T r (taken place w) t
       part x r t we f te =
           let z : place + width x - place ≡ w = omega arith in
           let s : t ≡ take w (drop place r) = te ∙ ap (λ (k : ℕ). take k (drop place r)) z in
@@ -168,7 +172,7 @@ module _ (T : List ℕ) (token place : ℕ) where
       plain attribute k t z n = refl
       plain deleted k t z n = absurd (n (omega arith))
 
-      go : (x : Terminal) (r : Text) → Reads T token (terminalTokens x) → Holds (fits x (drop place r)) → Says T r (piece false place w) (terminalText x (stretch r place (place + width x)))
+      go : (x : Terminal) (r : Text) → Reads T token (terminalTokens x) → Holds (fits x (drop place r)) → Says T r (taken place w) (terminalText x (stretch r place (place + width x)))
       go (literal m (string cs)) r R f = part (literal m (string cs)) r
           (terminalText (literal m (string cs)) (stretch r place (place + length cs))) (wide .is (literal m (string cs)) R) f
           (plain m 4 (stretch r place (place + length cs)) (omega arith)

@@ -2,7 +2,7 @@
 use mathlib.Core.Path.{_≡_}
 use mathlib.Core.Bool.{Bool, true, false}
 use mathlib.Core.List.{List, [], _∷_, _++_}
-use Prim.Native.Nat.{ℕ, _+_}
+use Prim.Native.Nat.{ℕ, _+_, _/_, _%_}
 use lib.Dec.{ltb, leb, eqb}
 use lib.ListN.{length, set}
 use Rattle.text.specs.Lists.{Text, chars, pick}
@@ -28,6 +28,10 @@ puts limit s (b ∷ bs) = puts limit (put1 limit s b) bs
 unfoldable pub enc : Text → List ℕ
 enc [] = []
 enc (c ∷ cs) = utf8 (capped c) ++ enc cs
+
+-- the last two bytes of a character that has three or four
+abbrev pub lastTwo : ℕ → List ℕ
+lastTwo c = (0x80 + c / 64 % 64) ∷ (0x80 + c % 64) ∷ []
 
 -- a character in a name (0), in text (1) or in a value (2)
 abbrev pub spelt : ℕ → ℕ → Text

@@ -5,7 +5,7 @@ use mathlib.Core.List.{List, [], _∷_, _++_}
 use Prim.Native.Nat.{ℕ, _+_, _<_}
 use lib.Dec.{T as Holds}
 use lib.ListN.{length, take, drop}
-use Rattle.text.specs.Lists.{Text, any, pick, concatMap}
+use Rattle.text.specs.Lists.{Text, any, concatMap}
 use Rattle.tree.specs.Tree.{Terminal, Grammar}
 use Rattle.tree.specs.Tokens.{terminalTokens, grammarTokens, capped, markNumber}
 use Rattle.plain.specs.Plain.{fits, width}
@@ -14,10 +14,17 @@ use Rattle.xml.specs.Document.{terminalText, stretch}
 use Rattle.left_parse.specs.Steps.{Named}
 use Rattle.markup.specs.Out.{enc, spelt}
 use Rattle.markup.specs.declared.Piece.{Piece}
+use Rattle.markup.specs.declared.Source.{Source}
+use Rattle.markup.specs.declared.Source.the-variants.{Table, Record}
+
+-- what stands from there on
+abbrev pub sourced : List ℕ → Text → Source → Text
+sourced T r (Table cell) = drop cell T
+sourced T r (Record place) = drop (place .0) r
 
 -- the characters that a piece says
 abbrev pub said : List ℕ → Text → Piece → Text
-said T r p = take (p .count) (drop (p .from) (pick (p .inserted) T r))
+said T r p = take (p .count) (sourced T r (p .from))
 
 -- they are written as the text is, and a test that takes every number above 10FFFF for 110000 finds the same in both
 pub record Says (T : List ℕ) (r : Text) (p : Piece) (t : Text) : Type 0 where

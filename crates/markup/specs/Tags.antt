@@ -1,10 +1,9 @@
 -- The parts of tags, and the state.
 use mathlib.Core.Bool.{Bool, true, false}
 use mathlib.Core.List.{List, [], _∷_, _++_}
-use Prim.Native.Nat.{ℕ}
-use lib.Dec.{eqb}
-use Rattle.text.specs.Lists.{Text, chars, pick}
-use Rattle.xml.specs.Bytes.{stateWith}
+use Rattle.text.specs.Lists.{Text, chars}
+use Rattle.xml.specs.Bytes.{state}
+use Rattle.markup.specs.declared.StateWords.{StateWords}
 
 abbrev pub closing : Text → Text
 closing n = chars "</" ++ n ++ chars ">"
@@ -17,9 +16,9 @@ abbrev pub endOf : Bool → Text → Text → Text
 endOf true e c = e
 endOf false e c = c
 
--- the state: 0 none, 1 ambiguous, 2 a version mismatch, 3 both
-abbrev pub wordsOf : ℕ → Text
-wordsOf due = pick (eqb due 1) (chars "ambiguous") (pick (eqb due 2) (chars "version-mismatch") (chars "ambiguous version-mismatch"))
+-- the state, if one is due
+abbrev pub stateOf : StateWords → Text
+stateOf due = state (due .ambiguous) (due .mismatch)
 
-abbrev pub stateOf : ℕ → Text
-stateOf due = pick (eqb due 0) [] (stateWith (wordsOf due))
+abbrev pub noWords : StateWords
+noWords = record { ambiguous = false; mismatch = false }

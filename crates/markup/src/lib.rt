@@ -6,11 +6,13 @@ ghost use Prim.Native.Nat.{ℕ, _+_, _<_, _≤_};
 ghost use lib.ListN.{length, take, drop};
 ghost use Rattle.text.specs.Utf8.{utf8};
 ghost use Rattle.text.specs.Lists.{Text, chars, concatMap};
-ghost use Rattle.xml.specs.Bytes.{state as stateText};
+ghost use Rattle.xml.specs.Bytes.{stateWith};
 ghost use Rattle.left_parse.specs.Steps.{Named};
-ghost use Rattle.markup.specs.Out.{state, puts, Wrote, spelt, inValue};
+ghost use Rattle.markup.specs.Out.{state, puts, enc, Wrote, lastTwo, spelt, inValue};
 ghost use Rattle.markup.specs.Pieces.{said, Pieced, Headed};
-ghost use Rattle.markup.specs.Tags.{closing, leadOf, endOf, wordsOf, stateOf};
+ghost use Rattle.markup.specs.Tags.{closing, leadOf, endOf, stateOf, noWords};
+use text::BytePlace;
+use text::CharPlace;
 
 // Kinds of tokens, as numbers that are looked up.
 const INSERT_QUOTED: usize = tokens::INSERT_QUOTED as usize;
@@ -24,23 +26,24 @@ const MARKS: usize = tokens::MARKS as usize;
 const DELETED: usize = tokens::DELETED as usize;
 
 // One byte. Past the limit nothing is stored, and the place stops after the room.
-pub fn put(out: &mut [u8], limit: usize, pos: usize, b: u8) -> usize
-    requires { ⌜ limit ≤ length (now out) ⌝ }
-    ensures { λ r. ⌜ state r (now (out .exit)) ≡ puts limit (state pos (now (out .entry))) (b ∷ []) ⌝ }
+pub fn put(out: &mut [u8], limit: BytePlace, pos: BytePlace, b: u8) -> BytePlace
+    requires { ⌜ limit .0 ≤ length (now out) ⌝ }
+    ensures { λ r. ⌜ state (r .0) (now (out .exit)) ≡ puts (limit .0) (state (pos .0) (now (out .entry))) (b ∷ []) ⌝ }
 {
-    if pos < limit {
-        out[pos] = b;
-        return pos + 1;
+    let at = pos.0;
+    if at < limit.0 {
+        out[at] = b;
+        return BytePlace(at + 1);
     }
-    if pos <= out.len() {
-        return pos + 1;
+    if at <= out.len() {
+        return BytePlace(at + 1);
     }
     pos
 }
 
-pub fn put_all(out: &mut [u8], limit: usize, pos: usize, s: &[u8]) -> usize
-    requires { ⌜ limit ≤ length (now out) ⌝ }
-    ensures { λ r. ⌜ state r (now (out .exit)) ≡ puts limit (state pos (now (out .entry))) (now (s .entry)) ⌝ }
+pub fn put_all(out: &mut [u8], limit: BytePlace, pos: BytePlace, s: &[u8]) -> BytePlace
+    requires { ⌜ limit .0 ≤ length (now out) ⌝ }
+    ensures { λ r. ⌜ state (r .0) (now (out .exit)) ≡ puts (limit .0) (state (pos .0) (now (out .entry))) (now (s .entry)) ⌝ }
 {
     let mut at = pos;
     let mut i = 0;
@@ -51,20 +54,36 @@ pub fn put_all(out: &mut [u8], limit: usize, pos: usize, s: &[u8]) -> usize
     at
 }
 
-fn put_long(out: &mut [u8], limit: usize, pos: usize, c: usize) -> usize
-    requires { ⌜ (limit ≤ length (now out)) × ((65536 ≤ c) × (c ≤ 1114112)) ⌝ }
-    ensures { λ r. ⌜ state r (now (out .exit)) ≡ puts limit (state pos (now (out .entry))) (utf8 c) ⌝ }
+// The last two bytes of a character that has three or four.
+fn put_last(out: &mut [u8], limit: BytePlace, pos: BytePlace, c: usize) -> BytePlace
+    requires { ⌜ limit .0 ≤ length (now out) ⌝ }
+    ensures { λ r. ⌜ state (r .0) (now (out .exit)) ≡ puts (limit .0) (state (pos .0) (now (out .entry))) (lastTwo c) ⌝ }
 {
-    let q = put(out, limit, pos, (0xf0 + c / 262144) as u8);
-    let q = put(out, limit, q, (0x80 + c / 4096 % 64) as u8);
-    let q = put(out, limit, q, (0x80 + c / 64 % 64) as u8);
+    let q = put(out, limit, pos, (0x80 + c / 64 % 64) as u8);
     put(out, limit, q, (0x80 + c % 64) as u8)
 }
 
+fn put_three(out: &mut [u8], limit: BytePlace, pos: BytePlace, c: usize) -> BytePlace
+    requires { ⌜ (limit .0 ≤ length (now out)) × ((2048 ≤ c) × (c < 65536)) ⌝ }
+    ensures { λ r. ⌜ state (r .0) (now (out .exit)) ≡ puts (limit .0) (state (pos .0) (now (out .entry))) (utf8 c) ⌝ }
+{
+    let q = put(out, limit, pos, (0xe0 + c / 4096) as u8);
+    put_last(out, limit, q, c)
+}
+
+fn put_four(out: &mut [u8], limit: BytePlace, pos: BytePlace, c: usize) -> BytePlace
+    requires { ⌜ (limit .0 ≤ length (now out)) × ((65536 ≤ c) × (c ≤ 1114112)) ⌝ }
+    ensures { λ r. ⌜ state (r .0) (now (out .exit)) ≡ puts (limit .0) (state (pos .0) (now (out .entry))) (utf8 c) ⌝ }
+{
+    let q = put(out, limit, pos, (0xf0 + c / 262144) as u8);
+    let q = put(out, limit, q, (0x80 + c / 4096 % 64) as u8);
+    put_last(out, limit, q, c)
+}
+
 // A character in UTF-8; every number above 10FFFF as 110000, as tables hold it.
-fn put_char(out: &mut [u8], limit: usize, pos: usize, c: usize) -> usize
-    requires { ⌜ limit ≤ length (now out) ⌝ }
-    ensures { λ r. ⌜ Wrote limit pos (now (out .entry)) r (now (out .exit)) (c ∷ []) ⌝ }
+fn put_char(out: &mut [u8], limit: BytePlace, pos: BytePlace, c: usize) -> BytePlace
+    requires { ⌜ limit .0 ≤ length (now out) ⌝ }
+    ensures { λ r. ⌜ Wrote (limit .0) (pos .0) (now (out .entry)) (r .0) (now (out .exit)) (c ∷ []) ⌝ }
 {
     if c < 0x80 {
         return put(out, limit, pos, c as u8);
@@ -77,24 +96,15 @@ fn put_char(out: &mut [u8], limit: usize, pos: usize, c: usize) -> usize
         return put_three(out, limit, pos, c);
     }
     if c < 0x110000 {
-        return put_long(out, limit, pos, c);
+        return put_four(out, limit, pos, c);
     }
-    put_long(out, limit, pos, 0x110000)
-}
-
-fn put_three(out: &mut [u8], limit: usize, pos: usize, c: usize) -> usize
-    requires { ⌜ (limit ≤ length (now out)) × ((2048 ≤ c) × (c < 65536)) ⌝ }
-    ensures { λ r. ⌜ state r (now (out .exit)) ≡ puts limit (state pos (now (out .entry))) (utf8 c) ⌝ }
-{
-    let q = put(out, limit, pos, (0xe0 + c / 4096) as u8);
-    let q = put(out, limit, q, (0x80 + c / 64 % 64) as u8);
-    put(out, limit, q, (0x80 + c % 64) as u8)
+    put_four(out, limit, pos, 0x110000)
 }
 
 // What is written otherwise in values alone.
-fn put_in_value(out: &mut [u8], limit: usize, pos: usize, c: usize) -> usize
-    requires { ⌜ limit ≤ length (now out) ⌝ }
-    ensures { λ r. ⌜ Wrote limit pos (now (out .entry)) r (now (out .exit)) (inValue c) ⌝ }
+fn put_in_value(out: &mut [u8], limit: BytePlace, pos: BytePlace, c: usize) -> BytePlace
+    requires { ⌜ limit .0 ≤ length (now out) ⌝ }
+    ensures { λ r. ⌜ Wrote (limit .0) (pos .0) (now (out .entry)) (r .0) (now (out .exit)) (inValue c) ⌝ }
 {
     if c == 0x27 {
         return put_all(out, limit, pos, b"&apos;");
@@ -109,9 +119,9 @@ fn put_in_value(out: &mut [u8], limit: usize, pos: usize, c: usize) -> usize
 }
 
 // A character in a name (0), in text (1) or in a value (2).
-fn put_escaped(out: &mut [u8], limit: usize, pos: usize, mode: usize, c: usize) -> usize
-    requires { ⌜ limit ≤ length (now out) ⌝ }
-    ensures { λ r. ⌜ Wrote limit pos (now (out .entry)) r (now (out .exit)) (spelt mode c) ⌝ }
+fn put_escaped(out: &mut [u8], limit: BytePlace, pos: BytePlace, mode: usize, c: usize) -> BytePlace
+    requires { ⌜ limit .0 ≤ length (now out) ⌝ }
+    ensures { λ r. ⌜ Wrote (limit .0) (pos .0) (now (out .entry)) (r .0) (now (out .exit)) (spelt mode c) ⌝ }
 {
     if mode == 0 {
         return put_char(out, limit, pos, c);
@@ -137,15 +147,15 @@ fn put_escaped(out: &mut [u8], limit: usize, pos: usize, mode: usize, c: usize) 
 // Characters that stand in a table.
 fn put_text(
     out: &mut [u8],
-    limit: usize,
-    pos: usize,
+    limit: BytePlace,
+    pos: BytePlace,
     mode: usize,
     t: &[u32],
     from: usize,
     count: usize,
-) -> usize
-    requires { ⌜ limit ≤ length (now out) ⌝ }
-    ensures { λ r. ⌜ Wrote limit pos (now (out .entry)) r (now (out .exit)) (concatMap (spelt mode) (take count (drop from (now (t .entry))))) ⌝ }
+) -> BytePlace
+    requires { ⌜ limit .0 ≤ length (now out) ⌝ }
+    ensures { λ r. ⌜ Wrote (limit .0) (pos .0) (now (out .entry)) (r .0) (now (out .exit)) (concatMap (spelt mode) (take count (drop from (now (t .entry))))) ⌝ }
 {
     let mut q = pos;
     let mut i = from;
@@ -162,108 +172,119 @@ fn put_text(
 }
 
 // The name that a token holds.
-pub fn put_name(out: &mut [u8], limit: usize, pos: usize, table: &[u32], token: usize) -> usize
-    requires { ⌜ (limit ≤ length (now out)) × (token < 4294967298) ⌝ }
-    ensures { λ r. ⌜ ((k : ℕ) (n : Text) → Named (now (table .entry)) token k n → Wrote limit pos (now (out .entry)) r (now (out .exit)) n) ⌝ }
+pub fn put_name(
+    out: &mut [u8],
+    limit: BytePlace,
+    pos: BytePlace,
+    table: &[u32],
+    token: usize,
+) -> BytePlace
+    requires { ⌜ (limit .0 ≤ length (now out)) × (token < 4294967298) ⌝ }
+    ensures { λ r. ⌜ ((k : ℕ) (n : Text) → Named (now (table .entry)) token k n → Wrote (limit .0) (pos .0) (now (out .entry)) (r .0) (now (out .exit)) n) ⌝ }
 {
     let n = tokens::look(table, token + 1);
     put_text(out, limit, pos, 0, table, token + 2, n)
 }
 
-// Where the text of a terminal stands: in the table, if it is inserted, or in the record.
+// Where text stands: at a cell of the table, if it is inserted, or at a place in the record.
+pub enum Source {
+    Table(usize),
+    Record(CharPlace),
+}
+
+// The text of a terminal: so many characters from there on.
 pub struct Piece {
-    pub inserted: bool,
-    pub from: usize,
+    pub from: Source,
     pub count: usize,
 }
 
-pub fn piece_of(table: &[u32], token: usize, place: usize) -> Piece
+pub fn piece_of(table: &[u32], token: usize, place: CharPlace) -> Piece
     requires { ⌜ token < 4294967296 ⌝ }
-    ensures { λ r. ⌜ Pieced (now (table .entry)) token place r ⌝ }
+    ensures { λ r. ⌜ Pieced (now (table .entry)) token (place .0) r ⌝ }
 {
     let c = tokens::look(table, token);
     if c == INSERT_QUOTED {
-        let n = tokens::look(table, token + 1);
-        return Piece {
-            inserted: true,
-            from: token + 2,
-            count: n,
-        };
+        let count = tokens::look(table, token + 1);
+        let from = Source::Table(token + 2);
+        return Piece { from, count };
     }
     if c == INSERT_CODED {
-        return Piece {
-            inserted: true,
-            from: token + 1,
-            count: 1,
-        };
+        let from = Source::Table(token + 1);
+        return Piece { from, count: 1 };
     }
+    let from = Source::Record(place);
     if c % MARKS == DELETED {
-        return Piece {
-            inserted: false,
-            from: place,
-            count: 0,
-        };
+        return Piece { from, count: 0 };
     }
-    let w = tokens::terminal_width(table, token);
-    Piece {
-        inserted: false,
-        from: place,
-        count: w,
-    }
+    let count = tokens::terminal_width(table, token);
+    Piece { from, count }
 }
 
 pub fn put_piece(
     out: &mut [u8],
-    limit: usize,
-    pos: usize,
+    limit: BytePlace,
+    pos: BytePlace,
     mode: usize,
     table: &[u32],
     record: &[u32],
     p: Piece,
-) -> usize
-    requires { ⌜ limit ≤ length (now out) ⌝ }
-    ensures { λ r. ⌜ Wrote limit pos (now (out .entry)) r (now (out .exit)) (concatMap (spelt mode) (said (now (table .entry)) (now («record» .entry)) p)) ⌝ }
+) -> BytePlace
+    requires { ⌜ limit .0 ≤ length (now out) ⌝ }
+    ensures { λ r. ⌜ Wrote (limit .0) (pos .0) (now (out .entry)) (r .0) (now (out .exit)) (concatMap (spelt mode) (said (now (table .entry)) (now («record» .entry)) p)) ⌝ }
 {
-    if p.inserted {
-        return put_text(out, limit, pos, mode, table, p.from, p.count);
+    let from = p.from;
+    match from {
+        Source::Table(cell) => put_text(out, limit, pos, mode, table, cell, p.count),
+        Source::Record(place) => put_text(out, limit, pos, mode, record, place.0, p.count),
     }
-    put_text(out, limit, pos, mode, record, p.from, p.count)
 }
 
-// The state: 0 none, 1 ambiguous, 2 a version mismatch, 3 both.
-pub fn put_state(out: &mut [u8], limit: usize, pos: usize, due: usize) -> usize
-    requires { ⌜ limit ≤ length (now out) ⌝ }
-    ensures { λ r. ⌜ Wrote limit pos (now (out .entry)) r (now (out .exit)) (stateOf due) ⌝ }
+// The words of a state.
+pub struct StateWords {
+    pub ambiguous: bool,
+    pub mismatch: bool,
+}
+
+pub fn no_words() -> StateWords
+    ensures { λ r. ⌜ r ≡ noWords ⌝ }
 {
-    if due == 0 {
-        return pos;
+    StateWords {
+        ambiguous: false,
+        mismatch: false,
     }
-    let q = put_all(
-        out,
-        limit,
-        pos,
-        b" xmlns:ixml='http://invisiblexml.org/NS' ixml:state='",
-    );
-    let q = put_words(out, limit, q, due);
+}
+
+// A state of these words.
+fn put_words(out: &mut [u8], limit: BytePlace, pos: BytePlace, words: &[u8]) -> BytePlace
+    requires { ⌜ limit .0 ≤ length (now out) ⌝ }
+    ensures { λ r. ⌜ ((t : Text) → enc t ≡ now (words .entry) → Wrote (limit .0) (pos .0) (now (out .entry)) (r .0) (now (out .exit)) (stateWith t)) ⌝ }
+{
+    let namespace = b" xmlns:ixml='http://invisiblexml.org/NS' ixml:state='";
+    let q = put_all(out, limit, pos, namespace);
+    let q = put_all(out, limit, q, words);
     put(out, limit, q, b'\'')
 }
 
-fn put_words(out: &mut [u8], limit: usize, pos: usize, due: usize) -> usize
-    requires { ⌜ limit ≤ length (now out) ⌝ }
-    ensures { λ r. ⌜ Wrote limit pos (now (out .entry)) r (now (out .exit)) (wordsOf due) ⌝ }
+// The state, if one is due.
+pub fn put_state(out: &mut [u8], limit: BytePlace, pos: BytePlace, due: StateWords) -> BytePlace
+    requires { ⌜ limit .0 ≤ length (now out) ⌝ }
+    ensures { λ r. ⌜ Wrote (limit .0) (pos .0) (now (out .entry)) (r .0) (now (out .exit)) (stateOf due) ⌝ }
 {
-    if due == 1 {
-        return put_all(out, limit, pos, b"ambiguous");
+    if due.ambiguous {
+        if due.mismatch {
+            return put_words(out, limit, pos, b"ambiguous version-mismatch");
+        }
+        return put_words(out, limit, pos, b"ambiguous");
     }
-    if due == 2 {
-        return put_all(out, limit, pos, b"version-mismatch");
+    if due.mismatch {
+        return put_words(out, limit, pos, b"version-mismatch");
     }
-    put_all(out, limit, pos, b"ambiguous version-mismatch")
+    pos
 }
 
-pub fn put_lead(out: &mut [u8], limit: usize, pos: usize, unclosed: bool) -> usize
-    requires { ⌜ limit ≤ length (now out) ⌝ }
-    ensures { λ r. ⌜ Wrote limit pos (now (out .entry)) r (now (out .exit)) (leadOf unclosed) ⌝ }
+pub fn put_lead(out: &mut [u8], limit: BytePlace, pos: BytePlace, unclosed: bool) -> BytePlace
+    requires { ⌜ limit .0 ≤ length (now out) ⌝ }
+    ensures { λ r. ⌜ Wrote (limit .0) (pos .0) (now (out .entry)) (r .0) (now (out .exit)) (leadOf unclosed) ⌝ }
 {
     if unclosed {
         return put(out, limit, pos, b'>');
@@ -273,14 +294,14 @@ pub fn put_lead(out: &mut [u8], limit: usize, pos: usize, unclosed: bool) -> usi
 
 pub fn put_end(
     out: &mut [u8],
-    limit: usize,
-    pos: usize,
+    limit: BytePlace,
+    pos: BytePlace,
     unclosed: bool,
     table: &[u32],
     token: usize,
-) -> usize
-    requires { ⌜ (limit ≤ length (now out)) × (token < 4294967298) ⌝ }
-    ensures { λ r. ⌜ ((k : ℕ) (n : Text) → Named (now (table .entry)) token k n → Wrote limit pos (now (out .entry)) r (now (out .exit)) (endOf unclosed (chars "/>") (closing n))) ⌝ }
+) -> BytePlace
+    requires { ⌜ (limit .0 ≤ length (now out)) × (token < 4294967298) ⌝ }
+    ensures { λ r. ⌜ ((k : ℕ) (n : Text) → Named (now (table .entry)) token k n → Wrote (limit .0) (pos .0) (now (out .entry)) (r .0) (now (out .exit)) (endOf unclosed (chars "/>") (closing n))) ⌝ }
 {
     if unclosed {
         return put_all(out, limit, pos, b"/>");
@@ -296,21 +317,6 @@ pub fn head_at(table: &[u32]) -> usize
 {
     if tokens::look(table, 0) == VERSION {
         return 2 + tokens::look(table, 1);
-    }
-    0
-}
-
-pub fn due_of(ambiguous: bool, mismatch: bool) -> usize
-    ensures { λ r. ⌜ stateOf r ≡ stateText ambiguous mismatch ⌝ }
-{
-    if ambiguous {
-        if mismatch {
-            return 3;
-        }
-        return 1;
-    }
-    if mismatch {
-        return 2;
     }
     0
 }

@@ -6,6 +6,7 @@ ghost use Rattle.prepare.specs.Ready.{Ready};
 ghost use Rattle.reading.specs.Answer.{Answers};
 ghost use Rattle.parser.specs.Choose.{Choosable};
 use reading::Walked;
+use text::CharPlace;
 
 // The stack of the walk: three numbers for each of a reading's.
 const STACK_LENGTH: usize = 3 * text::limits::READING_NUMBERS;
@@ -27,5 +28,6 @@ pub fn choose(
     let mut stack = [0u32; STACK_LENGTH];
     let top = prepare::prepare(table, size, root, text, &mut code, &mut fits);
     engine::fill(&code, &fits, size, text.len(), main);
-    reading::walk(&code, main, text.len(), top, root, parse, &mut stack)
+    let end = CharPlace(text.len());
+    reading::walk(&code, main, end, top, root, parse, &mut stack)
 }

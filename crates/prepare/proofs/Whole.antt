@@ -144,7 +144,7 @@ module _ {T : List ℕ} {g : Grammar} {size first : ℕ} (r : Ready T g size fir
     ]
 
   -- what stands at an item, with the rule that it stands in
-  record Spot (p : ℕ) : Type 0 where
+  record DottedRule (p : ℕ) : Type 0 where
     x : ℕ
     s : Symbol
     among : Among x s S
@@ -153,8 +153,8 @@ module _ {T : List ℕ} {g : Grammar} {size first : ℕ} (r : Ready T g size fir
     inner : k < weight (alts g s)
     place : Place T g S (layout (alts g s)) p k
 
-  spot : (p : ℕ) → p < size → Spot p
-  spot p h =
+  dotted-rule : (p : ℕ) → p < size → DottedRule p
+  dotted-rule p h =
       let c = cov p h in
       let e : p ≡ c .first + (p - c .first) = omega (arith, c .above) in
       record {
@@ -178,7 +178,7 @@ module _ {T : List ℕ} {g : Grammar} {size first : ℕ} (r : Ready T g size fir
     it-symbol : (s t : Symbol) → (kindAt T p ≡ 1 → ⊥) → kindAt T p < 5 → p + 1 < size → afterDot dots p ≡ s ∷ afterDot dots (p + 1)
         → ((x : Terminal) → s ≡ terminal x → ⊥) → Among (targetAt T p) t S → alts g t ≡ alts g s → Item p
 
-  item-by : (p : ℕ) (h : p < size) (w : Spot p) (u : Symbol) → p + 1 < size → afterDot dots p ≡ u ∷ afterDot dots (p + 1) → Stands T g S p u → Item p
+  item-by : (p : ℕ) (h : p < size) (w : DottedRule p) (u : Symbol) → p + 1 < size → afterDot dots p ≡ u ∷ afterDot dots (p + 1) → Stands T g S p u → Item p
   item-by p h w u l e (st-terminal {x = x} k d i) = it-terminal x k l e (term-at p x h d (r .sound x i))
   item-by p h w u l e (st-name {m = m} {n = n} k d a) = it-symbol (nonterminal m n) (nonterminal unmarked n)
       (λ q. omega (arith, mark-kind (over m (ruleMark (rules g) n)))) (omega (arith, mark-kind (over m (ruleMark (rules g) n)))) l e
@@ -186,9 +186,9 @@ module _ {T : List ℕ} {g : Grammar} {size first : ℕ} (r : Ready T g size fir
   item-by p h w u l e (st-made {s = s} q k a) = it-symbol s s (λ z. omega arith) (omega arith) l e (λ x y. made-not s x q y) a refl
 
   item : (p : ℕ) → p < size → Item p
-  item p h = go (spot p h) refl
+  item p h = go (dotted-rule p h) refl
     where
-      go : (w : Spot p) → w ≡ spot p h → Item p
+      go : (w : DottedRule p) → w ≡ dotted-rule p h → Item p
       go w d = by (w .place)
         where
           dot-here : afterDot dots p ≡ getD (layout (alts g (w .s))) (w .k) []
@@ -269,7 +269,7 @@ module _ {T : List ℕ} {g : Grammar} {size first : ℕ} (r : Ready T g size fir
     chains-at p h (it-symbol s t d l m e n a q) k =
         rw (w .goes-is p h ∙ goes-symbol T p (kindAt T p) d l, rule-at p h t a d l, head-end (targetAt T p) t a) (chain (targetAt T p) t a)
 
-    owned-at : (p e : ℕ) → (z : Spot p) → ownerAt c p ≡ e + 1 → Owned c g dots heads p e
+    owned-at : (p e : ℕ) → (z : DottedRule p) → ownerAt c p ≡ e + 1 → Owned c g dots heads p e
     owned-at p e z q =
         let a = z .among in
         let b = owner-inv T p (end (z .x) (z .s) a) e (sym
@@ -307,7 +307,7 @@ module _ {T : List ℕ} {g : Grammar} {size first : ℕ} (r : Ready T g size fir
           short = short;
           fits-room = fits-room;
           stands = λ p h. stands-at p h (item p h);
-          owned = λ p n h q. owned-at p n (spot p h) q;
+          owned = λ p n h q. owned-at p n (dotted-rule p h) q;
           chains = λ p h k. chains-at p h (item p h) k;
           root-chain = rw d (chain first (root g) (r .built .items .begins));
           root-head = rw d (ap (alts g) (head-end first (root g) (r .built .items .begins)));

@@ -11,6 +11,7 @@ ghost use Rattle.items.specs.Items.{kindAt};
 ghost use Rattle.chart.specs.Code.{flag, Coded};
 ghost use Rattle.prepare.specs.Places.{matchOf, MemberHere, MembersAt, MembersHere, TerminalAt, Row, Stretch, Beside, Testing, RowReady};
 ghost use Rattle.prepare.specs.Ready.{lastOf, ownerOf, Owners, Put, nextKindOf, goesOf, ruleOf, Reaches, Item, Codes, RowsReady, ItemRow, Rows, Ready, Given};
+use text::CharPlace;
 
 // The kind of the item before the item p, for p above 0.
 const KIND_BEFORE: usize = items::ITEM_KIND - items::ITEM_COLUMNS;
@@ -34,16 +35,16 @@ fn flag_of(b: bool) -> u8
 }
 
 // The characters at a place of the table begin the record from `i` on.
-fn spells(table: &[u32], at: usize, n: usize, text: &[u32], i: usize) -> bool
-    requires { ⌜ Beside (now table) at n (now text) i ⌝ }
-    ensures { λ r. ⌜ r ≡ begins (take n (drop at (now (table .entry)))) (drop i (now (text .entry))) ⌝ }
+fn spells(table: &[u32], at: usize, n: usize, text: &[u32], i: CharPlace) -> bool
+    requires { ⌜ Beside (now table) at n (now text) (i .0) ⌝ }
+    ensures { λ r. ⌜ r ≡ begins (take n (drop at (now (table .entry)))) (drop (i .0) (now (text .entry))) ⌝ }
 {
-    if text.len() - i < n {
+    if text.len() - i.0 < n {
         return false;
     }
     let mut k = 0;
     while k < n {
-        if table[at + k] != text[i + k] {
+        if table[at + k] != text[i.0 + k] {
             return false;
         }
         k += 1;
@@ -100,9 +101,9 @@ fn any_member(table: &[u32], from: usize, c: u32) -> bool
 }
 
 // The terminal at a place fits the record from `i` on.
-fn terminal_fits(table: &[u32], at: usize, text: &[u32], i: usize) -> bool
-    requires { ⌜ Testing (now table) at (now text) i ⌝ }
-    ensures { λ r. ⌜ ((x : Terminal) → TerminalAt (now (table .entry)) at x → r ≡ fitting x (drop i (now (text .entry)))) ⌝ }
+fn terminal_fits(table: &[u32], at: usize, text: &[u32], i: CharPlace) -> bool
+    requires { ⌜ Testing (now table) at (now text) (i .0) ⌝ }
+    ensures { λ r. ⌜ ((x : Terminal) → TerminalAt (now (table .entry)) at x → r ≡ fitting x (drop (i .0) (now (text .entry)))) ⌝ }
 {
     let kind = table[at];
     if kind < tokens::CODED {
@@ -111,10 +112,11 @@ fn terminal_fits(table: &[u32], at: usize, text: &[u32], i: usize) -> bool
     if tokens::RULE_HEAD <= kind {
         return true;
     }
-    if text.len() <= i {
+    let place = i.0;
+    if text.len() <= place {
         return false;
     }
-    let c = text[i];
+    let c = text[place];
     if kind < tokens::INCLUDE {
         return table[at + 1] == c;
     }
@@ -131,10 +133,10 @@ fn fit_row(table: &[u32], at: usize, text: &[u32], fits: &mut [u8], base: usize)
     ensures { λ _. ⌜ Row (now (table .entry)) (now (text .entry)) (now (fits .entry)) (now (fits .exit)) at base ⌝ }
 {
     let n = text.len();
-    let mut i = 0;
-    while i <= n {
-        fits[base + i] = flag_of(terminal_fits(table, at, text, i));
-        i += 1;
+    let mut i = CharPlace(0);
+    while i.0 <= n {
+        fits[base + i.0] = flag_of(terminal_fits(table, at, text, i));
+        i = CharPlace(i.0 + 1);
     }
 }
 

@@ -4,7 +4,7 @@
 ghost use mathlib.Core.Path.{_≡_};
 ghost use Prim.Native.Nat.{_+_, _≤_, _<_};
 ghost use lib.ListN.{length};
-ghost use Rattle.cli.specs.Desk.{Holds, jobText, Replies};
+ghost use Rattle.cli.specs.Output.{Holds, jobText, Replies};
 use calls::ixml_convert;
 use libc::STDOUT_FILENO;
 use text::limits;

@@ -10,7 +10,7 @@ use Rattle.text.specs.Lists.{Text}
 use Rattle.syntax.specs.Syntax.{ch, defines}
 use Rattle.syntax.specs.Result.{Result, ok, fail, hd, tl, map, then, guard, expect}
 use Rattle.syntax.specs.Spacing.{skip}
-use Rattle.decode.specs.declared.CharPlace.{CharPlace}
+use Rattle.text.specs.declared.CharPlace.{CharPlace}
 use Rattle.spacing.specs.declared.Cell.{Cell}
 use Rattle.spacing.specs.declared.Step.{Step}
 use Rattle.spacing.specs.declared.Step.the-variants.{At, No}

@@ -12,7 +12,7 @@ use Rattle.spacing.specs.declared.Step.the-variants.{At}
 use Rattle.spacing.specs.Answers.{Skipped, Room, Read}
 use Rattle.spacing.proofs.Places.{in-char}
 use mathlib.Core.Path.{subst}
-use Rattle.decode.specs.declared.CharPlace.{CharPlace}
+use Rattle.text.specs.declared.CharPlace.{CharPlace}
 use Rattle.spacing.specs.declared.Cell.{Cell}
 use Rattle.spacing.specs.declared.Past.{Past}
 use Rattle.spacing.specs.declared.Past.the-variants.{At as Past-at}

@@ -12,7 +12,7 @@ use Rattle.syntax.specs.Syntax.{ch}
 use Rattle.syntax.specs.Result.{Result, ok, fail, hd, map, then, guard, expect}
 use Rattle.syntax.specs.Spacing.{skip, required, spaced}
 use Rattle.syntax.specs.Lexical.{read-word, read-string}
-use Rattle.syntax.specs.Parser.{read-rule, heading, after-heading, read-prolog, grammar, read-ixml, answer, parse, no-parse}
+use Rattle.syntax.specs.Parser.{read-rule, heading, after-heading, read-prolog, grammar, read-ixml, answer, parse}
 use Rattle.spacing.specs.declared.Step.{Step}
 use Rattle.spacing.specs.declared.Step.the-variants.{At, No}
 use Rattle.spacing.specs.declared.Past.{Past}
@@ -22,7 +22,7 @@ use Rattle.lexical.specs.Answers.{After-name, countedCode}
 use Rattle.spacing.proofs.Places.{at-char, tl-at, in-char}
 use Rattle.spacing.proofs.Places as places
 use Rattle.spacing.proofs.Parts.{as-part}
-use Rattle.reader.specs.Answers.{oneOf, closing, Closed, Rules=, ruleCode, rulesCode, prologCode, Passed, After-heading, After-word, After-version, After-prolog, Readable, Held}
+use Rattle.reader.specs.Answers.{oneOf, closing, Closed, Rules=, ruleCode, rulesCode, prologCode, Passed, After-heading, After-word, After-version, After-prolog, Readable, Held, NotIxml}
 use Rattle.reader.proofs.Loops.{encode-append}
 use Rattle.reader.proofs.Closings.{one-of-one, closing-same, closing-map, closed-after}
 
@@ -123,27 +123,27 @@ prolog-some s p u a o at No o' v = rw (a .same) (v (drop p s))
 
 -- the whole
 module _ (s : Text) where
-  pub grammar-bad : skip (drop 0 s) ≡ fail → parse s ≡ no-parse
+  pub grammar-bad : skip (drop 0 s) ≡ fail → NotIxml s 4
   unfolding parse read-ixml then answer
-  grammar-bad e = rw e
+  grammar-bad e = record { number = refl; none = rw e }
 
   module _ (u : ℕ) (k : Skipped s 0 u) where
     pub grammar-room : (o : List ℕ) → Readable s o → Room s u o 0
     grammar-room o r = let d = r .room in record { place = k .onward .within; cells = omega arith; few = r .few }
 
-    pub grammar-no-prolog : read-prolog (drop u s) ≡ fail → parse s ≡ no-parse
+    pub grammar-no-prolog : read-prolog (drop u s) ≡ fail → NotIxml s 4
     unfolding parse read-ixml then answer
-    grammar-no-prolog e = rw (k .past, e)
+    grammar-no-prolog e = record { number = refl; none = rw (k .past, e) }
 
     module _ (o o1 : List ℕ) (v a : ℕ) (g : Read (λ x. read-prolog (drop u s) ≡ x) prologCode s u u o 0 o1 v a) where
-      pub grammar-no-rule : read-rule (drop v s) ≡ fail → parse s ≡ no-parse
+      pub grammar-no-rule : read-rule (drop v s) ≡ fail → NotIxml s 4
       unfolding parse read-ixml then answer
-      grammar-no-rule e = rw (k .past, g .same, e)
+      grammar-no-rule e = record { number = refl; none = rw (k .past, g .same, e) }
 
       module _ (o2 : List ℕ) (w b : ℕ) (r : Read (λ x. read-rule (drop v s) ≡ x) ruleCode s v (v + 1) o1 a o2 w b) where
-        pub grammar-no-rules : Rules= (drop w s) fail → parse s ≡ no-parse
+        pub grammar-no-rules : Rules= (drop w s) fail → NotIxml s 4
         unfolding parse read-ixml then map answer
-        grammar-no-rules e = rw (k .past, g .same, r .same, e (suc (length (drop w s))) (omega arith))
+        grammar-no-rules e = record { number = refl; none = rw (k .past, g .same, r .same, e (suc (length (drop w s))) (omega arith)) }
 
         pub grammar-got : (o3 : List ℕ) (x e : ℕ) → Read (λ x. Rules= (drop w s) x) rulesCode s w w o2 b o3 x e → Held s o3 e
         unfolding parse read-ixml then map answer

@@ -5,14 +5,14 @@ use mathlib.Core.List.{List, [], _∷_, _++_}
 use Prim.Native.Nat.{ℕ, _+_, _*_, _<_, _≤_}
 use lib.ListN.{length, take, drop}
 use Rattle.text.specs.Lists.{Text, concatMap}
+use Rattle.text.specs.Stages.{StageAnswer, answered, refused, Settles}
 use Rattle.tree.specs.Tree.{Mark, Terminal, Symbol, Alternative, Body, Rule, Prolog, Grammar}
 use Rattle.tree.specs.Tokens.{markNumber, counted, terminalTokens, symbolTokens, alternativeTokens, bodyTokens, ruleTokens, prologTokens, grammarTokens, encode}
 use Rattle.syntax.specs.Syntax.{ch, defines}
 use Rattle.syntax.specs.Result.{Result, ok, fail, hd, tl, map, when, then, expect}
 use Rattle.syntax.specs.Spacing.{skip, required}
 use Rattle.syntax.specs.Lexical.{read-word, read-mark, read-name}
-use Rattle.syntax.specs.Parser.{read-terminal, read-insertion, read-plain, Alts=, Alt=, Terms=, Term=, Factor=, read-rule, rules, heading, after-heading, read-prolog, parse, parsed, no-parse}
-use Rattle.syntax.proofs.Steps.{Agrees}
+use Rattle.syntax.specs.Parser.{read-terminal, read-insertion, read-plain, Alts=, Alt=, Terms=, Term=, Factor=, Agrees, read-rule, rules, heading, after-heading, read-prolog, parse, parsed, no-parse}
 use Rattle.spacing.specs.Answers.{Onward, After}
 use Rattle.spacing.specs.declared.Past.{Past}
 use Rattle.spacing.specs.declared.Past.the-variants.{At as Past-at, No as Past-no}
@@ -167,6 +167,15 @@ pub record Held (s : Text) (o' : List ℕ) (b : ℕ) : Type 0 where
   pub holds : take b o' ≡ encode (grammarTokens tree)
   pub cells : b ≤ 3 * length s
 
+-- the text is no grammar's
+pub record NotIxml (s : Text) (n : ℕ) : Type 0 where
+  pub number : n ≡ 4
+  pub none : parse s ≡ no-parse
+
+-- document 01's number and values for each case
+abbrev pub stageOf : Reading → StageAnswer ℕ ℕ
+stageOf (A-grammar b) = answered (b .0)
+stageOf NoGrammar = refused 4
+
 abbrev pub Read-as : Text → Reading → List ℕ → Type 0
-Read-as s (A-grammar b) o' = Held s o' (b .0)
-Read-as s NoGrammar o' = parse s ≡ no-parse
+Read-as s r o' = Settles (Held s o') (NotIxml s) (stageOf r)

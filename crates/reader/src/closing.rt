@@ -3,7 +3,6 @@ ghost use mathlib.Core.Path.{_≡_};
 ghost use Prim.Native.Nat.{_<_};
 ghost use Rattle.spacing.specs.Answers.{Step-in};
 ghost use Rattle.reader.specs.Answers.{oneOf, Closed};
-use decode::CharPlace;
 use spacing::Past;
 use spacing::Step;
 
@@ -28,8 +27,7 @@ pub fn closed(text: &[u32], word: Step, first: u32, second: u32) -> Step
     if !one_of(spacing::peek(text, w), first, second) {
         return Step::No;
     }
-    let n = w.0;
-    let Past::At(y) = spacing::skip(text, CharPlace(n + 1)) else {
+    let Past::At(y) = spacing::skip(text, decode::after(w)) else {
         return Step::No;
     };
     Step::At(y, b)

@@ -5,6 +5,7 @@ mod prolog;
 use crate::closing::closed;
 use crate::prolog::prolog;
 use decode::CharPlace;
+use decode::after;
 use lexical::Marked;
 use spacing::CLOSE_ROUND;
 use spacing::COLON;
@@ -24,7 +25,7 @@ use spacing::TILDE;
 ghost use mathlib.Core.Path.{_≡_};
 ghost use mathlib.Core.Bool.{true};
 ghost use Prim.Native.Nat.{ℕ, _+_, _<_, _≤_};
-ghost use lib.ListN.{length, drop};
+ghost use lib.ListN.{length, drop, set};
 ghost use Rattle.syntax.specs.Syntax.{ch};
 ghost use Rattle.syntax.specs.Result.{hd};
 ghost use Rattle.syntax.specs.Parser.{starts as Starts};
@@ -57,8 +58,7 @@ fn terminal(text: &[u32], p: CharPlace, m: u32, out: &mut [u32], at: Cell) -> St
 {
     let c = spacing::peek(text, p);
     if c == TILDE {
-        let i = p.0;
-        let Past::At(q) = spacing::skip(text, CharPlace(i + 1)) else {
+        let Past::At(q) = spacing::skip(text, after(p)) else {
             return Step::No;
         };
         return sets::set(text, q, EXCLUDE + m, out, at);
@@ -77,8 +77,7 @@ fn insertion(text: &[u32], p: CharPlace, out: &mut [u32], at: Cell) -> Step
     requires { ⌜ Room (now text) (p .0) (now out) (at .0) × (ch 43 (hd (drop (p .0) (now text))) ≡ true) ⌝ }
     ensures { λ r. ⌜ After-insertion (now (text .entry)) (p .0) (now (out .entry)) (at .0) r (now (out .exit)) ⌝ }
 {
-    let i = p.0;
-    let Past::At(q) = spacing::skip(text, CharPlace(i + 1)) else {
+    let Past::At(q) = spacing::skip(text, after(p)) else {
         return Step::No;
     };
     spacing::spaced(
@@ -140,10 +139,10 @@ fn alternatives(text: &[u32], p: CharPlace, d: usize, out: &mut [u32], at: Cell)
     requires { ⌜ Room (now text) (p .0) (now out) (at .0) ⌝ }
     ensures { λ r. ⌜ After-alternatives d (now (text .entry)) (p .0) (now (out .entry)) (at .0) r (now (out .exit)) ⌝ }
 {
-    let mut i = p.0;
-    let mut j = at.0;
+    let mut from = p;
+    let mut to = at;
     loop {
-        let Step::At(q, b) = alternative(text, CharPlace(i), d, out, Cell(j)) else {
+        let Step::At(q, b) = alternative(text, from, d, out, to) else {
             return Step::No;
         };
         if !spacing::bar(spacing::peek(text, q)) {
@@ -152,8 +151,8 @@ fn alternatives(text: &[u32], p: CharPlace, d: usize, out: &mut [u32], at: Cell)
         let Step::At(w, e) = spacing::token(text, q, NEXT_ALTERNATIVE, out, b) else {
             return Step::No;
         };
-        i = w.0;
-        j = e.0;
+        from = w;
+        to = e;
     }
 }
 
@@ -173,21 +172,20 @@ fn terms(text: &[u32], p: CharPlace, d: usize, out: &mut [u32], at: Cell) -> Ste
     requires { ⌜ Room (now text) (p .0) (now out) (at .0) ⌝ }
     ensures { λ r. ⌜ After-terms d (now (text .entry)) (p .0) (now (out .entry)) (at .0) r (now (out .exit)) ⌝ }
 {
-    let mut i = p.0;
-    let mut j = at.0;
+    let mut from = p;
+    let mut to = at;
     loop {
-        let Step::At(q, b) = term(text, CharPlace(i), d, out, Cell(j)) else {
+        let Step::At(q, b) = term(text, from, d, out, to) else {
             return Step::No;
         };
         if spacing::peek(text, q) != COMMA {
             return Step::At(q, b);
         }
-        let n = q.0;
-        let Past::At(w) = spacing::skip(text, CharPlace(n + 1)) else {
+        let Past::At(w) = spacing::skip(text, after(q)) else {
             return Step::No;
         };
-        i = w.0;
-        j = b.0;
+        from = w;
+        to = b;
     }
 }
 
@@ -217,19 +215,18 @@ fn repeated(text: &[u32], p: CharPlace, k: u32, d: usize, out: &mut [u32], at: C
     requires { ⌜ Room (now text) (p .0) (now out) (at .0) × (k < 2) × (ch (42 + k) (hd (drop (p .0) (now text))) ≡ true) ⌝ }
     ensures { λ r. ⌜ After-repeat k d (now (text .entry)) (p .0) (now (out .entry)) (at .0) r (now (out .exit)) ⌝ }
 {
-    let i = p.0;
-    if spacing::peek(text, CharPlace(i + 1)) != STAR + k {
+    let second = after(p);
+    if spacing::peek(text, second) != STAR + k {
         return spacing::token(text, p, TO_REPEAT0 + k, out, at);
     }
-    let Past::At(w) = spacing::skip(text, CharPlace(i + 2)) else {
+    let Past::At(w) = spacing::skip(text, after(second)) else {
         return Step::No;
     };
     let Step::At(q, b) = factor(text, w, d, out, at) else {
         return Step::No;
     };
-    let j = b.0;
-    out[j] = TO_REPEAT0SEP + k;
-    Step::At(q, Cell(j + 1))
+    let end = put(out, b, TO_REPEAT0SEP + k);
+    Step::At(q, end)
 }
 
 // A factor; d brackets more may open.
@@ -267,6 +264,16 @@ fn rule_head(text: &[u32], p: CharPlace, out: &mut [u32], at: Cell) -> Step
     closed(text, name, EQUALS, COLON)
 }
 
+// Writes a number at a cell; the cell after it.
+fn put(out: &mut [u32], at: Cell, k: u32) -> Cell
+    requires { ⌜ at .0 < length (now out) ⌝ }
+    ensures { λ r. ⌜ (r .0 ≡ at .0 + 1) × (now (out .exit) ≡ set (now (out .entry)) (at .0) k) ⌝ }
+{
+    let j = at.0;
+    out[j] = k;
+    Cell(j + 1)
+}
+
 // A rule, to its full stop.
 fn rule(text: &[u32], p: CharPlace, out: &mut [u32], at: Cell) -> Step
     requires { ⌜ Room (now text) (p .0) (now out) (at .0) ⌝ }
@@ -281,10 +288,8 @@ fn rule(text: &[u32], p: CharPlace, out: &mut [u32], at: Cell) -> Step
     if spacing::peek(text, z) != FULL_STOP {
         return Step::No;
     }
-    let n = z.0;
-    let j = e.0;
-    out[j] = RULE_END;
-    Step::At(CharPlace(n + 1), Cell(j + 1))
+    let end = put(out, e, RULE_END);
+    Step::At(after(z), end)
 }
 
 // Further rules, each after spacing, to the end of the text.
@@ -292,24 +297,23 @@ fn rules(text: &[u32], p: CharPlace, out: &mut [u32], at: Cell) -> Step
     requires { ⌜ Room (now text) (p .0) (now out) (at .0) ⌝ }
     ensures { λ r. ⌜ After-rules (now (text .entry)) (p .0) (now (out .entry)) (at .0) r (now (out .exit)) ⌝ }
 {
-    let mut i = p.0;
-    let mut j = at.0;
+    let mut from = p;
+    let mut to = at;
     loop {
-        let Past::At(u) = spacing::skip(text, CharPlace(i)) else {
+        let Past::At(u) = spacing::skip(text, from) else {
             return Step::No;
         };
-        let n = u.0;
-        if n == text.len() {
-            return Step::At(u, Cell(j));
+        if u.0 == text.len() {
+            return Step::At(u, to);
         }
-        if n == i {
+        if u.0 == from.0 {
             return Step::No;
         }
-        let Step::At(w, b) = rule(text, u, out, Cell(j)) else {
+        let Step::At(w, b) = rule(text, u, out, to) else {
             return Step::No;
         };
-        i = w.0;
-        j = b.0;
+        from = w;
+        to = b;
     }
 }
 

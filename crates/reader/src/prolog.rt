@@ -17,16 +17,16 @@ fn word(text: &[u32], p: CharPlace, w: &[u8]) -> Past
     requires { ⌜ p .0 ≤ length (now text) ⌝ }
     ensures { λ r. ⌜ After-word (now (w .entry)) (now (text .entry)) (p .0) r ⌝ }
 {
-    let mut i = p.0;
+    let mut at = p;
     let mut k = 0;
     while k < w.len() {
-        if spacing::peek(text, CharPlace(i)) != w[k] as u32 {
+        if spacing::peek(text, at) != w[k] as u32 {
             return Past::No;
         }
-        i += 1;
+        at = decode::after(at);
         k += 1;
     }
-    Past::At(CharPlace(i))
+    Past::At(at)
 }
 
 // Past spacing that must be there.
@@ -34,11 +34,10 @@ fn required(text: &[u32], p: CharPlace) -> Past
     requires { ⌜ p .0 ≤ length (now text) ⌝ }
     ensures { λ r. ⌜ After-required (now (text .entry)) (p .0) r ⌝ }
 {
-    let i = p.0;
     let Past::At(q) = spacing::skip(text, p) else {
         return Past::No;
     };
-    if q.0 == i {
+    if q.0 == p.0 {
         return Past::No;
     }
     Past::At(q)

@@ -74,14 +74,14 @@ module _ {c M : List ℕ} {n top first : ℕ} (t : Finished c M n top first) whe
 
   -- a row that has come to its end
   pub record Finish (out st : List ℕ) (h : Cursor) (w : Row) (pending : List (Pending t)) : Type 0 where
-    pub stop : h .i ≡ h .j
+    pub stop : h .i .0 ≡ h .j .0
     pub list : take (h .at) out ++ parses t pending ≡ leftParse w
     pub marks : Ambiguous t w ↔ (T (h .mark) ⊎ AnyTwice t pending)
 
   row-end : {out st : List ℕ} {h : Cursor} {w : Row} (G : Going t out st h w) → nextKind c (h .p) ≡ 0 → Finish out st h w (G .pending)
   row-end {out} {st} {h} {w} G z =
       let b = end-at t (h .p) (G .inside) z in
-      let e = end-row (t .g) (t .r) (subst (λ (ss : List Symbol). Chosen (t .g) (t .r) (G .row) ss (h .i) (h .j)) b (G .picked .chosen)) in
+      let e = end-row (t .g) (t .r) (subst (λ (ss : List Symbol). Chosen (t .g) (t .r) (G .row) ss (h .i .0) (h .j .0)) b (G .picked .chosen)) in
       record {
         stop = e .stop;
         list = subst (λ (u : Row). take (h .at) out ++ (leftParse u ++ parses t (G .pending)) ≡ leftParse w) (e .is) (G .list);
@@ -90,16 +90,16 @@ module _ {c M : List ℕ} {n top first : ℕ} (t : Finished c M n top first) whe
 
   -- back to the row that was left last
   pop-by : {out st : List ℕ} {h : Cursor} {w : Row} {pending : List (Pending t)} (G : Going t out st h w) → Finish out st h w pending → 0 < h .depth
-      → Stacked t st (h .depth) (h .j) pending → Going t out st (popped st h) w
+      → Stacked t st (h .depth) (h .j .0) pending → Going t out st (popped st h) w
   pop-by G F d (st-none z) = absurd (omega arith)
   pop-by {out} {st} {h} {w} G F d (st-more {e = e} {ds = ds} u z a x y k s) =
       let q : h .depth - 1 ≡ e = omega arith in
-      let i-is : u .from ≡ h .j = a in
+      let i-is : u .from ≡ h .j .0 = a in
       let p-is : u .place ≡ getD st (3 * (h .depth - 1)) 0 = sym x ∙ ap (λ (v : ℕ). getD st (3 * v) 0) (sym q) in
       let j-is : u .to ≡ getD st (3 * (h .depth - 1) + 1) 0 = sym y ∙ ap (λ (v : ℕ). getD st (3 * v + 1) 0) (sym q) in
       let k-is : u .bound ≡ getD st (3 * (h .depth - 1) + 2) 0 = sym k ∙ ap (λ (v : ℕ). getD st (3 * v + 2) 0) (sym q) in
-      let at : Cursor = record { p = u .place; i = u .from; j = u .to; k = u .bound; at = h .at; depth = e; mark = h .mark } in
-      let same : at ≡ popped st h = λ ι. record { p = p-is ι; i = i-is ι; j = j-is ι; k = k-is ι; at = h .at; depth = sym q ι; mark = h .mark } in
+      let at : Cursor = record { p = u .place; i = record { 0 = u .from }; j = record { 0 = u .to }; k = u .bound; at = h .at; depth = e; mark = h .mark } in
+      let same : at ≡ popped st h = λ ι. record { p = p-is ι; i = record { 0 = i-is ι }; j = record { 0 = j-is ι }; k = k-is ι; at = h .at; depth = sym q ι; mark = h .mark } in
       let go : Going t out st at w = record {
         row = u .row;
         inside = u .inside;
@@ -122,12 +122,12 @@ module _ {c M : List ℕ} {n top first : ℕ} (t : Finished c M n top first) whe
   skip-going {out} {st} {h} {w} G z =
       let dots = t .code .dots in
       let b = terminal-at t (h .p) (G .inside) z in
-      let v = leaf-row (t .g) (t .r) (subst (λ (ss : List Symbol). PickedRow (t .g) (t .r) (h .k) ss (h .i) (h .j) (G .row)) (b .is) (G .picked)) in
-      let marks = subst (λ (ss : List Symbol). Ambiguous t w ↔ (T (h .mark) ⊎ (Twice (t .g) (t .r) (G .row) ss (h .i) (h .j) ⊎ AnyTwice t (G .pending)))) (b .is) (G .marks) in
+      let v = leaf-row (t .g) (t .r) (subst (λ (ss : List Symbol). PickedRow (t .g) (t .r) (h .k) ss (h .i .0) (h .j .0) (G .row)) (b .is) (G .picked)) in
+      let marks = subst (λ (ss : List Symbol). Ambiguous t w ↔ (T (h .mark) ⊎ (Twice (t .g) (t .r) (G .row) ss (h .i .0) (h .j .0) ⊎ AnyTwice t (G .pending)))) (b .is) (G .marks) in
       let marks' = subst (λ (u : Row). Ambiguous t w ↔
-      (T (h .mark) ⊎ (Twice (t .g) (t .r) u (terminal (b .x) ∷ afterDot dots (h .p + 1)) (h .i) (h .j) ⊎ AnyTwice t (G .pending))))
+      (T (h .mark) ⊎ (Twice (t .g) (t .r) u (terminal (b .x) ∷ afterDot dots (h .p + 1)) (h .i .0) (h .j .0) ⊎ AnyTwice t (G .pending))))
       (v .is) marks in
-      let go : Going t out st (record { p = h .p + 1; i = h .i + width (b .x); j = h .j; k = h .k; at = h .at; depth = h .depth; mark = h .mark }) w = record {
+      let go : Going t out st (record { p = h .p + 1; i = record { 0 = h .i .0 + width (b .x) }; j = h .j; k = h .k; at = h .at; depth = h .depth; mark = h .mark }) w = record {
         row = v .others;
         inside = b .next;
         within = G .within;
@@ -142,7 +142,7 @@ module _ {c M : List ℕ} {n top first : ℕ} (t : Finished c M n top first) whe
         room = G .room;
         stack = G .stack;
       } in
-      subst (λ (x : ℕ). Going t out st (record { p = h .p + 1; i = h .i + x; j = h .j; k = h .k; at = h .at; depth = h .depth; mark = h .mark }) w) (sym (b .wide)) go
+      subst (λ (x : ℕ). Going t out st (record { p = h .p + 1; i = record { 0 = h .i .0 + x }; j = h .j; k = h .k; at = h .at; depth = h .depth; mark = h .mark }) w) (sym (b .wide)) go
     where
       skipping : {A B : Type 0} {m i j : ℕ} {s : Symbol} {ss : List Symbol} {u : Row} → A ⊎ (Twice (t .g) (t .r) (leaf m u) (s ∷ ss) i j ⊎ B) → A ⊎ (Twice (t .g) (t .r) u ss m j ⊎ B)
       skipping (inl x) = inl x
@@ -194,7 +194,7 @@ module _ {c M : List ℕ} {n top first : ℕ} (t : Finished c M n top first) whe
   pub unrooted : heightAt M n top 0 n ≡ none → (w : Row) → Derivation (t .g) (t .r) w → ⊥
   unrooted e w d = rule-some (t .g) (t .r) (root-rule t .says 0 n (omega arith) (omega arith)) (subst (λ (z : ℕ). Derives (t .g) (t .r) w (root (t .g) ∷ []) 0 z) (t .long) d) e
 
-  pub can-begin : (out : List ℕ) (h : Cursor) → readingNumbers ≤ length out → h .i ≡ 0 → h .j ≡ n → h .at ≡ 0
+  pub can-begin : (out : List ℕ) (h : Cursor) → readingNumbers ≤ length out → h .i .0 ≡ 0 → h .j .0 ≡ n → h .at ≡ 0
       → (heightAt M n top 0 n ≡ none → ⊥) → CanEnter c M n top first out h
   can-begin out h l a b z f = record {
     stretch = record { order = omega arith; inside = omega arith; short = short t };
@@ -227,7 +227,7 @@ module _ {c M : List ℕ} {n top first : ℕ} (t : Finished c M n top first) whe
 
   begin-by : {out st : List ℕ} {w : Row} {j : ℕ} (k : ℕ) → readingNumbers ≤ length out → 3 * readingNumbers ≤ length st → j ≤ n
       → Chosen (t .g) (t .r) w (root (t .g) ∷ []) 0 j → Ambiguous t w ↔ Twice (t .g) (t .r) w (root (t .g) ∷ []) 0 j
-      → Before t top first out st (record { p = first; i = 0; j = j; k = k; at = 0; depth = 0; mark = false }) w
+      → Before t top first out st (record { p = first; i = record { 0 = 0 }; j = record { 0 = j }; k = k; at = 0; depth = 0; mark = false }) w
   begin-by k a b l (ch-node {c = u} {a = x} p d ch-end) m = record {
     s = root (t .g);
     rule = root-rule t;
@@ -247,14 +247,14 @@ module _ {c M : List ℕ} {n top first : ℕ} (t : Finished c M n top first) whe
   }
 
   pub begin : {out st : List ℕ} {w : Row} → readingNumbers ≤ length out → 3 * readingNumbers ≤ length st → Root w
-      → Before t top first out st (record { p = first; i = 0; j = n; k = 0; at = 0; depth = 0; mark = false }) w
+      → Before t top first out st (record { p = first; i = record { 0 = 0 }; j = record { 0 = n }; k = 0; at = 0; depth = 0; mark = false }) w
   begin {w = w} a b d =
       begin-by 0 a b (omega arith) (subst (λ (z : ℕ). Chosen (t .g) (t .r) w (root (t .g) ∷ []) 0 z) (t .long) d)
       (subst (λ (z : ℕ). Ambiguous t w ↔ Twice (t .g) (t .r) w (root (t .g) ∷ []) 0 z) (t .long) (twice-is (t .g) (t .r) (chosen-derives (t .g) (t .r) d)))
 
   -- the end
   last-row : {out st : List ℕ} {h : Cursor} {w : Row} {pending : List (Pending t)} → Finish out st h w pending → h .depth ≡ 0
-      → Stacked t st (h .depth) (h .j) pending → Finish out st h w []
+      → Stacked t st (h .depth) (h .j .0) pending → Finish out st h w []
   last-row F e (st-none z) = F
   last-row F e (st-more u z a x y k s) = absurd (omega arith)
 

@@ -133,8 +133,8 @@ module _ {c M : List ℕ} {n top first : ℕ} (t : Finished c M n top first) whe
   symbol-of {h = h} G x y = symbol-at t (h .p) (G .inside) x y
 
   pub node-of : {out st : List ℕ} {h : Cursor} {w : Row} (G : Going t out st h w) (S : SymbolAt t (h .p))
-      → NodeRow (t .g) (t .r) (h .k) (S .s) (afterDot (t .code .dots) (h .p + 1)) (h .i) (h .j) (G .row)
-  node-of {h = h} G S = node-row (t .g) (t .r) (S .rule .other) (subst (λ (ss : List Symbol). PickedRow (t .g) (t .r) (h .k) ss (h .i) (h .j) (G .row)) (S .is) (G .picked))
+      → NodeRow (t .g) (t .r) (h .k) (S .s) (afterDot (t .code .dots) (h .p + 1)) (h .i .0) (h .j .0) (G .row)
+  node-of {h = h} G S = node-row (t .g) (t .r) (S .rule .other) (subst (λ (ss : List Symbol). PickedRow (t .g) (t .r) (h .k) ss (h .i .0) (h .j .0) (G .row)) (S .is) (G .picked))
 
   pub can-descend : {out st : List ℕ} {h : Cursor} {w : Row} → Going t out st h w → (nextKind c (h .p) ≡ 0 → ⊥) → (nextKind c (h .p) ≡ 1 → ⊥) → CanDescend c M n h
   can-descend {h = h} G x y =
@@ -153,20 +153,21 @@ module _ {c M : List ℕ} {n top first : ℕ} (t : Finished c M n top first) whe
   row-list xs ys a m c' u row w e f = rw (← append-assoc (leftParse c') (leftParse u) ys) (subst (λ (z : Row). xs ++ (leftParse z ++ ys) ≡ leftParse w) e f)
 
   pub descend-before : {out st : List ℕ} {h : Cursor} {w : Row} → Going t out st h w → (nextKind c (h .p) ≡ 0 → ⊥) → (nextKind c (h .p) ≡ 1 → ⊥)
-      → (m : ℕ) (b : Bool) → FirstEnd c M n (h .p + 1) (ruleAt c (h .p)) (h .i) (h .j) (h .k) m
-      → Tells b (OtherEnd c M n (h .p + 1) (ruleAt c (h .p)) (h .i) (h .j) m) → Before t (ruleAt c (h .p)) (goesAt c (h .p)) out (pushed st (h .depth) (h .p + 1) (h .j) (h .k)) (descended h m b) w
+      → (m : ℕ) (b : Bool) → FirstEnd c M n (h .p + 1) (ruleAt c (h .p)) (h .i .0) (h .j .0) (h .k) m
+      → Tells b (OtherEnd c M n (h .p + 1) (ruleAt c (h .p)) (h .i .0) (h .j .0) m)
+      → Before t (ruleAt c (h .p)) (goesAt c (h .p)) out (pushed st (h .depth) (h .p + 1) (h .j .0) (h .k)) (descended h m b) w
   descend-before {out} {st} {h} {w} G x y m b f o =
       let S = symbol-of G x y in
       let N = node-of G S in
       let e = end-same S (G .within) (G .small) N m f in
       let ss = afterDot (t .code .dots) (h .p + 1) in
       let q = node-after S (G .within) (G .small) N in
-      let o' = subst (λ (z : ℕ). Tells b (OtherEnd c M n (h .p + 1) (ruleAt c (h .p)) (h .i) (h .j) z)) e o in
+      let o' = subst (λ (z : ℕ). Tells b (OtherEnd c M n (h .p + 1) (ruleAt c (h .p)) (h .i .0) (h .j .0) z)) e o in
       let told = tells-by o' (other-place S (G .within)) (other-end S (G .within)) in
       let row-is = N .is in
-      let before = subst (λ (ss : List Symbol). Ambiguous t w ↔ (T (h .mark) ⊎ (Twice (t .g) (t .r) (G .row) ss (h .i) (h .j) ⊎ AnyTwice t (G .pending)))) (S .is) (G .marks) in
-      let before' = subst (λ (z : Row). Ambiguous t w ↔ (T (h .mark) ⊎ (Twice (t .g) (t .r) z (S .s ∷ ss) (h .i) (h .j) ⊎ AnyTwice t (G .pending)))) row-is before in
-      let waiting : Pending t = record { place = h .p + 1; from = N .place; to = h .j; bound = h .k; row = N .others; inside = S .next; within = G .within; small = G .small; picked = N .picked } in
+      let before = subst (λ (ss : List Symbol). Ambiguous t w ↔ (T (h .mark) ⊎ (Twice (t .g) (t .r) (G .row) ss (h .i .0) (h .j .0) ⊎ AnyTwice t (G .pending)))) (S .is) (G .marks) in
+      let before' = subst (λ (z : Row). Ambiguous t w ↔ (T (h .mark) ⊎ (Twice (t .g) (t .r) z (S .s ∷ ss) (h .i .0) (h .j .0) ⊎ AnyTwice t (G .pending)))) row-is before in
+      let waiting : Pending t = record { place = h .p + 1; from = N .place; to = h .j .0; bound = h .k; row = N .others; inside = S .next; within = G .within; small = G .small; picked = N .picked } in
       let room : 3 * h .depth + 2 < length st = omega (arith, G .written, G .most, G .stack) in
       rw e (record {
         s = S .s;
@@ -186,5 +187,5 @@ module _ {c M : List ℕ} {n top first : ℕ} (t : Finished c M n top first) whe
         written = omega (arith, G .written);
         most = G .most;
         room = G .room;
-        stack = omega (arith, pushed-length st (h .depth) (h .p + 1) (h .j) (h .k) room, G .stack);
+        stack = omega (arith, pushed-length st (h .depth) (h .p + 1) (h .j .0) (h .k) room, G .stack);
       })

@@ -42,13 +42,13 @@ module _ {c M : List ℕ} {n top first : ℕ} (t : Finished c M n top first) whe
   pub record Going (out st : List ℕ) (h : Cursor) (w : Row) : Type 0 where
     pub row : Row
     pub inside : h .p < t .size
-    pub within : h .j ≤ n
+    pub within : h .j .0 ≤ n
     pub small : h .k < none
-    pub picked : PickedRow (t .g) (t .r) (h .k) (afterDot (t .code .dots) (h .p)) (h .i) (h .j) row
+    pub picked : PickedRow (t .g) (t .r) (h .k) (afterDot (t .code .dots) (h .p)) (h .i .0) (h .j .0) row
     pub pending : List (Pending t)
-    pub stacked : Stacked t st (h .depth) (h .j) pending
+    pub stacked : Stacked t st (h .depth) (h .j .0) pending
     pub list : take (h .at) out ++ (leftParse row ++ parses t pending) ≡ leftParse w
-    pub marks : Ambiguous w ↔ (T (h .mark) ⊎ (Twice (t .g) (t .r) row (afterDot (t .code .dots) (h .p)) (h .i) (h .j) ⊎ AnyTwice t pending))
+    pub marks : Ambiguous w ↔ (T (h .mark) ⊎ (Twice (t .g) (t .r) row (afterDot (t .code .dots) (h .p)) (h .i .0) (h .j .0) ⊎ AnyTwice t pending))
     pub written : h .depth < h .at
     pub most : h .at ≤ readingNumbers
     pub room : readingNumbers ≤ length out
@@ -60,14 +60,14 @@ module _ {c M : List ℕ} {n top first : ℕ} (t : Finished c M n top first) whe
     pub rule : RuleOf t s e q
     pub number : ℕ
     pub children : Row
-    pub choice : Picked (t .g) (t .r) s (h .i) (h .j) number (ends children)
-    pub inside : Chosen (t .g) (t .r) children (alternative (t .g) s number) (h .i) (h .j)
-    pub within : h .j ≤ n
+    pub choice : Picked (t .g) (t .r) s (h .i .0) (h .j .0) number (ends children)
+    pub inside : Chosen (t .g) (t .r) children (alternative (t .g) s number) (h .i .0) (h .j .0)
+    pub within : h .j .0 ≤ n
     pub pending : List (Pending t)
-    pub stacked : Stacked t st (h .depth) (h .j) pending
+    pub stacked : Stacked t st (h .depth) (h .j .0) pending
     pub list : take (h .at) out ++ (number ∷ (leftParse children ++ parses t pending)) ≡ leftParse w
-    pub marks : Ambiguous w ↔ (T (h .mark) ⊎ (OtherNumber (t .g) (t .r) s (h .i) (h .j) number
-        ⊎ (Twice (t .g) (t .r) children (alternative (t .g) s number) (h .i) (h .j) ⊎ AnyTwice t pending)))
+    pub marks : Ambiguous w ↔ (T (h .mark) ⊎ (OtherNumber (t .g) (t .r) s (h .i .0) (h .j .0) number
+        ⊎ (Twice (t .g) (t .r) children (alternative (t .g) s number) (h .i .0) (h .j .0) ⊎ AnyTwice t pending)))
     pub written : h .depth ≤ h .at
     pub most : h .at ≤ readingNumbers
     pub room : readingNumbers ≤ length out
@@ -160,27 +160,27 @@ module _ {c M : List ℕ} {n top first : ℕ} (t : Finished c M n top first) whe
   number-over out xs at a ys h e = omega (arith, ap length e, length-append (take at out) (a ∷ xs), length-take at out)
 
   enter-wrote : {e q : ℕ} {out st : List ℕ} {h : Cursor} {w : Row} (B : Before e q out st h w) (a : Alternative) (b : Bool) → h .at < readingNumbers
-      → FirstLow c M n q (h .i) (h .j) (heightAt M n e (h .i) (h .j)) a
-      → Tells b (OtherBy c M n q (h .i) (h .j) (a .number)) → Going (set out (h .at) (a .number)) st (entered h a (heightAt M n e (h .i) (h .j)) b) w
+      → FirstLow c M n q (h .i .0) (h .j .0) (heightAt M n e (h .i .0) (h .j .0)) a
+      → Tells b (OtherBy c M n q (h .i .0) (h .j .0) (a .number)) → Going (set out (h .at) (a .number)) st (entered h a (heightAt M n e (h .i .0) (h .j .0)) b) w
   enter-wrote {e} {q} {out} {st} {h} {w} B a b l f o =
       let order = forward (t .g) (t .r) (chosen-derives (t .g) (t .r) (B .inside)) in
       let m = met (B .rule) order (B .within) (B .choice) a f in
       let row = child-row (t .g) (t .r) (B .choice) (B .inside) in
-      let row' = subst (λ (ss : List Symbol). PickedRow (t .g) (t .r) (B .choice .high) ss (h .i) (h .j) (B .children)) (sym (m .is)) row in
-      let o' = subst (λ (z : ℕ). Tells b (OtherBy c M n q (h .i) (h .j) z)) (m .same) o in
+      let row' = subst (λ (ss : List Symbol). PickedRow (t .g) (t .r) (B .choice .high) ss (h .i .0) (h .j .0) (B .children)) (sym (m .is)) row in
+      let o' = subst (λ (z : ℕ). Tells b (OtherBy c M n q (h .i .0) (h .j .0) z)) (m .same) o in
       let told = tells-by o' (other-number (B .rule) order (B .within)) (other-by (B .rule) order (B .within)) in
       let marks = subst
       (λ (ss : List Symbol). Ambiguous w ↔
       (T (h .mark) ⊎
-      (OtherNumber (t .g) (t .r) (B .s) (h .i) (h .j) (B .number) ⊎
-      (Twice (t .g) (t .r) (B .children) ss (h .i) (h .j) ⊎ AnyTwice t (B .pending)))))
+      (OtherNumber (t .g) (t .r) (B .s) (h .i .0) (h .j .0) (B .number) ⊎
+      (Twice (t .g) (t .r) (B .children) ss (h .i .0) (h .j .0) ⊎ AnyTwice t (B .pending)))))
       (sym (m .is)) (B .marks) in
       record {
         row = B .children;
         inside = m .inside;
         within = B .within;
         small = m .small;
-        picked = subst (λ (z : ℕ). PickedRow (t .g) (t .r) z (afterDot (t .code .dots) (a .place)) (h .i) (h .j) (B .children)) (sym (m .high)) row';
+        picked = subst (λ (z : ℕ). PickedRow (t .g) (t .r) z (afterDot (t .code .dots) (a .place)) (h .i .0) (h .j .0) (B .children)) (sym (m .high)) row';
         pending = B .pending;
         stacked = B .stacked;
         list = number-list out (h .at) (a .number) (leftParse (B .children) ++ parses t (B .pending)) (leftParse w) (omega (arith, B .room)) (rw (m .same) (B .list));

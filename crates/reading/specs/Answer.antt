@@ -8,6 +8,7 @@ use lib.Dec.{T}
 use lib.ListN.{length, take}
 use Rattle.text.specs.Limits.{readingNumbers}
 use Rattle.text.specs.Lists.{Text}
+use Rattle.text.specs.Stages.{StageAnswer, answered, refused, Settles}
 use Rattle.tree.specs.Tree.{Grammar}
 use Rattle.derive.specs.Derive.{Row, Derivation}
 use Rattle.derive.specs.Chosen.{Second}
@@ -48,7 +49,16 @@ pub record IsLong (g : Grammar) (r : Text) : Type 0 where
   pub reading : ChosenReading g r tree parse
   pub long : readingNumbers < length parse
 
+-- the number of a record without a reading, and of one whose reading is too long
+pub data NotRead (g : Grammar) (r : Text) : ℕ → Type 0 where
+  no-reading : ((t : Row) → Derivation g r t → ⊥) → NotRead g r 16
+  too-long : IsLong g r → NotRead g r 29
+
+-- document 01's number and values for each case: with 0, how many numbers the left parse has, and the ambiguous mark
+abbrev pub stageOf : Walked → StageAnswer (ℕ × Bool) ℕ
+stageOf (Reading count mark) = answered (count, mark)
+stageOf TooLong = refused 29
+stageOf NoReading = refused 16
+
 abbrev pub Answers : Grammar → Text → List ℕ → Walked → Type 0
-Answers g r out (Reading count mark) = IsReading g r out count mark
-Answers g r out TooLong = IsLong g r
-Answers g r out NoReading = (t : Row) → Derivation g r t → ⊥
+Answers g r out w = Settles (λ v. IsReading g r out (v .0) (v .1)) (NotRead g r) (stageOf w)

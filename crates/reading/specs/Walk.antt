@@ -127,7 +127,7 @@ abbrev pub popped : List ℕ → Cursor → Cursor
 popped st h = record {
   p = getD st (3 * (h .depth - 1)) 0;
   i = h .j;
-  j = getD st (3 * (h .depth - 1) + 1) 0;
+  j = record { 0 = getD st (3 * (h .depth - 1) + 1) 0 };
   k = getD st (3 * (h .depth - 1) + 2) 0;
   at = h .at;
   depth = h .depth - 1;
@@ -136,35 +136,39 @@ popped st h = record {
 
 -- past a terminal
 abbrev pub skipped : List ℕ → Cursor → Cursor
-skipped c h = record { p = h .p + 1; i = h .i + goesAt c (h .p); j = h .j; k = h .k; at = h .at; depth = h .depth; mark = h .mark }
+skipped c h = record { p = h .p + 1; i = record { 0 = h .i .0 + goesAt c (h .p) }; j = h .j; k = h .k; at = h .at; depth = h .depth; mark = h .mark }
 
 -- before the node of a symbol that ends at m
 abbrev pub descended : Cursor → ℕ → Bool → Cursor
-descended h m b = record { p = h .p; i = h .i; j = m; k = h .k; at = h .at; depth = h .depth + 1; mark = h .mark || b }
+descended h m b = record { p = h .p; i = h .i; j = record { 0 = m }; k = h .k; at = h .at; depth = h .depth + 1; mark = h .mark || b }
 
 -- in the node, whose alternative is a and whose rows have heights at most k
 abbrev pub entered : Cursor → Alternative → ℕ → Bool → Cursor
 entered h a k b = record { p = a .place; i = h .i; j = h .j; k = k; at = h .at + 1; depth = h .depth; mark = h .mark || b }
 
+-- where one number more is counted
+abbrev pub counted : Cursor → Cursor
+counted h = record { p = h .p; i = h .i; j = h .j; k = h .k; at = h .at + 1; depth = h .depth; mark = h .mark }
+
 -- a node of the rule e, whose first position is q, is entered: its number is written, or there is no room for it
 pub data Entered (c M : List ℕ) (n e q : ℕ) (out out' : List ℕ) (h r : Cursor) : Type 0 where
   full : h .at ≡ readingNumbers → out' ≡ out → r .p ≡ h .p → r .at ≡ readingNumbers + 1 → r .depth ≡ h .depth → Entered c M n e q out out' h r
-  wrote : (a : Alternative) (b : Bool) → h .at < readingNumbers → FirstLow c M n q (h .i) (h .j) (heightAt M n e (h .i) (h .j)) a
-      → Tells b (OtherBy c M n q (h .i) (h .j) (a .number)) → out' ≡ set out (h .at) (a .number) → r ≡ entered h a (heightAt M n e (h .i) (h .j)) b
+  wrote : (a : Alternative) (b : Bool) → h .at < readingNumbers → FirstLow c M n q (h .i .0) (h .j .0) (heightAt M n e (h .i .0) (h .j .0)) a
+      → Tells b (OtherBy c M n q (h .i .0) (h .j .0) (a .number)) → out' ≡ set out (h .at) (a .number) → r ≡ entered h a (heightAt M n e (h .i .0) (h .j .0)) b
       → Entered c M n e q out out' h r
 
 pub data Stepped (c M : List ℕ) (n : ℕ) (out out' st st' : List ℕ) (h r : Cursor) : Type 0 where
   at-end : nextKind c (h .p) ≡ 0 → out' ≡ out → st' ≡ st → r ≡ popped st h → Stepped c M n out out' st st' h r
   at-terminal : nextKind c (h .p) ≡ 1 → out' ≡ out → st' ≡ st → r ≡ skipped c h → Stepped c M n out out' st st' h r
-  at-symbol : (nextKind c (h .p) ≡ 0 → ⊥) → (nextKind c (h .p) ≡ 1 → ⊥) → (m : ℕ) (b : Bool) → FirstEnd c M n (h .p + 1) (ruleAt c (h .p)) (h .i) (h .j) (h .k) m
-      → Tells b (OtherEnd c M n (h .p + 1) (ruleAt c (h .p)) (h .i) (h .j) m) → st' ≡ pushed st (h .depth) (h .p + 1) (h .j) (h .k)
+  at-symbol : (nextKind c (h .p) ≡ 0 → ⊥) → (nextKind c (h .p) ≡ 1 → ⊥) → (m : ℕ) (b : Bool) → FirstEnd c M n (h .p + 1) (ruleAt c (h .p)) (h .i .0) (h .j .0) (h .k) m
+      → Tells b (OtherEnd c M n (h .p + 1) (ruleAt c (h .p)) (h .i .0) (h .j .0) m) → st' ≡ pushed st (h .depth) (h .p + 1) (h .j .0) (h .k)
       → Entered c M n (ruleAt c (h .p)) (goesAt c (h .p)) out out' (descended h m b) r → Stepped c M n out out' st st' h r
 
 -- what entering a node asks
 pub record CanEnter (c M : List ℕ) (n e q : ℕ) (out : List ℕ) (h : Cursor) : Type 0 where
-  pub stretch : Within n (h .i) (h .j)
+  pub stretch : Within n (h .i .0) (h .j .0)
   pub row : Row M n e
-  pub some : SomeLow c M n q (h .i) (h .j) (heightAt M n e (h .i) (h .j))
+  pub some : SomeLow c M n q (h .i .0) (h .j .0) (heightAt M n e (h .i .0) (h .j .0))
   pub room : readingNumbers ≤ length out
   pub most : h .at ≤ readingNumbers
 
@@ -172,12 +176,13 @@ pub record CanEnter (c M : List ℕ) (n e q : ℕ) (out : List ℕ) (h : Cursor)
 pub record CanDescend (c M : List ℕ) (n : ℕ) (h : Cursor) : Type 0 where
   pub next : Position c M n (h .p + 1)
   pub row : Row M n (ruleAt c (h .p))
-  pub ends : SomeEnd c M n (h .p + 1) (ruleAt c (h .p)) (h .i) (h .j) (h .k)
-  pub lows : (m : ℕ) → h .i ≤ m → m ≤ h .j → heightAt M n (ruleAt c (h .p)) (h .i) m < h .k → SomeLow c M n (goesAt c (h .p)) (h .i) m (heightAt M n (ruleAt c (h .p)) (h .i) m)
+  pub ends : SomeEnd c M n (h .p + 1) (ruleAt c (h .p)) (h .i .0) (h .j .0) (h .k)
+  pub lows : (m : ℕ) → h .i .0 ≤ m → m ≤ h .j .0 → heightAt M n (ruleAt c (h .p)) (h .i .0) m < h .k
+      → SomeLow c M n (goesAt c (h .p)) (h .i .0) m (heightAt M n (ruleAt c (h .p)) (h .i .0) m)
 
 -- what a step asks
 pub record CanStep (c M : List ℕ) (n : ℕ) (out st : List ℕ) (h : Cursor) : Type 0 where
-  pub stretch : Within n (h .i) (h .j)
+  pub stretch : Within n (h .i .0) (h .j .0)
   pub position : Position c M n (h .p)
   pub written : h .depth < h .at
   pub most : h .at ≤ readingNumbers

@@ -33,8 +33,8 @@ fn next_alternative(code: &[u32], q: usize) -> usize
 
 // The earliest alternative of height at most k.
 pub fn find_alternative(code: &[u32], main: &[u32], first: usize, s: Stretch, k: u32) -> Alternative
-    requires { ⌜ Within (s .n) (s .i) (s .j) × SomeLow (now code) (now main) (s .n) first (s .i) (s .j) k ⌝ }
-    ensures { λ r. ⌜ FirstLow (now (code .entry)) (now (main .entry)) (s .n) first (s .i) (s .j) k r ⌝ }
+    requires { ⌜ Within (s .n .0) (s .i .0) (s .j .0) × SomeLow (now code) (now main) (s .n .0) first (s .i .0) (s .j .0) k ⌝ }
+    ensures { λ r. ⌜ FirstLow (now (code .entry)) (now (main .entry)) (s .n .0) first (s .i .0) (s .j .0) k r ⌝ }
 {
     let mut q = first;
     let mut a = 0;
@@ -57,8 +57,8 @@ fn another_derives(
     a: usize,
     number: usize,
 ) -> bool
-    requires { ⌜ Position (now code) (now main) (s .n) q × Within (s .n) (s .i) (s .j) ⌝ }
-    ensures { λ r. ⌜ Tells r ((a ≡ number → ⊥) × (valueAt (now (code .entry)) (now (main .entry)) (s .n) q (s .i) (s .j) ≡ 4294967295 → ⊥)) ⌝ }
+    requires { ⌜ Position (now code) (now main) (s .n .0) q × Within (s .n .0) (s .i .0) (s .j .0) ⌝ }
+    ensures { λ r. ⌜ Tells r ((a ≡ number → ⊥) × (valueAt (now (code .entry)) (now (main .entry)) (s .n .0) q (s .i .0) (s .j .0) ≡ 4294967295 → ⊥)) ⌝ }
 {
     if a == number {
         return false;
@@ -74,8 +74,8 @@ pub fn other_alternative(
     s: Stretch,
     number: usize,
 ) -> bool
-    requires { ⌜ Within (s .n) (s .i) (s .j) × Lined (now code) (now main) (s .n) first ⌝ }
-    ensures { λ r. ⌜ Tells r (OtherBy (now (code .entry)) (now (main .entry)) (s .n) first (s .i) (s .j) number) ⌝ }
+    requires { ⌜ Within (s .n .0) (s .i .0) (s .j .0) × Lined (now code) (now main) (s .n .0) first ⌝ }
+    ensures { λ r. ⌜ Tells r (OtherBy (now (code .entry)) (now (main .entry)) (s .n .0) first (s .i .0) (s .j .0) number) ⌝ }
 {
     let mut q = first;
     let mut a = 0;

@@ -6,27 +6,39 @@ use crate::Stretch;
 use crate::table::height;
 use crate::table::value;
 use chart::NONE;
+use text::CharPlace;
 
 // Whether the symbol may end at m in trees of heights below k, and the rest of its row reach j in trees of heights at most k.
-fn low_end(code: &[u32], main: &[u32], p: usize, rule: usize, s: Stretch, k: u32, m: usize) -> bool
-    requires { ⌜ Position (now code) (now main) (s .n) p × (Row (now main) (s .n) rule × (Within (s .n) (s .i) m × Within (s .n) m (s .j))) ⌝ }
-    ensures { λ r. ⌜ Tells r (LowEnd (now (code .entry)) (now (main .entry)) (s .n) p rule (s .i) (s .j) k m) ⌝ }
+fn low_end(
+    code: &[u32],
+    main: &[u32],
+    p: usize,
+    rule: usize,
+    s: Stretch,
+    k: u32,
+    m: CharPlace,
+) -> bool
+    requires { ⌜ Position (now code) (now main) (s .n .0) p × (Row (now main) (s .n .0) rule × (Within (s .n .0) (s .i .0) (m .0) × Within (s .n .0) (m .0) (s .j .0))) ⌝ }
+    ensures { λ r. ⌜ Tells r (LowEnd (now (code .entry)) (now (main .entry)) (s .n .0) p rule (s .i .0) (s .j .0) k (m .0)) ⌝ }
 {
     let n = s.n;
-    if height(main, rule, Stretch { n, i: s.i, j: m }) < k {
-        return value(code, main, p, Stretch { n, i: m, j: s.j }) <= k;
+    let i = s.i;
+    let j = s.j;
+    if height(main, rule, Stretch { n, i, j: m }) < k {
+        return value(code, main, p, Stretch { n, i: m, j }) <= k;
     }
     false
 }
 
 // The smallest place where the symbol may end.
-pub fn find_end(code: &[u32], main: &[u32], p: usize, rule: usize, s: Stretch, k: u32) -> usize
-    requires { ⌜ Position (now code) (now main) (s .n) p × (Row (now main) (s .n) rule × (Within (s .n) (s .i) (s .j) × SomeEnd (now code) (now main) (s .n) p rule (s .i) (s .j) k)) ⌝ }
-    ensures { λ r. ⌜ FirstEnd (now (code .entry)) (now (main .entry)) (s .n) p rule (s .i) (s .j) k r ⌝ }
+pub fn find_end(code: &[u32], main: &[u32], p: usize, rule: usize, s: Stretch, k: u32) -> CharPlace
+    requires { ⌜ Position (now code) (now main) (s .n .0) p × (Row (now main) (s .n .0) rule × (Within (s .n .0) (s .i .0) (s .j .0)
+        × SomeEnd (now code) (now main) (s .n .0) p rule (s .i .0) (s .j .0) k)) ⌝ }
+    ensures { λ r. ⌜ FirstEnd (now (code .entry)) (now (main .entry)) (s .n .0) p rule (s .i .0) (s .j .0) k (r .0) ⌝ }
 {
     let mut m = s.i;
     while !low_end(code, main, p, rule, s, k, m) {
-        m += 1;
+        m = CharPlace(m.0 + 1);
     }
     m
 }
@@ -38,33 +50,42 @@ fn another_end(
     p: usize,
     rule: usize,
     s: Stretch,
-    m: usize,
-    l: usize,
+    m: CharPlace,
+    l: CharPlace,
 ) -> bool
-    requires { ⌜ Position (now code) (now main) (s .n) p × (Row (now main) (s .n) rule × (Within (s .n) (s .i) l × Within (s .n) l (s .j))) ⌝ }
-    ensures { λ r. ⌜ Tells r (AnotherEnd (now (code .entry)) (now (main .entry)) (s .n) p rule (s .i) (s .j) m l) ⌝ }
+    requires { ⌜ Position (now code) (now main) (s .n .0) p × (Row (now main) (s .n .0) rule × (Within (s .n .0) (s .i .0) (l .0) × Within (s .n .0) (l .0) (s .j .0))) ⌝ }
+    ensures { λ r. ⌜ Tells r (AnotherEnd (now (code .entry)) (now (main .entry)) (s .n .0) p rule (s .i .0) (s .j .0) (m .0) (l .0)) ⌝ }
 {
-    if l == m {
+    if l.0 == m.0 {
         return false;
     }
     let n = s.n;
-    if height(main, rule, Stretch { n, i: s.i, j: l }) == NONE {
+    let i = s.i;
+    let j = s.j;
+    if height(main, rule, Stretch { n, i, j: l }) == NONE {
         return false;
     }
-    value(code, main, p, Stretch { n, i: l, j: s.j }) != NONE
+    value(code, main, p, Stretch { n, i: l, j }) != NONE
 }
 
 // Whether the symbol may end at a place other than m.
-pub fn other_end(code: &[u32], main: &[u32], p: usize, rule: usize, s: Stretch, m: usize) -> bool
-    requires { ⌜ Position (now code) (now main) (s .n) p × (Row (now main) (s .n) rule × Within (s .n) (s .i) (s .j)) ⌝ }
-    ensures { λ r. ⌜ Tells r (OtherEnd (now (code .entry)) (now (main .entry)) (s .n) p rule (s .i) (s .j) m) ⌝ }
+pub fn other_end(
+    code: &[u32],
+    main: &[u32],
+    p: usize,
+    rule: usize,
+    s: Stretch,
+    m: CharPlace,
+) -> bool
+    requires { ⌜ Position (now code) (now main) (s .n .0) p × (Row (now main) (s .n .0) rule × Within (s .n .0) (s .i .0) (s .j .0)) ⌝ }
+    ensures { λ r. ⌜ Tells r (OtherEnd (now (code .entry)) (now (main .entry)) (s .n .0) p rule (s .i .0) (s .j .0) (m .0)) ⌝ }
 {
     let mut l = s.i;
-    while l <= s.j {
+    while l.0 <= s.j.0 {
         if another_end(code, main, p, rule, s, m, l) {
             return true;
         }
-        l += 1;
+        l = CharPlace(l.0 + 1);
     }
     false
 }

@@ -13,7 +13,8 @@ ghost use mathlib.Core.Bool.{Bool, true, false, _||_};
 ghost use Prim.Native.Nat.{ℕ, _+_, _*_, _<_, _≤_};
 ghost use lib.ListN.{length};
 ghost use Rattle.chart.specs.Code.{nextKind};
-ghost use Rattle.reading.specs.Walk.{pushed, popped, Entered, Stepped, CanEnter, CanStep, Over};
+ghost use Rattle.text.specs.Limits.{readingNumbers};
+ghost use Rattle.reading.specs.Walk.{pushed, popped, counted, Entered, Stepped, CanEnter, CanStep, Over};
 ghost use Rattle.reading.specs.Answer.{Finished, Given, Answers};
 use crate::alternatives::find_alternative;
 use crate::alternatives::other_alternative;
@@ -24,6 +25,7 @@ use crate::table::BEFORE_TERMINAL;
 use crate::table::height;
 use crate::table::number_at;
 use chart::NONE;
+use text::CharPlace;
 use text::limits;
 
 // What the walk comes to: the count of the left parse's numbers and the ambiguous mark; more numbers than a reading may have; the
@@ -34,19 +36,19 @@ pub enum Walked {
     NoReading,
 }
 
-// The characters from place i to place j of a record of n.
+// The characters from place i to place j of a record that ends at n.
 pub struct Stretch {
-    pub n: usize,
-    pub i: usize,
-    pub j: usize,
+    pub n: CharPlace,
+    pub i: CharPlace,
+    pub j: CharPlace,
 }
 
 // Where the walk stands. The symbols after the dot position p derive the characters from i to j, in trees of heights at most k.
 // Written are `at` numbers, `depth` rows wait on the stack, and the mark tells whether another derivation was met.
 pub struct Cursor {
     pub p: usize,
-    pub i: usize,
-    pub j: usize,
+    pub i: CharPlace,
+    pub j: CharPlace,
     pub k: u32,
     pub at: usize,
     pub depth: usize,
@@ -60,13 +62,13 @@ pub struct Alternative {
 }
 
 // Puts a row on the stack: it goes on at p, to the place j, with heights at most k.
-fn push(stack: &mut [u32], depth: usize, p: usize, j: usize, k: u32)
-    requires { ⌜ (3 * depth + 2 < length (now stack)) × ((p < 4294967296) × (j < 4294967296)) ⌝ }
-    ensures { λ r. ⌜ now (stack .exit) ≡ pushed (now (stack .entry)) depth p j k ⌝ }
+fn push(stack: &mut [u32], depth: usize, p: usize, j: CharPlace, k: u32)
+    requires { ⌜ (3 * depth + 2 < length (now stack)) × ((p < 4294967296) × (j .0 < 4294967296)) ⌝ }
+    ensures { λ r. ⌜ now (stack .exit) ≡ pushed (now (stack .entry)) depth p (j .0) k ⌝ }
 {
     let b = 3 * depth;
     stack[b] = p as u32;
-    stack[b + 1] = j as u32;
+    stack[b + 1] = j.0 as u32;
     stack[b + 2] = k;
 }
 
@@ -78,14 +80,33 @@ fn pop(stack: &[u32], h: Cursor) -> Cursor
     let depth = h.depth - 1;
     let b = 3 * depth;
     let p = number_at(stack, b);
-    let j = number_at(stack, b + 1);
+    let j = CharPlace(number_at(stack, b + 1));
+    let i = h.j;
     Cursor {
         p: p,
-        i: h.j,
+        i: i,
         j: j,
         k: stack[b + 2],
         at: h.at,
         depth: depth,
+        mark: h.mark,
+    }
+}
+
+// A number that has no room is counted, and not written.
+fn count_only(h: Cursor) -> Cursor
+    requires { ⌜ h .at ≤ readingNumbers ⌝ }
+    ensures { λ r. ⌜ r ≡ counted h ⌝ }
+{
+    let i = h.i;
+    let j = h.j;
+    Cursor {
+        p: h.p,
+        i: i,
+        j: j,
+        k: h.k,
+        at: h.at + 1,
+        depth: h.depth,
         mark: h.mark,
     }
 }
@@ -95,36 +116,30 @@ fn pop(stack: &[u32], h: Cursor) -> Cursor
 fn enter(
     code: &[u32],
     main: &[u32],
-    n: usize,
+    n: CharPlace,
     rule: usize,
     first: usize,
     out: &mut [u32],
     h: Cursor,
 ) -> Cursor
-    requires { ⌜ CanEnter (now code) (now main) n rule first (now out) h ⌝ }
-    ensures { λ r. ⌜ Entered (now (code .entry)) (now (main .entry)) n rule first (now (out .entry)) (now (out .exit)) h r ⌝ }
+    requires { ⌜ CanEnter (now code) (now main) (n .0) rule first (now out) h ⌝ }
+    ensures { λ r. ⌜ Entered (now (code .entry)) (now (main .entry)) (n .0) rule first (now (out .entry)) (now (out .exit)) h r ⌝ }
 {
     let at = h.at;
+    let i = h.i;
+    let j = h.j;
     if limits::READING_NUMBERS <= at {
-        return Cursor {
-            p: h.p,
-            i: h.i,
-            j: h.j,
-            k: h.k,
-            at: at + 1,
-            depth: h.depth,
-            mark: h.mark,
-        };
+        return count_only(h);
     }
-    let s = Stretch { n, i: h.i, j: h.j };
+    let s = Stretch { n, i, j };
     let k = height(main, rule, s);
     let a = find_alternative(code, main, first, s, k);
     let other = other_alternative(code, main, first, s, a.number);
     out[at] = a.number as u32;
     Cursor {
         p: a.place,
-        i: h.i,
-        j: h.j,
+        i: i,
+        j: j,
         k: k,
         at: at + 1,
         depth: h.depth,
@@ -136,29 +151,31 @@ fn enter(
 fn descend(
     code: &[u32],
     main: &[u32],
-    n: usize,
+    n: CharPlace,
     out: &mut [u32],
     stack: &mut [u32],
     h: Cursor,
 ) -> Cursor
-    requires { ⌜ CanStep (now code) (now main) n (now out) (now stack) h × ((nextKind (now code) (h .p) ≡ 0 → ⊥) × (nextKind (now code) (h .p) ≡ 1 → ⊥)) ⌝ }
-    ensures { λ r. ⌜ Stepped (now (code .entry)) (now (main .entry)) n (now (out .entry)) (now (out .exit)) (now (stack .entry)) (now (stack .exit)) h r ⌝ }
+    requires { ⌜ CanStep (now code) (now main) (n .0) (now out) (now stack) h × ((nextKind (now code) (h .p) ≡ 0 → ⊥) × (nextKind (now code) (h .p) ≡ 1 → ⊥)) ⌝ }
+    ensures { λ r. ⌜ Stepped (now (code .entry)) (now (main .entry)) (n .0) (now (out .entry)) (now (out .exit)) (now (stack .entry)) (now (stack .exit)) h r ⌝ }
 {
     let p = h.p;
     let rule = number_at(code, 4 * p + 2);
     let first = number_at(code, 4 * p + 1);
-    let s = Stretch { n, i: h.i, j: h.j };
+    let i = h.i;
+    let j = h.j;
+    let s = Stretch { n, i, j };
     let m = find_end(code, main, p + 1, rule, s, h.k);
-    let other = other_end(code, main, p + 1, rule, s, m);
-    push(stack, h.depth, p + 1, h.j, h.k);
+    let elsewhere = other_end(code, main, p + 1, rule, s, m);
+    push(stack, h.depth, p + 1, j, h.k);
     let inner = Cursor {
         p: p,
-        i: h.i,
+        i: i,
         j: m,
         k: h.k,
         at: h.at,
         depth: h.depth + 1,
-        mark: text::either(h.mark, other),
+        mark: text::either(h.mark, elsewhere),
     };
     enter(code, main, n, rule, first, out, inner)
 }
@@ -167,13 +184,13 @@ fn descend(
 fn step(
     code: &[u32],
     main: &[u32],
-    n: usize,
+    n: CharPlace,
     out: &mut [u32],
     stack: &mut [u32],
     h: Cursor,
 ) -> Cursor
-    requires { ⌜ CanStep (now code) (now main) n (now out) (now stack) h ⌝ }
-    ensures { λ r. ⌜ Stepped (now (code .entry)) (now (main .entry)) n (now (out .entry)) (now (out .exit)) (now (stack .entry)) (now (stack .exit)) h r ⌝ }
+    requires { ⌜ CanStep (now code) (now main) (n .0) (now out) (now stack) h ⌝ }
+    ensures { λ r. ⌜ Stepped (now (code .entry)) (now (main .entry)) (n .0) (now (out .entry)) (now (out .exit)) (now (stack .entry)) (now (stack .exit)) h r ⌝ }
 {
     let p = h.p;
     let kind = number_at(code, 4 * p);
@@ -182,10 +199,12 @@ fn step(
     }
     if kind == BEFORE_TERMINAL {
         let wide = number_at(code, 4 * p + 1);
+        let i = CharPlace(h.i.0 + wide);
+        let j = h.j;
         return Cursor {
             p: p + 1,
-            i: h.i + wide,
-            j: h.j,
+            i: i,
+            j: j,
             k: h.k,
             at: h.at,
             depth: h.depth,
@@ -218,21 +237,22 @@ fn more(code: &[u32], h: Cursor) -> bool
 pub fn walk(
     code: &[u32],
     main: &[u32],
-    n: usize,
+    n: CharPlace,
     top: usize,
     first: usize,
     out: &mut [u32],
     stack: &mut [u32],
 ) -> Walked
-    requires { ⌜ Given (now code) (now main) (now out) (now stack) n top first ⌝ }
-    ensures { λ r. ⌜ ((t : Finished (now (code .entry)) (now (main .entry)) n top first) → Answers (t .g) (t .r) (now (out .exit)) r) ⌝ }
+    requires { ⌜ Given (now code) (now main) (now out) (now stack) (n .0) top first ⌝ }
+    ensures { λ r. ⌜ ((t : Finished (now (code .entry)) (now (main .entry)) (n .0) top first) → Answers (t .g) (t .r) (now (out .exit)) r) ⌝ }
 {
-    if height(main, top, Stretch { n, i: 0, j: n }) == NONE {
+    let i = CharPlace(0);
+    if height(main, top, Stretch { n, i, j: n }) == NONE {
         return Walked::NoReading;
     }
     let start = Cursor {
         p: first,
-        i: 0,
+        i: i,
         j: n,
         k: 0,
         at: 0,

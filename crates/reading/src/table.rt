@@ -21,20 +21,20 @@ pub fn number_at(s: &[u32], at: usize) -> usize
 
 // The cell of p on a stretch.
 pub fn height(main: &[u32], p: usize, s: Stretch) -> u32
-    requires { ⌜ Row (now main) (s .n) p × Within (s .n) (s .i) (s .j) ⌝ }
-    ensures { λ r. ⌜ r ≡ heightAt (now (main .entry)) (s .n) p (s .i) (s .j) ⌝ }
+    requires { ⌜ Row (now main) (s .n .0) p × Within (s .n .0) (s .i .0) (s .j .0) ⌝ }
+    ensures { λ r. ⌜ r ≡ heightAt (now (main .entry)) (s .n .0) p (s .i .0) (s .j .0) ⌝ }
 {
-    let c = cell(s.n, p, s.i, s.j);
+    let c = cell(s.n.0, p, s.i.0, s.j.0);
     main[c]
 }
 
 // The least height of what stands after p. Nothing stands after the end of an alternative, whose cell has another use.
 pub fn value(code: &[u32], main: &[u32], p: usize, s: Stretch) -> u32
-    requires { ⌜ Position (now code) (now main) (s .n) p × Within (s .n) (s .i) (s .j) ⌝ }
-    ensures { λ r. ⌜ r ≡ valueAt (now (code .entry)) (now (main .entry)) (s .n) p (s .i) (s .j) ⌝ }
+    requires { ⌜ Position (now code) (now main) (s .n .0) p × Within (s .n .0) (s .i .0) (s .j .0) ⌝ }
+    ensures { λ r. ⌜ r ≡ valueAt (now (code .entry)) (now (main .entry)) (s .n .0) p (s .i .0) (s .j .0) ⌝ }
 {
     if number_at(code, 4 * p) == AFTER_ALTERNATIVE {
-        if s.i == s.j {
+        if s.i.0 == s.j.0 {
             return 0;
         }
         return NONE;

@@ -14,7 +14,7 @@ use Rattle.syntax.specs.Result.{Result, ok, fail, hd, map, when, then, guard}
 use Rattle.syntax.specs.Spacing.{skip, spaced}
 use Rattle.syntax.specs.Lexical.{read-chars, one-character, read-character, read-class, range-or, read-member}
 use Rattle.syntax.proofs.Classes.{capital-end, letter-end}
-use Rattle.decode.specs.declared.CharPlace.{CharPlace}
+use Rattle.text.specs.declared.CharPlace.{CharPlace}
 use Rattle.spacing.specs.declared.Cell.{Cell}
 use Rattle.spacing.specs.declared.Past.the-variants.{At as Past-at, No as Past-no}
 use Rattle.spacing.specs.declared.Step.{Step}

@@ -8,6 +8,7 @@ ghost use Rattle.syntax.specs.Result.{hd};
 ghost use Rattle.spacing.specs.Answers.{Room, three};
 ghost use Rattle.sets.specs.Answers.{Range-end, Chars-in, Past-chars, After-class, After-rest, After-filled, After-member, After-members, After-set};
 use decode::CharPlace;
+use decode::after;
 use lexical::Characters;
 use lexical::chars;
 use lexical::chars_token;
@@ -68,8 +69,7 @@ fn range_rest(text: &[u32], p: CharPlace, out: &mut [u32], at: Cell) -> Step
     requires { ⌜ Room (now text) (p .0) (now out) (at .0) × (p .0 < length (now text)) ⌝ }
     ensures { λ r. ⌜ After-rest (now (text .entry)) (p .0) (now (out .entry)) (at .0) r (now (out .exit)) ⌝ }
 {
-    let i = p.0;
-    let Past::At(u) = skip(text, CharPlace(i + 1)) else {
+    let Past::At(u) = skip(text, after(p)) else {
         return Step::No;
     };
     let j = at.0;
@@ -130,13 +130,14 @@ fn class(text: &[u32], p: CharPlace, out: &mut [u32], at: Cell) -> Step
     let i = p.0;
     let j = at.0;
     let c = text[i];
-    let e = peek(text, CharPlace(i + 1));
+    let second = after(p);
+    let e = peek(text, second);
     if letter(e) {
         class_token(out, at, c, e);
-        return Step::At(CharPlace(i + 2), Cell(j + 3));
+        return Step::At(after(second), Cell(j + 3));
     }
     class_token(out, at, c, 0);
-    Step::At(CharPlace(i + 1), Cell(j + 3))
+    Step::At(second, Cell(j + 3))
 }
 
 // A member of a set, and spacing.
@@ -155,21 +156,20 @@ fn members(text: &[u32], p: CharPlace, out: &mut [u32], at: Cell) -> Step
     requires { ⌜ Room (now text) (p .0) (now out) (at .0) ⌝ }
     ensures { λ r. ⌜ After-members (now (text .entry)) (p .0) (now (out .entry)) (at .0) r (now (out .exit)) ⌝ }
 {
-    let mut i = p.0;
-    let mut j = at.0;
+    let mut from = p;
+    let mut to = at;
     loop {
-        let Step::At(q, b) = member(text, CharPlace(i), out, Cell(j)) else {
+        let Step::At(q, b) = member(text, from, out, to) else {
             return Step::No;
         };
         if !bar(peek(text, q)) {
             return Step::At(q, b);
         }
-        let n = q.0;
-        let Past::At(w) = skip(text, CharPlace(n + 1)) else {
+        let Past::At(w) = skip(text, after(q)) else {
             return Step::No;
         };
-        i = w.0;
-        j = b.0;
+        from = w;
+        to = b;
     }
 }
 

@@ -52,6 +52,10 @@ in-char s p c u h = go (decLt p (length s))
 pub shorter : (s : Text) (p w : ℕ) → p < w → w ≤ length s → length (drop w s) < length (drop p s)
 shorter s p w h l = simp length-drop (omega arith)
 
+-- the place after the next one
+pub twice : (a : ℕ) {b c : ℕ} → b ≡ a + 1 → c ≡ b + 1 → c ≡ a + 2
+twice a p q = omega arith
+
 -- what a test says of a character that was seen
 module _ {c e : ℕ} (u : c ≡ e) where
   pub tested : (f : ℕ → Bool) {b : Bool} → f c ≡ b → f e ≡ b

@@ -1,8 +1,7 @@
 // The character at a place of the grammar text, and the classes of characters that its words are made of.
 ghost use mathlib.Core.Path.{_≡_};
-ghost use mathlib.Core.Bool.{true, _&&_};
+ghost use mathlib.Core.Bool.{true};
 ghost use Prim.Native.Nat.{_-_, _<_};
-ghost use lib.Dec.{leb};
 ghost use lib.ListN.{drop};
 ghost use Rattle.tree.specs.Tokens.{markNumber};
 ghost use Rattle.syntax.specs.Syntax.{whitespace as Whitespace, quote as Quote, plain as Plain, digit as Digit, digitValue, capital as Capital};
@@ -66,20 +65,11 @@ pub fn peek(text: &[u32], p: CharPlace) -> u32
     END
 }
 
-// Tests by comparison come before those by the table, which cost more.
-fn between(c: u32, first: u32, last: u32) -> bool
-    ensures { λ r. ⌜ r ≡ (leb first c && leb c last) ⌝ }
-{
-    if c < first {
-        return false;
-    }
-    c <= last
-}
-
+// Here and below, tests by comparison come before those by the table, which cost more.
 pub fn whitespace(c: u32) -> bool
     ensures { λ r. ⌜ r ≡ Whitespace c ⌝ }
 {
-    if between(c, 0x21, 0x7e) {
+    if text::between(c, 0x21, 0x7e) {
         return false;
     }
     if category::in_class(CLASS_ZS, c) {
@@ -110,7 +100,7 @@ pub fn plain(q: u32, c: u32) -> bool
     if c == q {
         return false;
     }
-    if between(c, 0x20, 0x7e) {
+    if text::between(c, 0x20, 0x7e) {
         return true;
     }
     !category::in_class(CLASS_CC, c)
@@ -119,13 +109,13 @@ pub fn plain(q: u32, c: u32) -> bool
 pub fn digit(c: u32) -> bool
     ensures { λ r. ⌜ r ≡ Digit c ⌝ }
 {
-    if between(c, DIGIT_0, DIGIT_9) {
+    if text::between(c, DIGIT_0, DIGIT_9) {
         return true;
     }
-    if between(c, SMALL_A, SMALL_F) {
+    if text::between(c, SMALL_A, SMALL_F) {
         return true;
     }
-    between(c, CAPITAL_A, CAPITAL_F)
+    text::between(c, CAPITAL_A, CAPITAL_F)
 }
 
 pub fn digit_value(c: u32) -> u32
@@ -144,7 +134,7 @@ pub fn digit_value(c: u32) -> u32
 pub fn capital(c: u32) -> bool
     ensures { λ r. ⌜ r ≡ Capital c ⌝ }
 {
-    between(c, CAPITAL_A, CAPITAL_Z)
+    text::between(c, CAPITAL_A, CAPITAL_Z)
 }
 
 pub fn letter(c: u32) -> bool
@@ -153,7 +143,7 @@ pub fn letter(c: u32) -> bool
     if capital(c) {
         return true;
     }
-    between(c, SMALL_A, SMALL_Z)
+    text::between(c, SMALL_A, SMALL_Z)
 }
 
 pub fn bar(c: u32) -> bool
@@ -224,7 +214,7 @@ fn connector(c: u32) -> bool
 pub fn name_follower(c: u32) -> bool
     ensures { λ r. ⌜ r ≡ namefollower c ⌝ }
 {
-    if between(c, DIGIT_0, DIGIT_9) {
+    if text::between(c, DIGIT_0, DIGIT_9) {
         return true;
     }
     if name_start(c) {

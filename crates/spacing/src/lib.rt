@@ -18,6 +18,7 @@ ghost use Prim.Native.Nat.{_-_, _<_, _≤_};
 ghost use lib.ListN.{length};
 ghost use Rattle.spacing.specs.Answers.{After-comment, After-skip, Step-in, Spaced, After-token};
 use decode::CharPlace;
+use decode::after;
 
 // A cell of the table. Places of the text are the decoder's: neither is taken for the other.
 pub struct Cell(pub usize);
@@ -104,22 +105,23 @@ fn comment(text: &[u32], p: CharPlace, d: usize) -> Past
     requires { ⌜ p .0 ≤ length (now text) ⌝ }
     ensures { λ r. ⌜ After-comment (now (text .entry)) (p .0) d r ⌝ }
 {
-    let mut i = p.0;
-    while i < text.len() {
+    let mut at = p;
+    while at.0 < text.len() {
+        let i = at.0;
         let c = text[i];
         if c == CLOSE_BRACE {
-            return Past::At(CharPlace(i + 1));
+            return Past::At(after(at));
         }
         if c == OPEN_BRACE {
             if d == 0 {
                 return Past::No;
             }
-            let Past::At(q) = comment(text, CharPlace(i + 1), d - 1) else {
+            let Past::At(q) = comment(text, after(at), d - 1) else {
                 return Past::No;
             };
-            i = q.0;
+            at = q;
         } else {
-            i += 1;
+            at = after(at);
         }
     }
     Past::No
@@ -130,22 +132,23 @@ pub fn skip(text: &[u32], p: CharPlace) -> Past
     requires { ⌜ p .0 ≤ length (now text) ⌝ }
     ensures { λ r. ⌜ After-skip (now (text .entry)) (p .0) r ⌝ }
 {
-    let mut i = p.0;
-    while i < text.len() {
+    let mut at = p;
+    while at.0 < text.len() {
+        let i = at.0;
         let c = text[i];
         if c == OPEN_BRACE {
-            let Past::At(q) = comment(text, CharPlace(i + 1), INNER) else {
+            let Past::At(q) = comment(text, after(at), INNER) else {
                 return Past::No;
             };
-            i = q.0;
+            at = q;
         } else {
             if !whitespace(c) {
-                return Past::At(CharPlace(i));
+                return Past::At(at);
             }
-            i += 1;
+            at = after(at);
         }
     }
-    Past::At(CharPlace(i))
+    Past::At(at)
 }
 
 // Past the spacing after a step.
@@ -167,8 +170,7 @@ pub fn token(text: &[u32], p: CharPlace, k: u32, out: &mut [u32], at: Cell) -> S
     requires { ⌜ (p .0 < length (now text)) × (at .0 < length (now out)) ⌝ }
     ensures { λ r. ⌜ After-token (now (text .entry)) (p .0) k (now (out .entry)) (at .0) r (now (out .exit)) ⌝ }
 {
-    let i = p.0;
-    let Past::At(q) = skip(text, CharPlace(i + 1)) else {
+    let Past::At(q) = skip(text, after(p)) else {
         return Step::No;
     };
     let j = at.0;

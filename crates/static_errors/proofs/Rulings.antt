@@ -1,25 +1,23 @@
--- A ruling and the number that it stands for.
-use mathlib.Core.Path.{_≡_, refl}
-use Prim.Native.Nat.{ℕ, _+_}
-use Rattle.text.proofs.Numbered as numbered
+-- A ruling other than `Kept` has a number.
+use mathlib.Core.Path.{_≡_}
+use mathlib.Core.Logic.{⊎-elim}
+use mathlib.Core.List.{[], _∷_}
+use Prim.Native.Nat.{ℕ}
+use native.Mathlib.Omega.{arith}
+use denote.Enum.Declared.{tagOf}
+use types.Run.{OneOf}
 use Rattle.static_errors.specs.declared.Ruling.{Ruling}
-use Rattle.static_errors.specs.declared.Ruling.the-variants.{Kept, Broken}
-use Rattle.static_errors.specs.Held.{rulingOf}
+use Rattle.static_errors.specs.declared.Ruling.the-variants.{Kept, UndefinedName, RepeatedRule, HexTooLarge, HexNoCharacter, BackwardRange, UnknownClass}
+use Rattle.static_errors.proofs.Ruling.{the-type}
+use Rattle.static_errors.specs.Held.{ruleNumber}
 
-abbrev back : Ruling → ℕ
-back Kept = 0
-back (Broken n) = n + 1
-
-pub on-none : {n : ℕ} → n ≡ 0 → Kept ≡ rulingOf n
-on-none = numbered.on-none Kept Broken
-
-pub on-some : {n : ℕ} → (n ≡ 0 → ⊥) → Broken n ≡ rulingOf n
-on-some = numbered.on-some Kept Broken
-
--- kept rules have no number
-pub none-of : (v : Ruling) (n : ℕ) → v ≡ Kept → v ≡ rulingOf n → n ≡ 0
-none-of = numbered.none-of Kept Broken back refl (λ n. refl)
-
--- a broken rule has its number
-pub some-of : (v : Ruling) (k n : ℕ) → v ≡ Broken k → v ≡ rulingOf n → numbered.Some k n
-some-of = numbered.some-of Kept Broken back refl (λ n. refl)
+pub some-rule : (v : Ruling) → OneOf (1 ∷ 2 ∷ 3 ∷ 4 ∷ 5 ∷ 6 ∷ []) (tagOf the-type v) → ruleNumber v ≡ 0 → ⊥
+some-rule Kept h e =
+    ⊎-elim (λ q. omega arith) (λ h. ⊎-elim (λ q. omega arith) (λ h. ⊎-elim (λ q. omega arith)
+    (λ h. ⊎-elim (λ q. omega arith) (λ h. ⊎-elim (λ q. omega arith) (λ q. omega arith) h) h) h) h) h
+some-rule UndefinedName h e = omega arith
+some-rule RepeatedRule h e = omega arith
+some-rule HexTooLarge h e = omega arith
+some-rule HexNoCharacter h e = omega arith
+some-rule BackwardRange h e = omega arith
+some-rule UnknownClass h e = omega arith

@@ -8,9 +8,8 @@ use lib.ListN.{length, getD, take}
 use Rattle.text.specs.Lists.{Text, same, concatMap, chars}
 use Rattle.tree.specs.Tree.{Mark, Prolog, no-prolog, version, Rule, Grammar, rules}
 use Rattle.tree.specs.Tokens.{Token, rule-head, version-is, markNumber, bodyTokens, rule-end, ruleTokens, prologTokens, grammarTokens}
-use Rattle.static_errors.specs.declared.Ruling.{Ruling}
 use Rattle.plain.specs.Static.{mismatched}
-use Rattle.static_errors.specs.Held.{Holds, Held, staticOf, rulingOf}
+use Rattle.static_errors.specs.Held.{Holds, Held, staticOf}
 use Rattle.tokens.specs.Lengths.{formOf, lateForm, lengthAt}
 use Rattle.tokens.specs.Names.{nameAt, Named}
 use Rattle.tokens.proofs.Forms.{sized, length-text}
@@ -35,10 +34,10 @@ module _ (t : List ℕ) (end : ℕ) where
   some-tokens h = record { tokens = grammarTokens (h .grammar); held = tokens-of t end (h .grammar) (h .holds) }
 
   pub answer : (index : List ℕ) (n : ℕ) → Indexed t end n index → (r : ℕ) → ((ts : List Token) → Tokens t end 0 ts → r ≡ refusalOf (namesAt t (take n index)) ts)
-      → (v : Ruling) → v ≡ rulingOf r → (g : Grammar) → Holds t end g → v ≡ rulingOf (staticOf g)
-  answer index n i r e v f g h =
+      → (g : Grammar) → Holds t end g → r ≡ staticOf g
+  answer index n i r e g h =
       let k = tokens-of t end g h in
-      f ∙ ap rulingOf (e (grammarTokens g) k ∙ ap (λ (hs : List Text). refusalOf hs (grammarTokens g)) (i .heads (grammarTokens g) k) ∙ rules-agree g (h .proper))
+      e (grammarTokens g) k ∙ ap (λ (hs : List Text). refusalOf hs (grammarTokens g)) (i .heads (grammarTokens g) k) ∙ rules-agree g (h .proper)
 
   -- the first token
   head-token : Prolog → Rule → Token

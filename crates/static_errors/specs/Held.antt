@@ -13,7 +13,7 @@ use Rattle.tree.specs.Tokens.{encode, grammarTokens}
 use Rattle.plain.specs.Written.{membersIn, written}
 use Rattle.plain.specs.Static.{undefined, duplicate, beyond, banned, backwards, unclassed}
 use Rattle.static_errors.specs.declared.Ruling.{Ruling}
-use Rattle.static_errors.specs.declared.Ruling.the-variants.{Kept, Broken}
+use Rattle.static_errors.specs.declared.Ruling.the-variants.{Kept, UndefinedName, RepeatedRule, HexTooLarge, HexNoCharacter, BackwardRange, UnknownClass}
 
 -- What every tree of a text is like: an end of a range is one character or a hex number, a class has one letter or two,
 -- and `rest` is not written.
@@ -67,6 +67,12 @@ staticOf g =
     (pick (backwards g) 9
     (pick (unclassed g) 10 0)))))
 
--- the ruling that a number stands for: 0 breaks nothing
-abbrev pub rulingOf : ℕ → Ruling
-rulingOf n = pick (eqb n 0) Kept (Broken n)
+-- document 01's number for each case
+abbrev pub ruleNumber : Ruling → ℕ
+ruleNumber Kept = 0
+ruleNumber UndefinedName = 5
+ruleNumber RepeatedRule = 6
+ruleNumber HexTooLarge = 7
+ruleNumber HexNoCharacter = 8
+ruleNumber BackwardRange = 9
+ruleNumber UnknownClass = 10

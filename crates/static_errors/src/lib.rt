@@ -12,7 +12,7 @@ ghost use Rattle.tokens.specs.Lengths.{lengthAt};
 ghost use Rattle.tokens.specs.Names.{nameAt, Named};
 ghost use Rattle.static_errors.specs.Parts.{partAt, lacking, badCode, endCodes, badCodes, backward, classless, failing};
 ghost use Rattle.static_errors.specs.Scan.{Tokens, Listing, Looking, Finding, Noting, Noted, Indexing, Indexed, Scanning, namesAt, fails, nameRefusal, codeRefusal, refusalOf};
-ghost use Rattle.static_errors.specs.Held.{Holds, Held, staticOf, rulingOf};
+ghost use Rattle.static_errors.specs.Held.{Holds, Held, staticOf, ruleNumber};
 ghost use Rattle.plain.specs.Static.{mismatched};
 use text::refusals;
 
@@ -183,74 +183,68 @@ fn heads(table: &[u32], end: usize, index: &mut [u32]) -> usize
     n
 }
 
-fn name_refusal(table: &[u32], end: usize, index: &[u32], n: usize) -> u32
-    requires { ⌜ Scanning (now table) end (now index) n ⌝ }
-    ensures { λ r. ⌜ ((ts : List Token) → Tokens (now (table .entry)) end 0 ts → r ≡ nameRefusal (namesAt (now (table .entry)) (take n (now (index .entry)))) ts) ⌝ }
-{
-    if broken(table, end, index, n, refusals::UNDEFINED_NAME) {
-        return refusals::UNDEFINED_NAME;
-    }
-    if repeated(table, index, n) {
-        return refusals::REPEATED_RULE;
-    }
-    0
-}
-
-fn code_refusal(table: &[u32], end: usize, index: &[u32], n: usize) -> u32
-    requires { ⌜ Scanning (now table) end (now index) n ⌝ }
-    ensures { λ r. ⌜ ((ts : List Token) → Tokens (now (table .entry)) end 0 ts → r ≡ codeRefusal (namesAt (now (table .entry)) (take n (now (index .entry)))) ts) ⌝ }
-{
-    if broken(table, end, index, n, refusals::HEX_TOO_LARGE) {
-        return refusals::HEX_TOO_LARGE;
-    }
-    if broken(table, end, index, n, refusals::HEX_NO_CHARACTER) {
-        return refusals::HEX_NO_CHARACTER;
-    }
-    if broken(table, end, index, n, refusals::BACKWARD_RANGE) {
-        return refusals::BACKWARD_RANGE;
-    }
-    if broken(table, end, index, n, refusals::UNKNOWN_CLASS) {
-        return refusals::UNKNOWN_CLASS;
-    }
-    0
-}
-
-fn refusal(table: &[u32], end: usize, index: &[u32], n: usize) -> u32
-    requires { ⌜ Scanning (now table) end (now index) n ⌝ }
-    ensures { λ r. ⌜ ((ts : List Token) → Tokens (now (table .entry)) end 0 ts → r ≡ refusalOf (namesAt (now (table .entry)) (take n (now (index .entry)))) ts) ⌝ }
-{
-    let first = name_refusal(table, end, index, n);
-    if first != 0 {
-        return first;
-    }
-    code_refusal(table, end, index, n)
-}
-
-// What is said of a syntax tree: it keeps the static rules, or the number of the first that it breaks.
+// What is said of a syntax tree: it keeps the static rules, or the first that it breaks.
 pub enum Ruling {
     Kept,
-    Broken(u32),
+    UndefinedName,
+    RepeatedRule,
+    HexTooLarge,
+    HexNoCharacter,
+    BackwardRange,
+    UnknownClass,
 }
 
-// The ruling that a number stands for.
-fn ruling_of(number: u32) -> Ruling
-    ensures { λ v. ⌜ v ≡ rulingOf number ⌝ }
+fn name_refusal(table: &[u32], end: usize, index: &[u32], n: usize) -> Ruling
+    requires { ⌜ Scanning (now table) end (now index) n ⌝ }
+    ensures { λ r. ⌜ ((ts : List Token) → Tokens (now (table .entry)) end 0 ts → ruleNumber r ≡ nameRefusal (namesAt (now (table .entry)) (take n (now (index .entry)))) ts) ⌝ }
 {
-    if number == 0 {
-        return Ruling::Kept;
+    if broken(table, end, index, n, refusals::UNDEFINED_NAME) {
+        return Ruling::UndefinedName;
     }
-    Ruling::Broken(number)
+    if repeated(table, index, n) {
+        return Ruling::RepeatedRule;
+    }
+    Ruling::Kept
+}
+
+fn code_refusal(table: &[u32], end: usize, index: &[u32], n: usize) -> Ruling
+    requires { ⌜ Scanning (now table) end (now index) n ⌝ }
+    ensures { λ r. ⌜ ((ts : List Token) → Tokens (now (table .entry)) end 0 ts → ruleNumber r ≡ codeRefusal (namesAt (now (table .entry)) (take n (now (index .entry)))) ts) ⌝ }
+{
+    if broken(table, end, index, n, refusals::HEX_TOO_LARGE) {
+        return Ruling::HexTooLarge;
+    }
+    if broken(table, end, index, n, refusals::HEX_NO_CHARACTER) {
+        return Ruling::HexNoCharacter;
+    }
+    if broken(table, end, index, n, refusals::BACKWARD_RANGE) {
+        return Ruling::BackwardRange;
+    }
+    if broken(table, end, index, n, refusals::UNKNOWN_CLASS) {
+        return Ruling::UnknownClass;
+    }
+    Ruling::Kept
+}
+
+fn refusal(table: &[u32], end: usize, index: &[u32], n: usize) -> Ruling
+    requires { ⌜ Scanning (now table) end (now index) n ⌝ }
+    ensures { λ r. ⌜ ((ts : List Token) → Tokens (now (table .entry)) end 0 ts → ruleNumber r ≡ refusalOf (namesAt (now (table .entry)) (take n (now (index .entry)))) ts) ⌝ }
+{
+    let first = name_refusal(table, end, index, n);
+    let Ruling::Kept = first else {
+        return first;
+    };
+    code_refusal(table, end, index, n)
 }
 
 // The first of 5 to 10 that applies to the syntax tree in the table.
 pub fn static_refusal(table: &[u32], end: usize) -> Ruling
     requires { ⌜ Held (now table) end ⌝ }
-    ensures { λ v. ⌜ ((g : Grammar) → Holds (now (table .entry)) end g → v ≡ rulingOf (staticOf g)) ⌝ }
+    ensures { λ v. ⌜ ((g : Grammar) → Holds (now (table .entry)) end g → ruleNumber v ≡ staticOf g) ⌝ }
 {
     let mut index = [0u32; text::limits::GRAMMAR_TABLE];
     let n = heads(table, end, &mut index);
-    let number = refusal(table, end, &index, n);
-    ruling_of(number)
+    refusal(table, end, &index, n)
 }
 
 // The name at the table's start is `1.0`.

@@ -10,11 +10,7 @@ use Rattle.syntax.specs.Spacing.{skip, spaced}
 use lib.ListN.{length}
 use Rattle.tree.specs.Tree.{Symbol, Alternative, Body, group, cons, one, also, nil}
 use Rattle.syntax.specs.Lexical.{separated}
-use Rattle.syntax.specs.Parser.{read-plain, suffix, under, starts, single, alts, terms, factor, Alts=, Alt=, Terms=, Term=, Factor=}
-
--- the function agrees with the claim on texts shorter than t
-abbrev pub Agrees : {A : Type 0} → (Text → Result A → Type 0) → Text → (Text → Result A) → Type 0
-Agrees {A} E t f = (u : Text) (x : Result A) → length u < length t → E u x → f u ≡ x
+use Rattle.syntax.specs.Parser.{read-plain, suffix, under, starts, single, alts, terms, factor, Alts=, Alt=, Terms=, Term=, Factor=, Agrees}
 
 module _ (d : ℕ) (t : Text) where
   pub alt-none= : starts (hd t) ≡ false → Alt= d t (ok nil t)

@@ -3,7 +3,7 @@
 use mathlib.Core.Bool.{Bool, true, false, _||_}
 use mathlib.Core.Path.{_≡_}
 use mathlib.Core.List.{List, [], _∷_}
-use Prim.Native.Nat.{ℕ, zero, suc, _+_, _*_, _≤_}
+use Prim.Native.Nat.{ℕ, zero, suc, _+_, _*_, _<_, _≤_}
 use lib.ListN.{length}
 use Rattle.text.specs.Limits.{levels}
 use Rattle.text.specs.Lists.{Text, chars, among}
@@ -99,6 +99,10 @@ Term= d t x = (n : ℕ) → 4 * length t + 2 ≤ n → term n d t ≡ x
 
 abbrev pub Factor= : ℕ → Text → Result Symbol → Type 0
 Factor= d t x = (n : ℕ) → 4 * length t + 1 ≤ n → factor n d t ≡ x
+
+-- the function agrees with the claim on texts shorter than t
+abbrev pub Agrees : {A : Type 0} → (Text → Result A → Type 0) → Text → (Text → Result A) → Type 0
+Agrees {A} E t f = (u : Text) (x : Result A) → length u < length t → E u x → f u ≡ x
 
 abbrev pub enough : Text → ℕ
 enough t = 4 * length t + 4

@@ -5,3 +5,4 @@ pub mod Table
 pub mod Step
 pub mod Decode
 pub mod Lists
+pub mod Faults

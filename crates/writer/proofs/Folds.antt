@@ -2,19 +2,22 @@
 use mathlib.Core.Path.{_≡_, refl, sym, ap, _∙_}
 use mathlib.Core.Bool.{Bool, true, false}
 use mathlib.Core.List.{List, [], _∷_, _++_, append-nil, append-assoc}
-use Prim.Native.Nat.{ℕ, _<_}
+use Prim.Native.Nat.{ℕ, _≤_, _<_}
+use native.Mathlib.Omega.{arith}
 use lib.ListN.{length}
 use Rattle.text.specs.Lists.{Text, chars, pick, concatMap}
 use Rattle.xml.specs.Document.{Xml, none, attr, elem, join, text}
 use Rattle.xml.specs.Bytes.{escape, attributes}
 use Rattle.markup.specs.Out.{State, state, puts, enc, Wrote}
-use Rattle.markup.specs.Tags.{closing, leadOf, endOf, stateOf}
+use Rattle.markup.specs.Tags.{closing, leadOf, endOf, stateOf, noWords}
+use Rattle.markup.specs.declared.StateWords.{StateWords}
+use Rattle.text.specs.declared.BytePlace.{BytePlace}
 use Rattle.markup.proofs.Puts.{puts-none, enc-none, paid}
 use Rattle.cursor.specs.Rest.{Rest, row, within, before}
 use Rattle.cursor.specs.Ahead.{Ahead, AtRow, SomeRow}
 use Rattle.cursor.specs.declared.Cursor.{Cursor}
-use Rattle.writer.specs.Markup.{startOf, stated, late, Attributed, Came}
-use Rattle.writer.specs.declared.Tag.{Tag}
+use Rattle.writer.specs.Markup.{startOf, turned, Attributed, Came}
+use Rattle.writer.specs.declared.Output.{Output}
 use Rattle.writer.proofs.Laws.{owed, owed-text, owed-attribute, owed-element, owed-closes, owed-over, plain, IsText, is-text}
 use Rattle.writer.proofs.Laws.{plain-text, plain-join, text-join, spells-append, attributes-past, Shape, exposed}
 
@@ -104,60 +107,77 @@ module _ {rec : Text} {limit : ℕ} {s₀ : State} {pos : ℕ} {out : List ℕ} 
       shape true (row y) h = tt
       shape true (within m y k) h = h
 
-pub quoting-end : {T P : List ℕ} {rec : Text} {S S′ : List ℕ} {limit pos pos′ : ℕ} {out out′ : List ℕ} {quoted : Bool} {c : Cursor}
-    → SomeRow T P rec S c → ((r : Text) (S₀ : List ℕ) (k₀ : Rest) → Ahead T P r S₀ S c k₀ → (S′ ≡ S₀)
-    × Quoting rec limit (state pos out) (state pos′ out′) quoted r k₀ (row none))
-    → Attributed T P rec S S′ out out′ limit pos c pos′
-quoting-end {rec = rec} {S = S} {limit = limit} {pos′ = pos′} {out′ = out′} D h =
+pub quoting-end : {T P : List ℕ} {rec : Text} {S S′ : List ℕ} {out out′ : List ℕ} {o q : Output} {p : BytePlace} {quoted : Bool} {c : Cursor}
+    → SomeRow T P rec S c → q ≡ turned o p (o .unclosed) (o .due) → ((r : Text) (S₀ : List ℕ) (k₀ : Rest) → Ahead T P r S₀ S c k₀ → (S′ ≡ S₀)
+    × Quoting rec (o .limit .0) (state (o .pos .0) out) (state (p .0) out′) quoted r k₀ (row none))
+    → Attributed T P rec S S′ out out′ o c q
+quoting-end {rec = rec} {S = S} {out′ = out′} {o = o} {q = q} {p = p} D e h =
+    let z : q .pos ≡ p = ap (λ (x : Output). x .pos) e in
+    let l = o .limit .0 in
     record {
       kept = h rec S (row (D .x)) (D .stands) .0;
-      wrote = λ x A. record {
-        is = sym (puts-none limit (state pos′ out′)) ∙ sym (ap (puts limit (state pos′ out′)) enc-none)
+      is = e ∙ ap (λ (x : BytePlace). turned o x (o .unclosed) (o .due)) (sym z);
+      wrote = λ x A. rw z (record {
+        is = sym (puts-none l (state (p .0) out′)) ∙ sym (ap (puts l (state (p .0) out′)) enc-none)
             ∙ h rec S (row x) A .1 .owes refl tt;
-      };
+      });
     }
 
 -- contents, whatever the two ends are
-pub record Owing (rec : Text) (limit : ℕ) (s₀ s : State) (due₀ due : ℕ) (ajar₀ unclosed : Bool) (r : Text) (k₀ k : Rest) : Type 0 where
-  pub owes : r ≡ rec → (e f : Text) → puts limit s (enc (owed e f (stateOf due) unclosed k)) ≡ puts limit s₀ (enc (owed e f (stateOf due₀) ajar₀ k₀))
+pub record Owing (rec : Text) (o₀ o : Output) (out₀ out : List ℕ) (r : Text) (k₀ k : Rest) : Type 0 where
+  pub owes : r ≡ rec → (e f : Text)
+      → puts (o₀ .limit .0) (state (o .pos .0) out) (enc (owed e f (stateOf (o .due)) (o .unclosed) k))
+      ≡ puts (o₀ .limit .0) (state (o₀ .pos .0) out₀) (enc (owed e f (stateOf (o₀ .due)) (o₀ .unclosed) k₀))
 
-pub owing-begin : {rec : Text} {limit : ℕ} {s : State} {due : ℕ} {unclosed : Bool} {r : Text} {k : Rest} → Owing rec limit s s due due unclosed unclosed r k k
+pub owing-begin : {rec : Text} {o : Output} {out : List ℕ} {r : Text} {k : Rest} → Owing rec o o out out r k k
 owing-begin = record { owes = λ z e f. refl }
 
-module _ {rec : Text} {limit : ℕ} {s₀ : State} {pos : ℕ} {out : List ℕ} {due₀ due : ℕ} {ajar₀ unclosed : Bool} {r : Text} {k₀ : Rest} where
-  owing-on : {due′ : ℕ} {unclosed′ : Bool} {k k′ : Rest} {pos′ : ℕ} {out′ : List ℕ} (t : Text)
-      → ((e f : Text) → owed e f (stateOf due) unclosed k ≡ t ++ owed e f (stateOf due′) unclosed′ k′) → (r ≡ rec → Wrote limit pos out pos′ out′ t)
-      → Owing rec limit s₀ (state pos out) due₀ due ajar₀ unclosed r k₀ k → Owing rec limit s₀ (state pos′ out′) due₀ due′ ajar₀ unclosed′ r k₀ k′
-  owing-on {due′} {unclosed′} {k} {k′} t q w O = record { owes = λ z e f. paid t (owed e f (stateOf due′) unclosed′ k′) (owed e f (stateOf due) unclosed k) (O .owes z e f) (q e f) (w z) }
+pub same-limit : {l m : BytePlace} {p p′ : ℕ} {out out′ : List ℕ} {t : Text} → l ≡ m → Wrote (l .0) p out p′ out′ t → Wrote (m .0) p out p′ out′ t
+same-limit e w = rw e at w
 
-  pub owing-text : (t : Text) (k : Rest) → 0 < length t → {pos′ : ℕ} {out′ : List ℕ}
-      → (r ≡ rec → Wrote limit pos out pos′ out′ (leadOf unclosed ++ concatMap (escape false) t))
-      → Owing rec limit s₀ (state pos out) due₀ due ajar₀ unclosed r k₀ (before (text t) k)
-      → Owing rec limit s₀ (state pos′ out′) due₀ due ajar₀ false r k₀ k
-  owing-text t k h w = owing-on (leadOf unclosed ++ concatMap (escape false) t) (λ e f. owed-text e f (stateOf due) unclosed t k h) w
+-- there is as much room as at first
+pub room-left : {l m : BytePlace} {a b : ℕ} → l ≡ m → m .0 ≤ a → b ≡ a → l .0 ≤ b
+room-left {l} {m} e h k = let z : l .0 ≡ m .0 = ap (λ (x : BytePlace). x .0) e in omega arith
 
-  pub owing-element : (n : Text) (i : Xml) (k : Rest) {pos′ : ℕ} {out′ : List ℕ}
-      → (r ≡ rec → Wrote limit pos out pos′ out′ (leadOf unclosed ++ startOf n (stateOf due) i))
-      → Owing rec limit s₀ (state pos out) due₀ due ajar₀ unclosed r k₀ (before (elem n i none) k)
-      → Owing rec limit s₀ (state pos′ out′) due₀ 0 ajar₀ true r k₀ (within n i k)
-  owing-element n i k w = owing-on (leadOf unclosed ++ startOf n (stateOf due) i) (λ e f. owed-element e f (stateOf due) unclosed n i k) w
+module _ {rec : Text} {o₀ o : Output} {out₀ out : List ℕ} {r : Text} {k₀ : Rest} (l : o .limit ≡ o₀ .limit) where
+  owing-on : {k k′ : Rest} {o′ : Output} {out′ : List ℕ} {u : Bool} {d : StateWords} (t : Text) → o′ ≡ turned o (o′ .pos) u d
+      → ((e f : Text) → owed e f (stateOf (o .due)) (o .unclosed) k ≡ t ++ owed e f (stateOf d) u k′)
+      → (r ≡ rec → Wrote (o .limit .0) (o .pos .0) out (o′ .pos .0) out′ t)
+      → Owing rec o₀ o out₀ out r k₀ k → Owing rec o₀ o′ out₀ out′ r k₀ k′
+  owing-on {k} {k′} {o′} {out′} {u} {d} t is q w O =
+      let du : o′ .due ≡ d = ap (λ (x : Output). x .due) is in
+      let un : o′ .unclosed ≡ u = ap (λ (x : Output). x .unclosed) is in
+      record { owes = λ z e f. rw (du, un) (paid t (owed e f (stateOf d) u k′) (owed e f (stateOf (o .due)) (o .unclosed) k) (O .owes z e f) (q e f) (same-limit l (w z))) }
 
-  pub owing-attribute : (n v : Text) (k : Rest) → Owing rec limit s₀ (state pos out) due₀ due ajar₀ unclosed r k₀ (before (attr n v none) k)
-      → Owing rec limit s₀ (state pos out) due₀ due ajar₀ unclosed r k₀ k
-  owing-attribute n v k O = record { owes = λ z e f. ap (λ (u : Text). puts limit (state pos out) (enc u)) (sym (owed-attribute e f (stateOf due) unclosed n v k)) ∙ O .owes z e f }
+  pub owing-text : (t : Text) (k : Rest) → 0 < length t → {o′ : Output} {out′ : List ℕ} → o′ ≡ turned o (o′ .pos) false (o .due)
+      → (r ≡ rec → Wrote (o .limit .0) (o .pos .0) out (o′ .pos .0) out′ (leadOf (o .unclosed) ++ concatMap (escape false) t))
+      → Owing rec o₀ o out₀ out r k₀ (before (text t) k) → Owing rec o₀ o′ out₀ out′ r k₀ k
+  owing-text t k h is w = owing-on (leadOf (o .unclosed) ++ concatMap (escape false) t) is (λ e f. owed-text e f (stateOf (o .due)) (o .unclosed) t k h) w
 
-  pub owing-close : (n : Text) (k : Rest) {pos′ : ℕ} {out′ : List ℕ} → Wrote limit pos out pos′ out′ (endOf unclosed (chars "/>") (closing n))
-      → Owing rec limit s₀ (state pos out) due₀ due ajar₀ unclosed r k₀ (within n none k)
-      → Owing rec limit s₀ (state pos′ out′) due₀ 0 ajar₀ false r k₀ k
-  owing-close n k w = owing-on (endOf unclosed (chars "/>") (closing n)) (λ e f. owed-closes e f (stateOf due) unclosed n k) (λ z. w)
+  pub owing-element : (n : Text) (i : Xml) (k : Rest) {o′ : Output} {out′ : List ℕ} → o′ ≡ turned o (o′ .pos) true noWords
+      → (r ≡ rec → Wrote (o .limit .0) (o .pos .0) out (o′ .pos .0) out′ (leadOf (o .unclosed) ++ startOf n (stateOf (o .due)) i))
+      → Owing rec o₀ o out₀ out r k₀ (before (elem n i none) k) → Owing rec o₀ o′ out₀ out′ r k₀ (within n i k)
+  owing-element n i k is w = owing-on (leadOf (o .unclosed) ++ startOf n (stateOf (o .due)) i) is (λ e f. owed-element e f (stateOf (o .due)) (o .unclosed) n i k) w
 
-pub owing-end : {T P : List ℕ} {rec : Text} {S S′ : List ℕ} {limit : ℕ} {out out′ : List ℕ} {t t′ : Tag} {due due′ : ℕ} {c : Cursor}
-    → SomeRow T P rec S c → ((r : Text) (S₀ : List ℕ) (k₀ : Rest) → Ahead T P r S₀ S c k₀ → (S′ ≡ S₀)
-    × Owing rec limit (state (t .pos) out) (state (t′ .pos) out′) due due′ (t .unclosed) (t′ .unclosed) r k₀ (row none))
-    → Came T P rec S S′ out out′ limit t due c t′
-owing-end {rec = rec} {S = S} {limit = limit} {out′ = out′} {t′ = t′} {due′ = due′} D h =
+  pub owing-attribute : (n v : Text) (k : Rest) → Owing rec o₀ o out₀ out r k₀ (before (attr n v none) k) → Owing rec o₀ o out₀ out r k₀ k
+  owing-attribute n v k O = record {
+    owes = λ z e f. ap (λ (u : Text). puts (o₀ .limit .0) (state (o .pos .0) out) (enc u)) (sym (owed-attribute e f (stateOf (o .due)) (o .unclosed) n v k))
+        ∙ O .owes z e f;
+  }
+
+  pub owing-close : (n : Text) (k : Rest) {o′ : Output} {out′ : List ℕ} → o′ ≡ turned o (o′ .pos) false noWords
+      → Wrote (o .limit .0) (o .pos .0) out (o′ .pos .0) out′ (endOf (o .unclosed) (chars "/>") (closing n))
+      → Owing rec o₀ o out₀ out r k₀ (within n none k) → Owing rec o₀ o′ out₀ out′ r k₀ k
+  owing-close n k is w = owing-on (endOf (o .unclosed) (chars "/>") (closing n)) is (λ e f. owed-closes e f (stateOf (o .due)) (o .unclosed) n k) (λ z. w)
+
+pub owing-end : {T P : List ℕ} {rec : Text} {S S′ : List ℕ} {out out′ : List ℕ} {o q : Output} {c : Cursor}
+    → SomeRow T P rec S c → q .limit ≡ o .limit → ((r : Text) (S₀ : List ℕ) (k₀ : Rest) → Ahead T P r S₀ S c k₀ → (S′ ≡ S₀)
+    × Owing rec o q out out′ r k₀ (row none))
+    → Came T P rec S S′ out out′ o c q
+owing-end {rec = rec} {S = S} {out′ = out′} {o = o} {q = q} D l h =
     record {
       kept = h rec S (row (D .x)) (D .stands) .0;
-      wrote = λ x A e f. ap (λ (u : Text). puts limit (state (t′ .pos) out′) (enc u)) (sym (owed-over e f (stateOf due′) (t′ .unclosed)))
+      limit = l;
+      wrote = λ x A e f. ap (λ (u : Text). puts (o .limit .0) (state (q .pos .0) out′) (enc u)) (sym (owed-over e f (stateOf (q .due)) (q .unclosed)))
           ∙ h rec S (row x) A .1 .owes refl e f;
     }

@@ -77,7 +77,8 @@ module _ (e c : Text) where
   owed-attribute st unclosed n v (row y) = refl
   owed-attribute st unclosed n v (within m y k) = refl
 
-  pub owed-element : (st : Text) (unclosed : Bool) (n : Text) (i : Xml) (k : Rest) → owed e c st unclosed (before (elem n i none) k) ≡ (leadOf unclosed ++ startOf n st i) ++ owed e c [] true (within n i k)
+  pub owed-element : (st : Text) (unclosed : Bool) (n : Text) (i : Xml) (k : Rest)
+      → owed e c st unclosed (before (elem n i none) k) ≡ (leadOf unclosed ++ startOf n st i) ++ owed e c [] true (within n i k)
   owed-element st unclosed n i k =
       let L = late true (content i) (chars "/>") (closing n) in
       let O = owed e c [] false k in
@@ -146,6 +147,3 @@ Shape true (within n x (within m y k)) = ⊥
 abbrev pub exposed : Rest → Text
 exposed (row x) = attributes x
 exposed (within n x k) = concatMap (escape true) (plain x) ++ (chars "'" ++ exposed k)
-
-pub start-parts : (n st : Text) (i : Xml) → startOf n st i ≡ chars "<" ++ (n ++ (st ++ attributes i))
-start-parts n st i = simp append-assoc

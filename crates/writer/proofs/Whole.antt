@@ -14,23 +14,25 @@ use Rattle.tree.specs.Tokens.{counted, markNumber}
 use Rattle.derive.specs.Derive.{Row, end, node, leftParse, alternative, root}
 use Rattle.plain.specs.Plain.{ruleMark}
 use Rattle.xml.specs.Document.{Xml, none, char, attr, elem, nodes, marked, markOf, asRoot, document, notOne, misnamed, unwritable}
-use Rattle.xml.specs.Bytes.{attributes, content, closed, bytes, state as stateText}
+use Rattle.xml.specs.Bytes.{attributes, content, closed, bytes}
 use Rattle.left_parse.specs.Noted.{Noted, Parsed, Room}
 use Rattle.left_parse.specs.Steps.{Found, Named}
 use Rattle.left_parse.proofs.Items.{tokens-in}
 use Rattle.left_parse.proofs.Notes.{begins}
 use Rattle.markup.specs.Out.{State, state, puts, enc, Wrote}
-use Rattle.markup.specs.Tags.{closing, endOf, stateOf}
+use Rattle.markup.specs.Tags.{closing, leadOf, endOf, stateOf, noWords}
+use Rattle.markup.specs.declared.StateWords.{StateWords}
 use Rattle.markup.proofs.Puts.{puts-none, enc-none, and-then, wrote-text, dry, room}
 use Rattle.cursor.specs.Ahead.{AtRow, SomeRow, rootAt}
 use Rattle.cursor.specs.declared.Cursor.{Cursor}
 use Rattle.cursor.proofs.Nodes.{ahead-begin}
-use Rattle.writer.specs.Markup.{late, startOf, stated, Came, Started}
+use Rattle.writer.specs.Markup.{late, startOf, stated, turned, freshAt, Attributed, Came}
 use Rattle.writer.specs.Whole.{Job, Some, Writable, Documented, Answered}
 use Rattle.writer.specs.declared.Written.{Written}
 use Rattle.writer.specs.declared.Written.the-variants.{Xml as Fits, TooLong}
-use Rattle.writer.specs.declared.Tag.{Tag}
+use Rattle.writer.specs.declared.Output.{Output}
 use Rattle.writer.proofs.Laws.{late-closed, stated-none}
+use Rattle.writer.proofs.Folds.{same-limit}
 use Rattle.writer.proofs.Chars.{ok, enc-ok, element-ok}
 
 -- the root's row
@@ -82,30 +84,35 @@ module _ {T P : List ℕ} {r : Text} {S : List ℕ} {item : ℕ} {g : Grammar} {
   root-row = record { x = R .inner; stands = R .stands }
 
   -- a deleted root: its contents are the document
-  pub wrote-deleted : {S′ out out′ : List ℕ} {limit due : ℕ} {s : Tag}
-      → Came T P r S S′ out out′ limit (record { pos = 0; unclosed = false }) due (rootAt item) s
-      → Wrote limit 0 out (s .pos) out′ (stated (stateOf due) (R .inner))
-  wrote-deleted {S′} {out} {out′} {limit} {due} {s} C =
-      let x = stated (stateOf due) (R .inner) in
-      record { is = sym (nothing (s .unclosed)) ∙ C .wrote (R .inner) (R .stands) [] [] ∙ ap (λ (u : Text). puts limit (state 0 out) (enc u)) (append-nil x) }
+  pub wrote-deleted : {S′ out out′ : List ℕ} {o s : Output} → o .unclosed ≡ false → Came T P r S S′ out out′ o (rootAt item) s
+      → Wrote (o .limit .0) (o .pos .0) out (s .pos .0) out′ (stated (stateOf (o .due)) (R .inner))
+  wrote-deleted {S′} {out} {out′} {o} {s} u C =
+      let l = o .limit .0 in
+      let x = stated (stateOf (o .due)) (R .inner) in
+      let e : late (o .unclosed) x [] [] ≡ x = rw u (append-nil x) in
+      record { is = sym (nothing (s .unclosed)) ∙ C .wrote (R .inner) (R .stands) [] [] ∙ ap (λ (t : Text). puts l (state (o .pos .0) out) (enc t)) e }
     where
-      nothing : (b : Bool) → puts limit (state (s .pos) out′) (enc (endOf b [] [])) ≡ state (s .pos) out′
-      nothing true = rw enc-none (puts-none limit (state (s .pos) out′))
-      nothing false = rw enc-none (puts-none limit (state (s .pos) out′))
+      nothing : (b : Bool) → puts (o .limit .0) (state (s .pos .0) out′) (enc (endOf b [] [])) ≡ state (s .pos .0) out′
+      nothing true = rw enc-none (puts-none (o .limit .0) (state (s .pos .0) out′))
+      nothing false = rw enc-none (puts-none (o .limit .0) (state (s .pos .0) out′))
 
   -- an element: a start tag, its contents and its end
-  pub wrote-element : {S′ S″ out out₁ out₂ out₃ : List ℕ} {limit token due k q q₃ : ℕ} {s : Tag} (n : Text) → Named T token k n
-      → Started T P r S S′ out out₁ limit 0 token due (rootAt item) q
-      → Came T P r S′ S″ out₁ out₂ limit (record { pos = q; unclosed = true }) 0 (rootAt item) s → Wrote limit (s .pos) out₂ q₃ out₃ (endOf (s .unclosed) (chars "/>") (closing n))
-      → Wrote limit 0 out q₃ out₃ (stated (stateOf due) (elem n (R .inner) none))
-  wrote-element {out₁ = out₁} {out₃ = out₃} {limit = limit} {due = due} {k = k} {q = q} {q₃ = q₃} {s = s} n N St C E =
-      let st = stateOf due in
+  pub wrote-element : {S′ S″ out out₁ out₂ out₃ : List ℕ} (o : Output) {t s : Output} {q : ℕ} (n : Text) → S′ ≡ S → t ≡ turned o (t .pos) true noWords
+      → Wrote (o .limit .0) (o .pos .0) out (t .pos .0) out₁ (startOf n (stateOf (o .due)) (R .inner))
+      → Came T P r S′ S″ out₁ out₂ t (rootAt item) s → Wrote (s .limit .0) (s .pos .0) out₂ q out₃ (endOf (s .unclosed) (chars "/>") (closing n))
+      → Wrote (o .limit .0) (o .pos .0) out q out₃ (stated (stateOf (o .due)) (elem n (R .inner) none))
+  wrote-element {out₁ = out₁} {out₃ = out₃} o {t = t} {s = s} {q = q} n k is a C E =
       let x = R .inner in
       let L = late true (content x) (chars "/>") (closing n) in
-      let a = St .wrote k n N x (R .stands) in
-      let c = C .wrote x (rw (St .kept) (R .stands)) (chars "/>") (closing n) in
-      let b : Wrote limit q out₁ q₃ out₃ L = record { is = E .is ∙ c ∙ ap (λ (u : Text). puts limit (state q out₁) (enc (late true u (chars "/>") (closing n)))) (stated-none x) } in
-      wrote-text (ap (λ (u : Text). startOf n st x ++ u) (append-nil L)) (and-then a b)
+      let l : t .limit ≡ o .limit = ap (λ (p : Output). p .limit) is in
+      let e : late (t .unclosed) (stated (stateOf (t .due)) x) (chars "/>") (closing n) ≡ L = rw
+      (ap (λ (p : Output). p .unclosed) is, ap (λ (p : Output). p .due) is, stated-none x) in
+      let w = same-limit (C .limit) E in
+      let b : Wrote (t .limit .0) (t .pos .0) out₁ q out₃ L = record {
+        is = w .is ∙ C .wrote x (rw k (R .stands)) (chars "/>") (closing n)
+            ∙ ap (λ (u : Text). puts (t .limit .0) (state (t .pos .0) out₁) (enc u)) e;
+      } in
+      wrote-text (ap (λ (u : Text). startOf n (stateOf (o .due)) x ++ u) (append-nil L)) (and-then a (same-limit l b))
 
 -- the bytes of one element
 one : (x : Xml) → notOne x ≡ false → (n : Text) × (i : Xml) × (x ≡ elem n i none)
@@ -118,45 +125,48 @@ one (elem n i (char c x)) h = absurd (let z : _≡_ {A = ℕ} 0 1 = cc in omega 
 one (elem n i (attr m v x)) h = absurd (let z : _≡_ {A = ℕ} 0 1 = cc in omega arith)
 one (elem n i (elem m j x)) h = absurd (let z : _≡_ {A = ℕ} 0 1 = cc in omega arith)
 
-element-bytes : (a b : Bool) (due : ℕ) → stateOf due ≡ stateText a b → (n : Text) (i : Xml) → misnamed (elem n i none) ≡ false
-    → unwritable (elem n i none) ≡ false → enc (stated (stateOf due) (elem n i none)) ≡ bytes a b (elem n i none)
+element-bytes : (due : StateWords) (n : Text) (i : Xml) → misnamed (elem n i none) ≡ false → unwritable (elem n i none) ≡ false
+    → enc (stated (stateOf due) (elem n i none)) ≡ bytes (due .ambiguous) (due .mismatch) (elem n i none)
 unfolding bytes
-element-bytes a b due e n i p q =
-    let t = chars "<" ++ n ++ stateText a b ++ attributes i ++ closed n (content i) in
-    let s : stated (stateOf due) (elem n i none) ≡ t = ap
-    (λ (u : Text). startOf n u i ++ (late true (content i) (chars "/>") (closing n) ++ [])) e
-    ∙ ap (λ (u : Text). startOf n (stateText a b) i ++ u)
+element-bytes due n i p q =
+    let t = chars "<" ++ n ++ stateOf due ++ attributes i ++ closed n (content i) in
+    let s : stated (stateOf due) (elem n i none) ≡ t = ap (λ (u : Text). startOf n (stateOf due) i ++ u)
     (append-nil (late true (content i) (chars "/>") (closing n)) ∙ late-closed n (content i)) in
-    ap enc s ∙ enc-ok t (element-ok a b n i none p q)
+    ap enc s ∙ enc-ok t (element-ok (due .ambiguous) (due .mismatch) n i none p q)
 
-pub document-bytes : {g : Grammar} {r : Text} {t : Row} (a b : Bool) (due : ℕ) → stateOf due ≡ stateText a b → Writable g r t
-    → enc (stated (stateOf due) (document g r t)) ≡ bytes a b (document g r t)
-document-bytes {g} {r} {t} a b due e W =
+pub document-bytes : {g : Grammar} {r : Text} {t : Row} (due : StateWords) → Writable g r t
+    → enc (stated (stateOf due) (document g r t)) ≡ bytes (due .ambiguous) (due .mismatch) (document g r t)
+document-bytes {g} {r} {t} due W =
     let o = one (document g r t) (W .one) in
-    rw (o .2) (element-bytes a b due e (o .0) (o .1) (rw (o .2) at (W .names)) (rw (o .2) at (W .chars)))
+    rw (o .2) (element-bytes due (o .0) (o .1) (rw (o .2) at (W .names)) (rw (o .2) at (W .chars)))
+
+-- the bytes that a run from the beginning comes to
+pub documented : {T : List ℕ} {R : ℕ} {P : List ℕ} {r : Text} {S S′ out out′ : List ℕ} {o : Output} {limit : ℕ} {due : StateWords} {q : ℕ} {g : Grammar} {t : Row}
+    → o ≡ freshAt limit due → Documented T R P r S S′ out out′ o q → Job T R P r S g t → Writable g r t
+    → state q out′ ≡ puts limit (state 0 out) (bytes (due .ambiguous) (due .mismatch) (document g r t))
+documented {out = out} {limit = limit} {due = due} {g = g} {t = t} e D J W =
+    let D₀ = rw e at D in D₀ .wrote g t J .is ∙ ap (puts limit (state 0 out)) (document-bytes due W)
 
 -- measured too long
-pub too-long : (m : ℕ) (o′ o bs : List ℕ) → state m o′ ≡ puts 0 (state 0 o) bs → length o′ < m → Answered bs o o′ TooLong
+pub too-long : (m : ℕ) (o′ o bs : List ℕ) → state m o′ ≡ puts 0 (state 0 o) bs → length o < m → Answered bs o o′ TooLong
 too-long m o′ o bs e h =
     let d = e ∙ dry 0 o bs (omega arith) in
     let p : m ≡ min (0 + length bs) (length o + 1) = ap (λ (s : State). s .pos) d in
-    let q : o′ ≡ o = ap (λ (s : State). s .out) d in
-    let l : length o′ ≡ length o = ap length q in
-    record { fits = λ f. absurd (omega arith); long = λ f. (refl, q) }
+    record { fits = λ f. absurd (omega arith); long = λ f. (refl, ap (λ (s : State). s .out) d) }
 
 -- measured and written
-pub written : (m n : ℕ) (o′ o″ o bs : List ℕ) → state m o′ ≡ puts 0 (state 0 o) bs → m ≤ length o′
-    → state n o″ ≡ puts (length o′) (state 0 o′) bs → Answered bs o o″ (Fits n)
+pub written : (m n : ℕ) (o′ o″ o bs : List ℕ) → state m o′ ≡ puts 0 (state 0 o) bs → m ≤ length o
+    → state n o″ ≡ puts (length o) (state 0 o′) bs → Answered bs o o″ (Fits n)
 written m n o′ o″ o bs e h w =
     let d = e ∙ dry 0 o bs (omega arith) in
     let p : m ≡ min (0 + length bs) (length o + 1) = ap (λ (s : State). s .pos) d in
     let q : o′ ≡ o = ap (λ (s : State). s .out) d in
     let l : length o′ ≡ length o = ap length q in
-    let f = w ∙ room 0 (length o′) o′ bs (omega arith) (omega arith) in
+    let f = w ∙ room 0 (length o) o′ bs (omega arith) (omega arith) in
     let z : 0 + length bs ≡ length bs = omega arith in
     let fn : n ≡ length bs = ap (λ (s : State). s .pos) f ∙ z in
     let fo : o″ ≡ bs ++ drop (0 + length bs) o′ = ap (λ (s : State). s .out) f in
-    record { fits = λ k. (rw fn, fo ∙ rw (z, q)); long = λ k. absurd (omega arith) }
+    record { fits = λ k. (refl, fn, fo ∙ rw (z, q)); long = λ k. absurd (omega arith) }
 
 -- the notes are as they were
 pub room-again : {T P S S′ : List ℕ} → S′ ≡ S → Room T P S → Room T P S′
@@ -169,13 +179,31 @@ job-again e J = rw e J
 pub row-again : {T P : List ℕ} {r : Text} {S S′ : List ℕ} {c c′ : Cursor} → c ≡ c′ → S′ ≡ S → SomeRow T P r S c′ → SomeRow T P r S′ c
 row-again e q D = rw (e, q) D
 
-pub came-at : {T P : List ℕ} {r : Text} {S S′ out out′ : List ℕ} {limit : ℕ} {t : Tag} {due : ℕ} {c c′ : Cursor} {t′ : Tag} → c ≡ c′
-    → Came T P r S S′ out out′ limit t due c t′ → Came T P r S S′ out out′ limit t due c′ t′
+pub came-at : {T P : List ℕ} {r : Text} {S S′ out out′ : List ℕ} {o q : Output} {c c′ : Cursor} → c ≡ c′
+    → Came T P r S S′ out out′ o c q → Came T P r S S′ out out′ o c′ q
 came-at e C = rw e at C
 
-pub started-at : {T P : List ℕ} {r : Text} {S S′ out out′ : List ℕ} {limit pos token due : ℕ} {c c′ : Cursor} {q : ℕ} → c ≡ c′
-    → Started T P r S S′ out out′ limit pos token due c q → Started T P r S S′ out out′ limit pos token due c′ q
-started-at e C = rw e at C
+pub attributed-at : {T P : List ℕ} {r : Text} {S S′ out out′ : List ℕ} {o q : Output} {c c′ : Cursor} → c ≡ c′
+    → Attributed T P r S S′ out out′ o c q → Attributed T P r S S′ out out′ o c′ q
+attributed-at e A = rw e at A
+
+-- a start tag, and then its attributes
+module _ {T P : List ℕ} {r : Text} {S S′ out₁ out₂ : List ℕ} (o : Output) {t q : Output} {c : Cursor} (e : t ≡ turned o (t .pos) true noWords)
+    (A : Attributed T P r S S′ out₁ out₂ t c q) where
+  pub started-is : q ≡ turned o (q .pos) true noWords
+  started-is = A .is ∙ ap (λ (p : Output). turned p (q .pos) (p .unclosed) (p .due)) e
+
+  pub started : {out : List ℕ} (n : Text) (x : Xml) → Wrote (o .limit .0) (o .pos .0) out (t .pos .0) out₁ (leadOf (o .unclosed) ++ (chars "<" ++ (n ++ stateOf (o .due))))
+      → AtRow T P r S c x → Wrote (o .limit .0) (o .pos .0) out (q .pos .0) out₂ (leadOf (o .unclosed) ++ startOf n (stateOf (o .due)) x)
+  started n x w R = wrote-text (parts (leadOf (o .unclosed)) (chars "<") n (stateOf (o .due)) (attributes x))
+      (and-then w (same-limit (ap (λ (p : Output). p .limit) e) (A .wrote x R)))
+    where
+      parts : (l a n st i : Text) → l ++ (a ++ n ++ st ++ i) ≡ (l ++ (a ++ (n ++ st))) ++ i
+      parts l a n st i = simp append-assoc
+
+-- where no start tag was open
+pub unled : {u : Bool} {l p p′ : ℕ} {out out′ : List ℕ} {t : Text} → u ≡ false → Wrote l p out p′ out′ (leadOf u ++ t) → Wrote l p out p′ out′ t
+unled e w = rw e at w
 
 -- the root's alternative is the first entry
 pub found-first : {T : List ℕ} {x a item : ℕ} (P : List ℕ) → a ≡ getD P 0 0 → Found T x a item → Found T x (getD P 0 0) item

@@ -4,16 +4,16 @@ use mathlib.Core.Bool.{Bool, true, false}
 use mathlib.Core.List.{List, [], _∷_, _++_}
 use Prim.Native.Nat.{ℕ}
 use Rattle.text.specs.Lists.{Text, chars}
-use Rattle.items.specs.Items.{kindAt}
 use Rattle.xml.specs.Document.{Xml, none, char, attr, elem}
 use Rattle.xml.specs.Bytes.{escape, attributes, content}
-use Rattle.left_parse.specs.Steps.{Named}
 use Rattle.markup.specs.Out.{state, puts, enc, Wrote}
-use Rattle.markup.specs.Tags.{closing, leadOf, endOf, stateOf}
+use Rattle.markup.specs.Tags.{closing, leadOf, endOf, stateOf, noWords}
 use Rattle.cursor.specs.Rest.{Rest}
 use Rattle.cursor.specs.Ahead.{AtNode, AtRow}
 use Rattle.cursor.specs.declared.Cursor.{Cursor}
-use Rattle.writer.specs.declared.Tag.{Tag}
+use Rattle.markup.specs.declared.StateWords.{StateWords}
+use Rattle.text.specs.declared.BytePlace.{BytePlace}
+use Rattle.writer.specs.declared.Output.{Output}
 
 -- what shuts a start tag late: where nothing came, the one end; else `>`, what came, and the other end
 abbrev pub late : Bool → Text → Text → Text → Text
@@ -32,22 +32,29 @@ stated st (char c x) = escape false c ++ stated st x
 stated st (attr n v x) = stated st x
 stated st (elem n i x) = startOf n st i ++ (late true (content i) (chars "/>") (closing n) ++ content x)
 
-pub record Attributed (T P : List ℕ) (r : Text) (S S′ out out′ : List ℕ) (limit pos : ℕ) (c : Cursor) (q : ℕ) : Type 0 where
-  pub kept : S′ ≡ S
-  pub wrote : (x : Xml) → AtRow T P r S c x → Wrote limit pos out q out′ (attributes x)
+-- the output at another place, with a start tag open or not, and another state due
+abbrev pub turned : Output → BytePlace → Bool → StateWords → Output
+turned o p unclosed due = record { limit = o .limit; pos = p; unclosed = unclosed; due = due }
 
-pub record Started (T P : List ℕ) (r : Text) (S S′ out out′ : List ℕ) (limit pos token due : ℕ) (c : Cursor) (q : ℕ) : Type 0 where
-  pub kept : S′ ≡ S
-  pub wrote : (k : ℕ) (n : Text) → Named T token k n → (x : Xml) → AtRow T P r S c x → Wrote limit pos out q out′ (startOf n (stateOf due) x)
+-- at the beginning, with room up to a place
+abbrev pub freshAt : ℕ → StateWords → Output
+freshAt limit due = record { limit = record { 0 = limit }; pos = record { 0 = 0 }; unclosed = false; due = due }
 
-pub record Opened (T P : List ℕ) (r : Text) (S S′ out out′ : List ℕ) (limit pos : ℕ) (unclosed : Bool) (token due : ℕ) (c : Cursor) (q : ℕ) : Type 0 where
+pub record Attributed (T P : List ℕ) (r : Text) (S S′ out out′ : List ℕ) (o : Output) (c : Cursor) (q : Output) : Type 0 where
   pub kept : S′ ≡ S
-  pub wrote : (S₀ : List ℕ) (m : ℕ) (n : Text) (x : Xml) (k : Rest) → Named T token m n → AtNode T P r S₀ S c n x k
-      → Wrote limit pos out q out′ (leadOf unclosed ++ startOf n (stateOf due) x)
+  pub is : q ≡ turned o (q .pos) (o .unclosed) (o .due)
+  pub wrote : (x : Xml) → AtRow T P r S c x → Wrote (o .limit .0) (o .pos .0) out (q .pos .0) out′ (attributes x)
+
+pub record Opened (T P : List ℕ) (r : Text) (S S′ out out′ : List ℕ) (o : Output) (c : Cursor) (q : Output) : Type 0 where
+  pub kept : S′ ≡ S
+  pub is : q ≡ turned o (q .pos) true noWords
+  pub wrote : (S₀ : List ℕ) (n : Text) (x : Xml) (k : Rest) → AtNode T P r S₀ S c n x k
+      → Wrote (o .limit .0) (o .pos .0) out (q .pos .0) out′ (leadOf (o .unclosed) ++ startOf n (stateOf (o .due)) x)
 
 -- the row was written, but for the end that the place of the walk asks for
-pub record Came (T P : List ℕ) (r : Text) (S S′ out out′ : List ℕ) (limit : ℕ) (t : Tag) (due : ℕ) (c : Cursor) (t′ : Tag) : Type 0 where
+pub record Came (T P : List ℕ) (r : Text) (S S′ out out′ : List ℕ) (o : Output) (c : Cursor) (q : Output) : Type 0 where
   pub kept : S′ ≡ S
+  pub limit : q .limit ≡ o .limit
   pub wrote : (x : Xml) → AtRow T P r S c x → (e f : Text)
-      → puts limit (state (t′ .pos) out′) (enc (endOf (t′ .unclosed) e f)) ≡ puts limit (state (t .pos) out)
-      (enc (late (t .unclosed) (stated (stateOf due) x) e f))
+      → puts (o .limit .0) (state (q .pos .0) out′) (enc (endOf (q .unclosed) e f)) ≡ puts (o .limit .0) (state (o .pos .0) out)
+      (enc (late (o .unclosed) (stated (stateOf (o .due)) x) e f))

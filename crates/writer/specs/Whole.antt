@@ -15,6 +15,7 @@ use Rattle.left_parse.specs.Noted.{Noted, Parsed}
 use Rattle.markup.specs.Out.{Wrote}
 use Rattle.markup.specs.Tags.{stateOf}
 use Rattle.writer.specs.Markup.{stated}
+use Rattle.writer.specs.declared.Output.{Output}
 use Rattle.writer.specs.declared.Written.{Written}
 use Rattle.writer.specs.declared.Written.the-variants.{Xml, TooLong}
 
@@ -35,11 +36,20 @@ pub record Writable (g : Grammar) (r : Text) (t : Row) : Type 0 where
   pub chars : unwritable (document g r t) ≡ false
   pub one : notOne (document g r t) ≡ false
 
+-- the number and the count of bytes that each case stands for
+abbrev pub writtenNumber : Written → ℕ
+writtenNumber (Xml n) = 0
+writtenNumber TooLong = 23
+
+abbrev pub writtenCount : Written → ℕ
+writtenCount (Xml n) = n
+writtenCount TooLong = 0
+
 -- the bytes, if they fit; else nothing
 pub record Answered (bs old new : List ℕ) (a : Written) : Type 0 where
-  pub fits : length bs ≤ length old → (a ≡ Xml (length bs)) × (new ≡ bs ++ drop (length bs) old)
-  pub long : length old < length bs → (a ≡ TooLong) × (new ≡ old)
+  pub fits : length bs ≤ length old → (writtenNumber a ≡ 0) × (writtenCount a ≡ length bs) × (new ≡ bs ++ drop (length bs) old)
+  pub long : length old < length bs → (writtenNumber a ≡ 23) × (new ≡ old)
 
-pub record Documented (T : List ℕ) (root : ℕ) (P : List ℕ) (r : Text) (due : ℕ) (S S' out out' : List ℕ) (limit q : ℕ) : Type 0 where
+pub record Documented (T : List ℕ) (root : ℕ) (P : List ℕ) (r : Text) (S S' out out' : List ℕ) (o : Output) (q : ℕ) : Type 0 where
   pub kept : S' ≡ S
-  pub wrote : (g : Grammar) (t : Row) → Job T root P r S g t → Wrote limit 0 out q out' (stated (stateOf due) (document g r t))
+  pub wrote : (g : Grammar) (t : Row) → Job T root P r S g t → Wrote (o .limit .0) (o .pos .0) out q out' (stated (stateOf (o .due)) (document g r t))

@@ -9,7 +9,7 @@ ghost use Rattle.xml.specs.Bytes.{escape, bytes};
 ghost use Rattle.left_parse.specs.Steps.{Named};
 ghost use Rattle.markup.specs.Out.{Wrote};
 ghost use Rattle.markup.specs.Pieces.{Says};
-ghost use Rattle.markup.specs.Tags.{leadOf};
+ghost use Rattle.markup.specs.Tags.{closing, leadOf, endOf, stateOf, noWords};
 ghost use Rattle.items.specs.Items.{kindAt};
 ghost use Rattle.cursor.specs.Ahead.{SomeRow, SomeNode};
 ghost use Rattle.tree.specs.Tree.{Grammar};
@@ -18,10 +18,21 @@ ghost use Rattle.xml.specs.Document.{document};
 ghost use Rattle.left_parse.specs.Noted.{Room};
 ghost use Rattle.writer.specs.Whole.{Job, Writable, Documented, Answered};
 ghost use Rattle.writer.specs.Whole.{Some as SomeJob};
-ghost use Rattle.writer.specs.Markup.{Attributed, Started, Opened, Came};
+ghost use Rattle.writer.specs.Markup.{turned, freshAt, Attributed, Opened, Came};
 use cursor::Cursor;
 use cursor::Event;
 use markup::Piece;
+use markup::StateWords;
+use text::BytePlace;
+
+// Where writing stands: where the room ends, the next byte's place, whether a start tag is still open, and the state that the next
+// start tag gets.
+pub struct Output {
+    pub limit: BytePlace,
+    pub pos: BytePlace,
+    pub unclosed: bool,
+    pub due: StateWords,
+}
 
 // The head of a rule that is marked `-`.
 const DELETED_HEAD: usize = tokens::RULE_HEAD_DELETED as usize;
@@ -31,14 +42,14 @@ fn put_quoted(
     table: &[u32],
     record: &[u32],
     out: &mut [u8],
-    limit: usize,
-    pos: usize,
+    limit: BytePlace,
+    pos: BytePlace,
     quoted: bool,
     p: Piece,
-) -> usize
-    requires { ⌜ limit ≤ length (now out) ⌝ }
+) -> BytePlace
+    requires { ⌜ limit .0 ≤ length (now out) ⌝ }
     ensures { λ q. ⌜ ((t : Text) → Says (now (table .entry)) (now («record» .entry)) p t
-        → Wrote limit pos (now (out .entry)) q (now (out .exit)) (pick quoted (concatMap (escape true) t) (chars ""))) ⌝ }
+        → Wrote (limit .0) (pos .0) (now (out .entry)) (q .0) (now (out .exit)) (pick quoted (concatMap (escape true) t) (chars ""))) ⌝ }
 {
     if quoted {
         return markup::put_piece(out, limit, pos, 2, table, record, p);
@@ -47,13 +58,33 @@ fn put_quoted(
 }
 
 // An attribute up to its value.
-fn put_equals(table: &[u32], out: &mut [u8], limit: usize, pos: usize, token: usize) -> usize
-    requires { ⌜ (limit ≤ length (now out)) × (token < 4294967298) ⌝ }
-    ensures { λ q. ⌜ ((k : ℕ) (n : Text) → Named (now (table .entry)) token k n → Wrote limit pos (now (out .entry)) q (now (out .exit)) (chars " " ++ (n ++ chars "='"))) ⌝ }
+fn put_equals(
+    table: &[u32],
+    out: &mut [u8],
+    limit: BytePlace,
+    pos: BytePlace,
+    token: usize,
+) -> BytePlace
+    requires { ⌜ (limit .0 ≤ length (now out)) × (token < 4294967298) ⌝ }
+    ensures { λ q. ⌜ ((k : ℕ) (n : Text) → Named (now (table .entry)) token k n → Wrote (limit .0) (pos .0) (now (out .entry)) (q .0) (now (out .exit)) (chars " " ++ (n ++ chars "='"))) ⌝ }
 {
     let q = markup::put(out, limit, pos, b' ');
     let q = markup::put_name(out, limit, q, table, token);
     markup::put_all(out, limit, q, b"='")
+}
+
+// The same output, at another place.
+fn moved(o: Output, pos: BytePlace) -> Output
+    ensures { λ r. ⌜ r ≡ turned o pos (o .unclosed) (o .due) ⌝ }
+{
+    let limit = o.limit;
+    let due = o.due;
+    Output {
+        limit,
+        pos,
+        unclosed: o.unclosed,
+        due,
+    }
 }
 
 // The attributes that a row exposes.
@@ -63,17 +94,16 @@ fn put_attributes(
     record: &[u32],
     scratch: &mut [u32],
     out: &mut [u8],
-    limit: usize,
-    from: usize,
+    from: Output,
     first: Cursor,
-) -> usize
-    requires { ⌜ limit ≤ length (now out) ⌝ }
-    requires { ⌜ SomeRow (now table) (now parse) (now «record») (now scratch) first ⌝ }
-    ensures { λ q. ⌜ Attributed (now (table .entry)) (now (parse .entry)) (now («record» .entry)) (now (scratch .entry))
-        (now (scratch .exit)) (now (out .entry)) (now (out .exit)) limit from first q ⌝ }
+) -> Output
+    requires { ⌜ (from .limit .0 ≤ length (now out)) × SomeRow (now table) (now parse) (now «record») (now scratch) first ⌝ }
+    ensures { λ q. ⌜ Attributed (now (table .entry)) (now (parse .entry)) (now («record» .entry)) (now (scratch .entry)) (now (scratch .exit))
+        (now (out .entry)) (now (out .exit)) from first q ⌝ }
 {
+    let limit = from.limit;
+    let mut pos = from.pos;
     let mut at = first;
-    let mut pos = from;
     let mut quoted = false;
     loop {
         let event = cursor::next(table, parse, scratch, at);
@@ -83,9 +113,7 @@ fn put_attributes(
                 pos = put_quoted(table, record, out, limit, pos, quoted, p);
                 at = cursor::skip(table, parse, scratch, n);
             }
-            Event::Open(_, n) => {
-                at = cursor::past(table, parse, scratch, n);
-            }
+            Event::Open(_, n) => at = cursor::past(table, parse, scratch, n),
             Event::Attribute(token, n) => {
                 pos = put_equals(table, out, limit, pos, token);
                 quoted = true;
@@ -96,94 +124,90 @@ fn put_attributes(
                 quoted = false;
                 at = n;
             }
-            Event::End => {
-                return pos;
-            }
+            Event::End => return moved(from, pos),
         }
     }
 }
 
-// A start tag that is not shut yet: of the name that a token holds, with a state and the attributes of a row.
-fn put_start(
-    table: &[u32],
-    parse: &[u32],
-    record: &[u32],
-    scratch: &mut [u32],
-    out: &mut [u8],
-    limit: usize,
-    pos: usize,
-    token: usize,
-    due: usize,
-    first: Cursor,
-) -> usize
-    requires { ⌜ (limit ≤ length (now out)) × (token < 4294967298) ⌝ }
-    requires { ⌜ SomeRow (now table) (now parse) (now «record») (now scratch) first ⌝ }
-    ensures { λ q. ⌜ Started (now (table .entry)) (now (parse .entry)) (now («record» .entry)) (now (scratch .entry)) (now (scratch .exit))
-        (now (out .entry)) (now (out .exit)) limit pos token due first q ⌝ }
+// A start tag that is not shut yet, with the state that is due, in an element whose start tag it shuts.
+fn put_start(table: &[u32], out: &mut [u8], o: Output, token: usize) -> Output
+    requires { ⌜ (o .limit .0 ≤ length (now out)) × (token < 4294967298) ⌝ }
+    ensures { λ q. ⌜ (q ≡ turned o (q .pos) true noWords) × ((k : ℕ) (n : Text) → Named (now (table .entry)) token k n
+        → Wrote (o .limit .0) (o .pos .0) (now (out .entry)) (q .pos .0) (now (out .exit)) (leadOf (o .unclosed) ++ (chars "<" ++ (n ++ stateOf (o .due))))) ⌝ }
 {
-    let q = markup::put(out, limit, pos, b'<');
+    let limit = o.limit;
+    let due = o.due;
+    let q = o.pos;
+    let q = markup::put_lead(out, limit, q, o.unclosed);
+    let q = markup::put(out, limit, q, b'<');
     let q = markup::put_name(out, limit, q, table, token);
-    let q = markup::put_state(out, limit, q, due);
-    put_attributes(table, parse, record, scratch, out, limit, q, first)
+    let pos = markup::put_state(out, limit, q, due);
+    let none = markup::no_words();
+    Output {
+        limit,
+        pos,
+        unclosed: true,
+        due: none,
+    }
 }
 
 // Text in an element, whose start tag it shuts.
-fn put_text(
-    table: &[u32],
-    record: &[u32],
-    out: &mut [u8],
-    limit: usize,
-    pos: usize,
-    unclosed: bool,
-    p: Piece,
-) -> usize
-    requires { ⌜ limit ≤ length (now out) ⌝ }
-    ensures { λ q. ⌜ ((t : Text) → Says (now (table .entry)) (now («record» .entry)) p t
-        → Wrote limit pos (now (out .entry)) q (now (out .exit)) (leadOf unclosed ++ concatMap (escape false) t)) ⌝ }
+fn put_text(table: &[u32], record: &[u32], out: &mut [u8], o: Output, p: Piece) -> Output
+    requires { ⌜ o .limit .0 ≤ length (now out) ⌝ }
+    ensures { λ q. ⌜ (q ≡ turned o (q .pos) false (o .due)) × ((t : Text) → Says (now (table .entry)) (now («record» .entry)) p t
+        → Wrote (o .limit .0) (o .pos .0) (now (out .entry)) (q .pos .0) (now (out .exit)) (leadOf (o .unclosed) ++ concatMap (escape false) t)) ⌝ }
 {
-    let q = markup::put_lead(out, limit, pos, unclosed);
-    markup::put_piece(out, limit, q, 1, table, record, p)
+    let limit = o.limit;
+    let due = o.due;
+    let q = o.pos;
+    let q = markup::put_lead(out, limit, q, o.unclosed);
+    let pos = markup::put_piece(out, limit, q, 1, table, record, p);
+    Output {
+        limit,
+        pos,
+        unclosed: false,
+        due,
+    }
 }
 
-// An element's start tag, in an element whose start tag it shuts.
+// An element's start tag, with the attributes of its row.
 fn put_open(
     table: &[u32],
     parse: &[u32],
     record: &[u32],
     scratch: &mut [u32],
     out: &mut [u8],
-    limit: usize,
-    pos: usize,
-    unclosed: bool,
-    token: usize,
-    due: usize,
+    o: Output,
     c: Cursor,
-) -> usize
-    requires { ⌜ (limit ≤ length (now out)) × (token < 4294967298) ⌝ }
+) -> Output
+    requires { ⌜ o .limit .0 ≤ length (now out) ⌝ }
     requires { ⌜ (kindAt (now table) (c .at .item) ≡ 2) × SomeNode (now table) (now parse) (now «record») (now scratch) c ⌝ }
     ensures { λ q. ⌜ Opened (now (table .entry)) (now (parse .entry)) (now («record» .entry)) (now (scratch .entry)) (now (scratch .exit))
-        (now (out .entry)) (now (out .exit)) limit pos unclosed token due c q ⌝ }
+        (now (out .entry)) (now (out .exit)) o c q ⌝ }
 {
-    let q = markup::put_lead(out, limit, pos, unclosed);
+    let h = c.at;
+    let token = items::token_at(table, h.item);
+    let tag = put_start(table, out, o, token);
     let first = cursor::inside(table, parse, scratch, c);
-    put_start(
-        table,
-        parse,
-        record,
-        scratch,
-        out,
-        limit,
-        q,
-        token,
-        due,
-        first,
-    )
+    put_attributes(table, parse, record, scratch, out, tag, first)
 }
 
-// Where writing has come to: the start tag that is still open, if any, is not shut.
-pub struct Tag {
-    pub pos: usize,
-    pub unclosed: bool,
+// The end of an element, by its token.
+fn put_close(table: &[u32], out: &mut [u8], o: Output, token: usize) -> Output
+    requires { ⌜ (o .limit .0 ≤ length (now out)) × (token < 4294967298) ⌝ }
+    ensures { λ q. ⌜ (q ≡ turned o (q .pos) false noWords) × ((k : ℕ) (n : Text) → Named (now (table .entry)) token k n
+        → Wrote (o .limit .0) (o .pos .0) (now (out .entry)) (q .pos .0) (now (out .exit)) (endOf (o .unclosed) (chars "/>") (closing n))) ⌝ }
+{
+    let limit = o.limit;
+    let q = o.pos;
+    let pos = markup::put_end(out, limit, q, o.unclosed, table, token);
+    let none = markup::no_words();
+    Output {
+        limit,
+        pos,
+        unclosed: false,
+        due: none,
+    }
 }
 
 // What stands in elements.
@@ -193,110 +217,64 @@ fn put_content(
     record: &[u32],
     scratch: &mut [u32],
     out: &mut [u8],
-    limit: usize,
-    from: Tag,
-    state: usize,
+    from: Output,
     first: Cursor,
-) -> Tag
-    requires { ⌜ limit ≤ length (now out) ⌝ }
-    requires { ⌜ SomeRow (now table) (now parse) (now «record») (now scratch) first ⌝ }
+) -> Output
+    requires { ⌜ (from .limit .0 ≤ length (now out)) × SomeRow (now table) (now parse) (now «record») (now scratch) first ⌝ }
     ensures { λ q. ⌜ Came (now (table .entry)) (now (parse .entry)) (now («record» .entry)) (now (scratch .entry)) (now (scratch .exit))
-        (now (out .entry)) (now (out .exit)) limit from state first q ⌝ }
+        (now (out .entry)) (now (out .exit)) from first q ⌝ }
 {
     let mut at = first;
-    let mut pos = from.pos;
-    let mut unclosed = from.unclosed;
-    let mut due = state;
+    let mut o = from;
     loop {
         let event = cursor::next(table, parse, scratch, at);
         match event {
             Event::Text(n) => {
-                let p = cursor::text_at(table, n);
-                pos = put_text(table, record, out, limit, pos, unclosed, p);
-                unclosed = false;
+                o = put_text(table, record, out, o, cursor::text_at(table, n));
                 at = cursor::skip(table, parse, scratch, n);
             }
-            Event::Open(token, n) => {
-                pos = put_open(
-                    table,
-                    parse,
-                    record,
-                    scratch,
-                    out,
-                    limit,
-                    pos,
-                    unclosed,
-                    token,
-                    due,
-                    n,
-                );
-                unclosed = true;
-                due = 0;
+            Event::Open(_, n) => {
+                o = put_open(table, parse, record, scratch, out, o, n);
                 at = cursor::enter(table, parse, scratch, n);
             }
-            Event::Attribute(_, n) => {
-                at = cursor::past(table, parse, scratch, n);
-            }
+            Event::Attribute(_, n) => at = cursor::past(table, parse, scratch, n),
             Event::Close(item, n) => {
-                let token = items::token_at(table, item);
-                pos = markup::put_end(out, limit, pos, unclosed, table, token);
-                unclosed = false;
-                due = 0;
+                o = put_close(table, out, o, items::token_at(table, item));
                 at = n;
             }
-            Event::End => {
-                return Tag { pos, unclosed };
-            }
+            Event::End => return o,
         }
     }
 }
 
-// The document, up to a limit; and how long it is.
+// The document, up to a limit, from where no start tag is open; and the place after it.
 fn put_document(
     table: &[u32],
     root: usize,
     parse: &[u32],
     record: &[u32],
-    due: usize,
     scratch: &mut [u32],
     out: &mut [u8],
-    limit: usize,
-) -> usize
-    requires { ⌜ limit ≤ length (now out) ⌝ }
+    from: Output,
+) -> BytePlace
+    requires { ⌜ (from .limit .0 ≤ length (now out)) × (from .unclosed ≡ false) ⌝ }
     requires { ⌜ Room (now table) (now parse) (now scratch) × SomeJob (now table) root (now parse) (now «record») (now scratch) ⌝ }
-    ensures { λ r. ⌜ Documented (now (table .entry)) root (now (parse .entry)) (now («record» .entry)) due (now (scratch .entry))
-        (now (scratch .exit)) (now (out .entry)) (now (out .exit)) limit r ⌝ }
+    ensures { λ r. ⌜ Documented (now (table .entry)) root (now (parse .entry)) (now («record» .entry)) (now (scratch .entry))
+        (now (scratch .exit)) (now (out .entry)) (now (out .exit)) from (r .0) ⌝ }
 {
     let head = markup::head_at(table);
     let a = tokens::look(parse, 0);
     let item = left_parse::alternative(table, root, a);
     let first = cursor::at_root(item);
     if tokens::look(table, head) == DELETED_HEAD {
-        let whole = Tag {
-            pos: 0,
-            unclosed: false,
-        };
-        let s = put_content(table, parse, record, scratch, out, limit, whole, due, first);
-        return s.pos;
+        let bare = put_content(table, parse, record, scratch, out, from, first);
+        return bare.pos;
     }
-    let q = put_start(
-        table,
-        parse,
-        record,
-        scratch,
-        out,
-        limit,
-        0,
-        head,
-        due,
-        first,
-    );
-    let tag = Tag {
-        pos: q,
-        unclosed: true,
-    };
-    let s = put_content(table, parse, record, scratch, out, limit, tag, 0, first);
-    markup::put_end(out, limit, s.pos, s.unclosed, table, head)
+    let name = put_start(table, out, from, head);
+    let tag = put_attributes(table, parse, record, scratch, out, name, first);
+    let inner = put_content(table, parse, record, scratch, out, tag, first);
+    let whole = put_close(table, out, inner, head);
+    whole.pos
 }
 
 // The count of bytes that were written, or that they do not fit.
@@ -305,27 +283,39 @@ pub enum Written {
     TooLong,
 }
 
+// At the beginning, with room up to a place.
+fn fresh(limit: usize, due: StateWords) -> Output
+    ensures { λ r. ⌜ r ≡ freshAt limit due ⌝ }
+{
+    Output {
+        limit: BytePlace(limit),
+        pos: BytePlace(0),
+        unclosed: false,
+        due,
+    }
+}
+
 pub fn write_xml(
     table: &[u32],
     root: usize,
     parse: &[u32],
     record: &[u32],
-    ambiguous: bool,
-    mismatch: bool,
+    due: StateWords,
     scratch: &mut [u32],
     out: &mut [u8],
 ) -> Written
     requires { ⌜ Room (now table) (now parse) (now scratch) × SomeJob (now table) root (now parse) (now «record») (now scratch) ⌝ }
     ensures { λ a. ⌜ ((g : Grammar) (t : Row) → Job (now (table .entry)) root (now (parse .entry)) (now («record» .entry))
         (now (scratch .entry)) g t → Writable g (now («record» .entry)) t
-        → Answered (bytes ambiguous mismatch (document g (now («record» .entry)) t)) (now (out .entry)) (now (out .exit)) a) ⌝ }
+        → Answered (bytes (due .ambiguous) (due .mismatch) (document g (now («record» .entry)) t)) (now (out .entry)) (now (out .exit)) a) ⌝ }
 {
-    let due = markup::due_of(ambiguous, mismatch);
-    let m = put_document(table, root, parse, record, due, scratch, out, 0);
-    if m > out.len() {
+    let room = out.len();
+    let dry = fresh(0, due);
+    let m = put_document(table, root, parse, record, scratch, out, dry);
+    if m.0 > room {
         return Written::TooLong;
     }
-    let room = out.len();
-    let n = put_document(table, root, parse, record, due, scratch, out, room);
-    Written::Xml(n)
+    let wet = fresh(room, due);
+    let n = put_document(table, root, parse, record, scratch, out, wet);
+    Written::Xml(n.0)
 }

@@ -10,6 +10,7 @@ ghost use Rattle.left_parse.specs.Steps.{Named};
 ghost use Rattle.markup.specs.Pieces.{said, Says};
 ghost use Rattle.xml_names.specs.Flags.{both, bad, odd, ofText, ofName, ofAttributeName};
 use markup::Piece;
+use markup::Source;
 
 // Lines 18, 19 and 22 of the table: a name that is no XML name, a character that is no XML character, an attribute named xmlns.
 pub struct Faults {
@@ -19,20 +20,14 @@ pub struct Faults {
 }
 
 // Whether a number is between two, or a test before has passed.
-fn within(c: usize, low: usize, high: usize, before: bool) -> bool
+fn within(c: u32, low: u32, high: u32, before: bool) -> bool
     ensures { λ r. ⌜ r ≡ (inside c (span low high) || before) ⌝ }
 {
-    if c < low {
-        return before;
-    }
-    if c > high {
-        return before;
-    }
-    true
+    text::either(text::between(c, low, high), before)
 }
 
 // Production 2 of XML, from its last span to its first.
-fn xml_char(c: usize) -> bool
+fn xml_char(c: u32) -> bool
     ensures { λ r. ⌜ r ≡ xmlChar c ⌝ }
 {
     let r = within(c, 0x10000, 0x10ffff, false);
@@ -43,7 +38,7 @@ fn xml_char(c: usize) -> bool
 }
 
 // Production 4.
-fn name_start(c: usize) -> bool
+fn name_start(c: u32) -> bool
     ensures { λ r. ⌜ r ≡ nameStart c ⌝ }
 {
     let r = within(c, 0x10000, 0xeffff, false);
@@ -65,7 +60,7 @@ fn name_start(c: usize) -> bool
 }
 
 // Production 4a.
-fn name_char(c: usize) -> bool
+fn name_char(c: u32) -> bool
     ensures { λ r. ⌜ r ≡ nameChar c ⌝ }
 {
     let r = within(c, 0x203f, 0x2040, false);
@@ -77,7 +72,7 @@ fn name_char(c: usize) -> bool
 }
 
 // Whether a number may not stand after the first of a name, or else is no XML character.
-fn is_odd(c: usize, name: bool) -> bool
+fn is_odd(c: u32, name: bool) -> bool
     ensures { λ r. ⌜ r ≡ odd name c ⌝ }
 {
     if name {
@@ -96,7 +91,8 @@ fn some_odd(t: &[u32], from: usize, count: usize, name: bool) -> bool
         if i >= t.len() {
             return false;
         }
-        if is_odd(tokens::look(t, i), name) {
+        let c = tokens::look(t, i) as u32;
+        if is_odd(c, name) {
             return true;
         }
         i += 1;
@@ -114,7 +110,8 @@ pub fn bad_name(table: &[u32], token: usize) -> bool
     if n == 0 {
         return true;
     }
-    if name_start(tokens::look(table, token + 2)) {
+    let first = tokens::look(table, token + 2) as u32;
+    if name_start(first) {
         return some_odd(table, token + 3, n - 1, true);
     }
     true
@@ -149,10 +146,11 @@ fn is_xmlns(table: &[u32], token: usize) -> bool
 fn bad_piece(table: &[u32], record: &[u32], p: Piece) -> bool
     ensures { λ r. ⌜ r ≡ any bad (said (now (table .entry)) (now («record» .entry)) p) ⌝ }
 {
-    if p.inserted {
-        return some_odd(table, p.from, p.count, false);
+    let from = p.from;
+    match from {
+        Source::Table(cell) => some_odd(table, cell, p.count, false),
+        Source::Record(place) => some_odd(record, place.0, p.count, false),
     }
-    some_odd(record, p.from, p.count, false)
 }
 
 // The faults of either.

@@ -78,14 +78,25 @@ pub fn repeats_attribute(
     }
 }
 
-// One element more: 0 nothing yet, 1 one element, 2 anything else.
+// What a row is: nothing yet, one element, or anything else: text, attributes or more elements.
+const NOTHING: usize = 0;
+
+const ONE: usize = 1;
+
+const TEXT: usize = 2;
+
+const ATTRIBUTE: usize = 2;
+
+const MORE: usize = 2;
+
+// One element more.
 fn one_more(sort: usize) -> usize
     ensures { λ r. ⌜ r ≡ oneMore sort ⌝ }
 {
-    if sort == 0 {
-        return 1;
+    if sort == NOTHING {
+        return ONE;
     }
-    2
+    MORE
 }
 
 // Whether a row comes to anything else than one element.
@@ -94,12 +105,12 @@ pub fn not_one(table: &[u32], parse: &[u32], scratch: &mut [u32], first: Cursor)
     ensures { λ b. ⌜ Judges notOne (now (table .entry)) (now (parse .entry)) (now (scratch .entry)) (now (scratch .exit)) first b ⌝ }
 {
     let mut at = first;
-    let mut sort = 0;
+    let mut sort = NOTHING;
     loop {
         let event = cursor::next(table, parse, scratch, at);
         match event {
             Event::Text(n) => {
-                sort = 2;
+                sort = TEXT;
                 at = cursor::skip(table, parse, scratch, n);
             }
             Event::Open(_, n) => {
@@ -107,14 +118,14 @@ pub fn not_one(table: &[u32], parse: &[u32], scratch: &mut [u32], first: Cursor)
                 at = cursor::past(table, parse, scratch, n);
             }
             Event::Attribute(_, n) => {
-                sort = 2;
+                sort = ATTRIBUTE;
                 at = cursor::past(table, parse, scratch, n);
             }
             Event::Close(_, n) => {
                 at = n;
             }
             Event::End => {
-                return sort != 1;
+                return sort != ONE;
             }
         }
     }

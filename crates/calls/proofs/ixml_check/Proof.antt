@@ -9,20 +9,20 @@ slice-aggregate-load-grammar c = search needs
 load-grammar-requires : tie.Need-load-grammar-requires
 load-grammar-requires c κs = search needs
 
-enum-known-judged : tie.Need-enum-known-judged
-enum-known-judged c = search needs
+enum-known-loaded : tie.Need-enum-known-loaded
+enum-known-loaded c = search needs
 
 enum-told : tie.Need-enum-told
 enum-told c = search needs
 
-why-judged-requires : tie.Need-why-judged-requires
-why-judged-requires c κs = search needs
+loaded-number-requires : tie.Need-loaded-number-requires
+loaded-number-requires c κs = search needs
 
 returns : tie.Need-returns
-returns c = refuses _ _ _ _ _ (c .before .enum-told .given .1) (c .why-judged .ensures) (c .before .before .before .before .load-grammar .ensures)
+returns c = refuses _ _ _ _ _ (c .before .enum-told .given .1) (c .loaded-number .ensures) (c .before .before .before .before .load-grammar .ensures)
 
 returns-2 : tie.Need-returns-2
-returns-2 c = accepts _ _ _ _ (c .before .judged .given .1) (c .before .before .before .before .load-grammar .ensures)
+returns-2 c = accepts _ _ _ _ (c .before .loaded .given .1) (c .before .before .before .before .load-grammar .ensures)
 
 pub ixml-check-spec : {M : Type 1} → statement M
 ixml-check-spec =
@@ -30,8 +30,8 @@ ixml-check-spec =
     (tie.spec
     slice-aggregate-load-grammar
     load-grammar-requires
-    enum-known-judged
+    enum-known-loaded
     enum-told
-    why-judged-requires
+    loaded-number-requires
     returns
     returns-2)

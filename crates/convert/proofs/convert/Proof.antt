@@ -22,20 +22,16 @@ first-error-requires c κs =
     let start = at-note .before .before .before .before .before .before in
     (omega (arith, start .pre .few), (room (start .pre) (search needs), some-job (at-note .note .ensures) (start .pre)))
 
-enum-told : tie.Need-enum-told
-enum-told c = search needs
-
-enum-told-2 : tie.Need-enum-told-2
-enum-told-2 c = search needs
-
 why-requires : tie.Need-why-requires
 why-requires c κs = search needs
 
 returns : tie.Need-returns
 returns c =
-    let at-first-error = c .before .before .before .before .before in
+    let at-if1 = c in
+    let at-why = at-if1 .before in
+    let at-first-error = at-why .before .before .before in
     let at-note = at-first-error .before .before .before .before in
-    λ g t p. forbidden (at-note .note .ensures) (at-first-error .first-error .ensures) g t _ _ _ _ _ p (c .before .enum-told2 .given .1) (c .why .ensures)
+    λ g t p. forbidden (at-note .note .ensures) (at-first-error .first-error .ensures) g t _ _ _ _ p (at-why .why .ensures) (at-if1 .if1 .taken)
 
 slice-aggregate-write-xml : tie.Need-slice-aggregate-write-xml
 slice-aggregate-write-xml c = search needs
@@ -50,8 +46,8 @@ write-xml-requires c κs =
 enum-known-written : tie.Need-enum-known-written
 enum-known-written c = search needs
 
-enum-told-3 : tie.Need-enum-told-3
-enum-told-3 c = search needs
+enum-told : tie.Need-enum-told
+enum-told c = search needs
 
 same-length : tie.Need-same-length
 same-length c = search needs
@@ -59,10 +55,12 @@ same-length c = search needs
 returns-2 : tie.Need-returns-2
 returns-2 c =
     let at-write-xml = c .before .before .before .before .before in
-    let at-enum-told = at-write-xml .before .before .before in
-    let at-first-error = at-enum-told .before .before .before .before in
+    let at-if1 = at-write-xml .before .before .before in
+    let at-why = at-if1 .before in
+    let at-first-error = at-why .before .before .before in
     let at-note = at-first-error .before .before .before .before in
-    λ g t p. too-long (at-note .note .ensures) (at-first-error .first-error .ensures) g t _ _ _ _ _ p (at-enum-told .enum-told .given .1) (at-write-xml .write-xml .ensures g t) (c .enum-told3 .given .1)
+    λ g t p. too-long (at-note .note .ensures) (at-first-error .first-error .ensures) g t _ _ _ _ p (at-why .why .ensures) (at-if1 .if1 .left) _ _
+    (at-write-xml .write-xml .ensures g t) (c .enum-told .given .1)
 
 same-length-2 : tie.Need-same-length-2
 same-length-2 c = search needs
@@ -70,10 +68,12 @@ same-length-2 c = search needs
 returns-3 : tie.Need-returns-3
 returns-3 c =
     let at-write-xml = c .before .before .before .before .before .before in
-    let at-enum-told = at-write-xml .before .before .before in
-    let at-first-error = at-enum-told .before .before .before .before in
+    let at-if1 = at-write-xml .before .before .before in
+    let at-why = at-if1 .before in
+    let at-first-error = at-why .before .before .before in
     let at-note = at-first-error .before .before .before .before in
-    λ g t p. concluded (at-note .note .ensures) (at-first-error .first-error .ensures) g t _ _ _ _ _ p (at-enum-told .enum-told .given .1) (at-write-xml .write-xml .ensures g t) _ (c .before .written .given .1)
+    λ g t p. concluded (at-note .note .ensures) (at-first-error .first-error .ensures) g t _ _ _ _ p (at-why .why .ensures) (at-if1 .if1 .left) _ _
+    (at-write-xml .write-xml .ensures g t) _ (c .before .written .given .1)
 
 pub convert-spec : {M : Type 1} → statement M
 convert-spec =
@@ -84,14 +84,12 @@ convert-spec =
     slice-aggregate-first-error
     slice-aggregate-first-error-2
     first-error-requires
-    enum-told
-    enum-told-2
     why-requires
     returns
     slice-aggregate-write-xml
     write-xml-requires
     enum-known-written
-    enum-told-3
+    enum-told
     same-length
     returns-2
     same-length-2

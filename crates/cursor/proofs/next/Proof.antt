@@ -27,4 +27,10 @@ returns : tie.Need-returns
 returns c = came-next (settled-came (c .before .before .before .before .before .before .settle .ensures)) (c .before .before .event-at .ensures)
 
 pub next-spec : {M : Type 1} → statement M
-next-spec = tie.close (tie.spec settle-requires event-at-requires same-length returns)
+next-spec =
+    tie.close
+    (tie.spec
+    settle-requires
+    event-at-requires
+    same-length
+    returns)

@@ -15,4 +15,8 @@ returns : tie.Need-returns
 returns c = over-text (c .before .before .before .before .before .pre) (c .skip .ensures)
 
 pub skip-spec : {M : Type 1} → statement M
-skip-spec = tie.close (tie.spec skip-requires returns)
+skip-spec =
+    tie.close
+    (tie.spec
+    skip-requires
+    returns)

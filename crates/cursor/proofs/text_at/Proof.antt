@@ -20,4 +20,9 @@ returns : tie.Need-returns
 returns c = rw (c .before .token-at .ensures .0) at (c .piece-of .ensures)
 
 pub text-at-spec : {M : Type 1} → statement M
-text-at-spec = tie.close (tie.spec token-at-requires piece-of-requires returns)
+text-at-spec =
+    tie.close
+    (tie.spec
+    token-at-requires
+    piece-of-requires
+    returns)

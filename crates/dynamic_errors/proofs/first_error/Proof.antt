@@ -9,9 +9,6 @@ head-at-requires c κs = search needs
 look-requires : tie.Need-look-requires
 look-requires c κs = search needs
 
-look-requires-2 : tie.Need-look-requires-2
-look-requires-2 c κs = search needs
-
 alternative-requires : tie.Need-alternative-requires
 alternative-requires c κs = search needs
 
@@ -21,16 +18,13 @@ at-root-requires c κs = search needs
 judge-row-requires : tie.Need-judge-row-requires
 judge-row-requires c κs =
     let at-alternative = c .before .before .before in
-    let at-look2 = at-alternative .before in
-    let at-head-at = at-look2 .before .before in
+    let at-look = at-alternative .before in
+    let at-head-at = at-look .before in
     let start = at-head-at .before .before .before .before .before .before in (
       (start .pre .0, at-head-at .head-at .ensures .fits),
-      root-standing (start .pre .1 .0) (start .pre .1 .1) (at-look2 .look2 .ensures .0)
+      root-standing (start .pre .1 .0) (start .pre .1 .1) (at-look .look .ensures .0)
           (at-alternative .alternative .ensures) (c .before .before .at-root .ensures),
     )
-
-verdict-of-requires : tie.Need-verdict-of-requires
-verdict-of-requires c κs = search needs
 
 same-length : tie.Need-same-length
 same-length c = search needs
@@ -40,15 +34,14 @@ same-length-2 c = search needs
 
 returns : tie.Need-returns
 returns c =
-    let at-judge-row = c .before .before .before .before .before in
+    let at-judge-row = c .before .before .before .before in
     let at-at-root = at-judge-row .before .before .before in
     let at-alternative = at-at-root .before in
-    let at-look2 = at-alternative .before in
-    let at-look = at-look2 .before in
+    let at-look = at-alternative .before in
     let at-head-at = at-look .before in
     let start = at-head-at .before .before .before .before .before .before in
-    root-judged (start .pre .1 .0) (at-head-at .head-at .ensures) (at-look .look .ensures .0) (at-look2 .look2 .ensures .0)
-    (at-alternative .alternative .ensures) (at-at-root .at-root .ensures) (at-judge-row .judge-row .ensures) (c .verdict-of .ensures)
+    root-judged (start .pre .1 .0) (at-head-at .head-at .ensures) (at-look .look .ensures .0)
+    (at-alternative .alternative .ensures) (at-at-root .at-root .ensures) (at-judge-row .judge-row .ensures)
 
 pub first-error-spec : {M : Type 1} → statement M
 first-error-spec =
@@ -56,11 +49,9 @@ first-error-spec =
     (tie.spec
     head-at-requires
     look-requires
-    look-requires-2
     alternative-requires
     at-root-requires
     judge-row-requires
-    verdict-of-requires
     same-length
     same-length-2
     returns)

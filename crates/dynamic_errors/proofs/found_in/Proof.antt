@@ -11,18 +11,6 @@ use Rattle.dynamic_errors.proofs.Folds.{hunt-begin, hunt-text, hunt-ele
 use borrow.Author.Needs.{needs}
 use Rattle.dynamic_errors.proofs.found_in.Statement.{statement}
 use Rattle.dynamic_errors.proofs.found_in.Tie as tie
-use Rattle.dynamic_errors.proofs.found_in.Reads as reads
-use Rattle.dynamic_errors.proofs.found_in.Lts as lts
-use Rattle.cursor.proofs.enter.Reads as enter-reads
-use Rattle.cursor.proofs.next.Reads as next-reads
-use Rattle.cursor.proofs.skip.Reads as skip-reads
-use Rattle.cursor.proofs.text_at.Reads as text-at-reads
-use Rattle.xml_names.proofs.join.Reads as join-reads
-use Rattle.xml_names.proofs.of_attribute.Reads as of-attribute-reads
-use Rattle.xml_names.proofs.of_name.Reads as of-name-reads
-use Rattle.xml_names.proofs.of_text.Reads as of-text-reads
-use Rattle.text.proofs.either.Reads as either-reads
-use Rattle.dynamic_errors.proofs.repeats_in.Reads as repeats-in-reads
 
 abbrev Inv-loop : tie.InvT-loop
 Inv-loop table parse «record» scratch₀ seen₀ twice₀ faults₀ at₀ scratch seen twice faults at =
@@ -32,31 +20,24 @@ Inv-loop table parse «record» scratch₀ seen₀ twice₀ faults₀ at₀ scra
 abbrev μ-loop : tie.MeasureT-loop
 μ-loop table parse «record» scratch₀ seen₀ twice₀ faults₀ at₀ scratch seen twice faults at = weight table parse at
 
--- src/lib.rt:71:5
 loop-holds : tie.Need-loop-holds Inv-loop μ-loop
 loop-holds c = (refl, refl, reached-begin (Search _ _ _) (λ r k. record { hunt = hunt-begin; owed = begin-law }))
 
--- src/lib.rt:72:13
 next-requires : tie.Need-next-requires Inv-loop μ-loop
 next-requires c κs = reached-some (Search _ _ _) (c .before .loop .inv .2) (row-some (c .before .before .before .before .before .before .before .pre .1))
 
--- src/lib.rt:74:25
 enum-known-event : tie.Need-enum-known-event Inv-loop μ-loop
 enum-known-event c = search needs
 
--- src/lib.rt:75:21
 text-at-requires : tie.Need-text-at-requires Inv-loop μ-loop
 text-at-requires c κs = search needs
 
--- src/lib.rt:76:46
 of-text-requires : tie.Need-of-text-requires Inv-loop μ-loop
 of-text-requires c κs = search needs
 
--- src/lib.rt:76:17
 join-requires : tie.Need-join-requires Inv-loop μ-loop
 join-requires c κs = search needs
 
--- src/lib.rt:77:17
 skip-requires : tie.Need-skip-requires Inv-loop μ-loop
 skip-requires c κs =
     let at-event = c .before .before .before .before .before in
@@ -65,14 +46,12 @@ skip-requires c κs =
     let start = at-loop .before .before .before .before .before .before in
     text-stands (Search _ _ _) (at-loop .loop .inv .2) (at-next .next .ensures) (at-event .event .given .1) (row-some (start .pre .1))
 
--- src/lib.rt:71:5
 loop-less : tie.Need-loop-less Inv-loop μ-loop
 loop-less c =
     let at-event = c .before .before .before .before .before .before in
     let at-next = at-event .before .before .before .before in
     omega (arith, c .skip .ensures .falls, text-is (at-next .next .ensures) (at-event .event .given .1) .near)
 
--- src/lib.rt:71:5
 loop-again : tie.Need-loop-again Inv-loop μ-loop
 loop-again c =
     let at-of-text = c .before .before .before in
@@ -93,19 +72,15 @@ loop-again c =
           }),
     )
 
--- src/lib.rt:79:25
 enum-known-event-2 : tie.Need-enum-known-event-2 Inv-loop μ-loop
 enum-known-event-2 c = search needs
 
--- src/lib.rt:80:46
 of-name-requires : tie.Need-of-name-requires Inv-loop μ-loop
 of-name-requires c κs = omega (arith, open-is (c .before .before .before .before .before .next .ensures) (c .before .event2 .given .1) .fits)
 
--- src/lib.rt:80:17
 join-requires-2 : tie.Need-join-requires-2 Inv-loop μ-loop
 join-requires-2 c κs = search needs
 
--- src/lib.rt:81:39
 repeats-in-requires : tie.Need-repeats-in-requires Inv-loop μ-loop
 repeats-in-requires c κs =
     let at-event2 = c .before .before .before .before .before in
@@ -117,11 +92,9 @@ repeats-in-requires c κs =
     let i = at-loop .loop .inv in
     (omega (arith, start .pre .0, i .1), (open-is N e .is, (_, open-node (Search _ _ _) (i .2) N e (row-some (start .pre .1)))))
 
--- src/lib.rt:81:17
 either-requires : tie.Need-either-requires Inv-loop μ-loop
 either-requires c κs = search needs
 
--- src/lib.rt:82:17
 enter-requires : tie.Need-enter-requires Inv-loop μ-loop
 enter-requires c κs =
     let at-repeats-in = c .before .before .before .before .before .before in
@@ -135,14 +108,12 @@ enter-requires c κs =
           (row-some (start .pre .1))),
     )
 
--- src/lib.rt:71:5
 loop-less-2 : tie.Need-loop-less-2 Inv-loop μ-loop
 loop-less-2 c =
     let at-event2 = c .before .before .before .before .before .before .before .before .before .before .before .before .before .before .before in
     let at-next = at-event2 .before .before .before .before in
     omega (arith, c .before .before .enter .ensures .falls, open-is (at-next .next .ensures) (at-event2 .event2 .given .1) .near)
 
--- src/lib.rt:71:5
 loop-again-2 : tie.Need-loop-again-2 Inv-loop μ-loop
 loop-again-2 c =
     let at-enter = c .before .before in
@@ -169,19 +140,15 @@ loop-again-2 c =
           }),
     )
 
--- src/lib.rt:84:30
 enum-known-event-3 : tie.Need-enum-known-event-3 Inv-loop μ-loop
 enum-known-event-3 c = search needs
 
--- src/lib.rt:85:46
 of-attribute-requires : tie.Need-of-attribute-requires Inv-loop μ-loop
 of-attribute-requires c κs = omega (arith, attribute-is (c .before .before .before .before .before .next .ensures) (c .before .event3 .given .1) .fits)
 
--- src/lib.rt:85:17
 join-requires-3 : tie.Need-join-requires-3 Inv-loop μ-loop
 join-requires-3 c κs = search needs
 
--- src/lib.rt:86:17
 enter-requires-2 : tie.Need-enter-requires-2 Inv-loop μ-loop
 enter-requires-2 c κs =
     let at-event3 = c .before .before .before .before in
@@ -190,14 +157,12 @@ enter-requires-2 c κs =
     let start = at-loop .before .before .before .before .before .before in
     (_, attribute-node (Search _ _ _) (at-loop .loop .inv .2) (at-next .next .ensures) (at-event3 .event3 .given .1) (row-some (start .pre .1)))
 
--- src/lib.rt:71:5
 loop-less-3 : tie.Need-loop-less-3 Inv-loop μ-loop
 loop-less-3 c =
     let at-event3 = c .before .before .before .before .before .before .before in
     let at-next = at-event3 .before .before .before .before in
     omega (arith, c .before .before .enter2 .ensures .falls, attribute-is (at-next .next .ensures) (at-event3 .event3 .given .1) .near)
 
--- src/lib.rt:71:5
 loop-again-3 : tie.Need-loop-again-3 Inv-loop μ-loop
 loop-again-3 c =
     let at-join3 = c .before .before .before .before in
@@ -219,15 +184,12 @@ loop-again-3 c =
           }),
     )
 
--- src/lib.rt:88:29
 enum-known-event-4 : tie.Need-enum-known-event-4 Inv-loop μ-loop
 enum-known-event-4 c = search needs
 
--- src/lib.rt:71:5
 loop-less-4 : tie.Need-loop-less-4 Inv-loop μ-loop
 loop-less-4 c = close-is (c .before .before .before .before .before .next .ensures) (c .before .event4 .given .1) .falls
 
--- src/lib.rt:71:5
 loop-again-4 : tie.Need-loop-again-4 Inv-loop μ-loop
 loop-again-4 c =
     let at-next = c .before .before .before .before .before in
@@ -239,19 +201,15 @@ loop-again-4 c =
           (λ r k₀ k m n N O. record { hunt = hunt-close n k (O .hunt); owed = close-law k n (O .owed) }),
     )
 
--- src/lib.rt:92:17
 enum-told : tie.Need-enum-told Inv-loop μ-loop
 enum-told c = search needs
 
--- src/lib.rt:92:17
 same-length : tie.Need-same-length Inv-loop μ-loop
 same-length c = omega (arith, c .before .before .before .before .before .before .loop .inv .0)
 
--- src/lib.rt:92:17
 same-length-2 : tie.Need-same-length-2 Inv-loop μ-loop
 same-length-2 c = c .before .before .before .before .before .before .loop .inv .1
 
--- src/lib.rt:92:17
 returns : tie.Need-returns Inv-loop μ-loop
 returns c =
     let i = c .before .before .before .before .before .before .loop .inv in

@@ -21,4 +21,10 @@ returns-2 c =
     ∙ ap (λ (b : Bool). misnamedIn b n (start .args .found)) (sym (c .before .before .if1 .left))
 
 pub misnamed-in-spec : {M : Type 1} → statement M
-misnamed-in-spec = tie.close (tie.spec returns bad-name-requires either-requires returns-2)
+misnamed-in-spec =
+    tie.close
+    (tie.spec
+    returns
+    bad-name-requires
+    either-requires
+    returns-2)

@@ -16,4 +16,10 @@ returns-2 : tie.Need-returns-2
 returns-2 c = not-one-element (c .if1 .left)
 
 pub not-one-in-spec : {M : Type 1} → statement M
-not-one-in-spec = tie.close (tie.spec not-one-requires same-length returns returns-2)
+not-one-in-spec =
+    tie.close
+    (tie.spec
+    not-one-requires
+    same-length
+    returns
+    returns-2)

@@ -1,3 +1,4 @@
+use Rattle.dynamic_errors.proofs.Roots.{top-number}
 use borrow.Author.Needs.{needs}
 use Rattle.dynamic_errors.proofs.top_line.Statement.{statement}
 use Rattle.dynamic_errors.proofs.top_line.Tie as tie
@@ -25,7 +26,9 @@ returns c =
     let at-line3 = c .before .before .before in
     let at-line2 = at-line3 .before in
     let at-line = at-line2 .before in
+    let a = at-line .before .args in
     rw (c .line6 .ensures, c .before .line5 .ensures, c .before .before .line4 .ensures, at-line3 .line3 .ensures, at-line2 .line2 .ensures, at-line .line .ensures)
+    (top-number (a .twice) (a .misnamed) (a .unwritable) (a .attribute) (a .beside) (a .namespaced))
 
 pub top-line-spec : {M : Type 1} → statement M
 top-line-spec =

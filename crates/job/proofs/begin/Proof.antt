@@ -9,14 +9,14 @@ use Rattle.job.proofs.begin.Tie as tie
 load-grammar-requires : tie.Need-load-grammar-requires
 load-grammar-requires c κs = search needs
 
-enum-known-judged : tie.Need-enum-known-judged
-enum-known-judged c = search needs
+enum-known-loaded : tie.Need-enum-known-loaded
+enum-known-loaded c = search needs
 
 enum-told : tie.Need-enum-told
 enum-told c = search needs
 
-why-judged-requires : tie.Need-why-judged-requires
-why-judged-requires c κs = search needs
+loaded-number-requires : tie.Need-loaded-number-requires
+loaded-number-requires c κs = search needs
 
 same-length : tie.Need-same-length
 same-length c = search needs
@@ -26,7 +26,7 @@ returns c =
     let load-grammar = c .before .before .before .before .before .load-grammar in
     let args = c .before .before .before .before .before .before .before .before .before .before .before .args in
     ends-grammar (job (args .grammar .now) (args .record .now) (args .main) (args .second)) (load-grammar .last .1 .0) (args .text .now) _ _ _
-    (c .before .enum-told .given .1) (c .why-judged .ensures) (load-grammar .ensures)
+    (c .before .enum-told .given .1) (c .loaded-number .ensures) (load-grammar .ensures)
 
 take-record-requires : tie.Need-take-record-requires
 take-record-requires c κs = search needs
@@ -49,12 +49,12 @@ same-length-3 c = search needs
 returns-2 : tie.Need-returns-2
 returns-2 c =
     let take-record = c .before .before .before .before .before .take-record in
-    let judged = c .before .before .before .before .before .before .before .before .judged in
+    let loaded = c .before .before .before .before .before .before .before .before .loaded in
     let load-grammar = c .before .before .before .before .before .before .before .before .before .before .before .before .load-grammar in
     let args = c .before .before .before .before .before .before .before .before .before .before .before .before .before .before .before .before
     .before .before .args in
     ends-record (job (args .grammar .now) (args .record .now) (args .main) (args .second)) (load-grammar .last .1 .0) (take-record .last .1 .0) _
-    _ (judged .given .1) (load-grammar .ensures) _ _ _ (c .before .enum-told2 .given .1) (c .why-taken .ensures) (take-record .ensures)
+    _ (loaded .given .1) (load-grammar .ensures) _ _ _ (c .before .enum-told2 .given .1) (c .why-taken .ensures) (take-record .ensures)
 
 wide-requires : tie.Need-wide-requires
 wide-requires c κs = search needs
@@ -63,7 +63,7 @@ need-requires : tie.Need-need-requires
 need-requires c κs =
     let taken = c .before .before .taken in
     let take-record = c .before .before .before .before .before .before .take-record in
-    let judged = c .before .before .before .before .before .before .before .before .before .judged in
+    let loaded = c .before .before .before .before .before .before .before .before .before .loaded in
     let load-grammar = c .before .before .before .before .before .before .before .before .before .before .before .before .before .load-grammar in
     let args = c .before .before .before .before .before .before .before .before .before .before .before .before .before .before .before .before
     .before .before .before .args in (
@@ -71,10 +71,10 @@ need-requires c κs =
         arith,
         c .wide .ensures,
         small (job (args .grammar .now) (args .record .now) (args .main) (args .second)) (load-grammar .last .1 .0)
-            (take-record .last .1 .0) _ _ (judged .given .1) (load-grammar .ensures),
+            (take-record .last .1 .0) _ _ (loaded .given .1) (load-grammar .ensures),
       ),
       few (job (args .grammar .now) (args .record .now) (args .main) (args .second)) (load-grammar .last .1 .0) (take-record .last .1 .0) _ _
-          (judged .given .1) (load-grammar .ensures) _ _ (taken .given .1) (take-record .ensures),
+          (loaded .given .1) (load-grammar .ensures) _ _ (taken .given .1) (take-record .ensures),
     )
 
 same-length-4 : tie.Need-same-length-4
@@ -88,13 +88,13 @@ returns-3 c =
     let wide = c .before .before .wide in
     let taken = c .before .before .before .before .taken in
     let take-record = c .before .before .before .before .before .before .before .before .take-record in
-    let judged = c .before .before .before .before .before .before .before .before .before .before .before .judged in
+    let loaded = c .before .before .before .before .before .before .before .before .before .before .before .loaded in
     let load-grammar = c .before .before .before .before .before .before .before .before .before .before .before .before .before .before .before
     .load-grammar in
     let args = c .before .before .before .before .before .before .before .before .before .before .before .before .before .before .before .before
     .before .before .before .before .before .args in
     ends-main (job (args .grammar .now) (args .record .now) (args .main) (args .second)) (load-grammar .last .1 .0) (take-record .last .1 .0) _ _
-    (judged .given .1) (load-grammar .ensures) _ _ (taken .given .1) (take-record .ensures) _ (c .before .need .ensures ∙ rw (wide .ensures))
+    (loaded .given .1) (load-grammar .ensures) _ _ (taken .given .1) (take-record .ensures) _ (c .before .need .ensures ∙ rw (wide .ensures))
     (c .if1 .taken)
 
 same-length-6 : tie.Need-same-length-6
@@ -109,13 +109,13 @@ returns-4 c =
     let wide = c .before .before .before .wide in
     let taken = c .before .before .before .before .before .taken in
     let take-record = c .before .before .before .before .before .before .before .before .before .take-record in
-    let judged = c .before .before .before .before .before .before .before .before .before .before .before .before .judged in
+    let loaded = c .before .before .before .before .before .before .before .before .before .before .before .before .loaded in
     let load-grammar = c .before .before .before .before .before .before .before .before .before .before .before .before .before .before .before
     .before .load-grammar in
     let args = c .before .before .before .before .before .before .before .before .before .before .before .before .before .before .before .before
     .before .before .before .before .before .before .args in
     ends-second (job (args .grammar .now) (args .record .now) (args .main) (args .second)) (load-grammar .last .1 .0) (take-record .last .1 .0) _
-    _ (judged .given .1) (load-grammar .ensures) _ _ (taken .given .1) (take-record .ensures) _ (need .ensures ∙ rw (wide .ensures))
+    _ (loaded .given .1) (load-grammar .ensures) _ _ (taken .given .1) (take-record .ensures) _ (need .ensures ∙ rw (wide .ensures))
     (omega (arith, c .before .if1 .left)) (c .if2 .taken)
 
 same-length-8 : tie.Need-same-length-8
@@ -130,13 +130,13 @@ returns-5 c =
     let wide = c .before .before .before .wide in
     let taken = c .before .before .before .before .before .taken in
     let take-record = c .before .before .before .before .before .before .before .before .before .take-record in
-    let judged = c .before .before .before .before .before .before .before .before .before .before .before .before .judged in
+    let loaded = c .before .before .before .before .before .before .before .before .before .before .before .before .loaded in
     let load-grammar = c .before .before .before .before .before .before .before .before .before .before .before .before .before .before .before
     .before .load-grammar in
     let args = c .before .before .before .before .before .before .before .before .before .before .before .before .before .before .before .before
     .before .before .before .before .before .before .args in
     begun (job (args .grammar .now) (args .record .now) (args .main) (args .second)) (load-grammar .last .1 .0) (take-record .last .1 .0) _ _
-    (judged .given .1) (load-grammar .ensures) _ _ (taken .given .1) (take-record .ensures) _ (need .ensures ∙ rw (wide .ensures))
+    (loaded .given .1) (load-grammar .ensures) _ _ (taken .given .1) (take-record .ensures) _ (need .ensures ∙ rw (wide .ensures))
     (omega (arith, c .before .if1 .left)) (omega (arith, c .if2 .left))
 
 pub begin-spec : {M : Type 1} → statement M
@@ -144,9 +144,9 @@ begin-spec =
     tie.close
     (tie.spec
     load-grammar-requires
-    enum-known-judged
+    enum-known-loaded
     enum-told
-    why-judged-requires
+    loaded-number-requires
     same-length
     returns
     take-record-requires

@@ -29,10 +29,10 @@ returns c =
 
 read-record-requires : tie.Need-read-record-requires
 read-record-requires c κs =
-    let begun = c .before .before .before .before .before .begun in
-    let begin = c .before .before .before .before .before .before .before .before .before .before .before .begin in
+    let begun = c .before .before .before .before .before .before .begun in
+    let begin = c .before .before .before .before .before .before .before .before .before .before .before .before .begin in
     let pre = c .before .before .before .before .before .before .before .before .before .before .before .before .before .before .before .before
-    .before .before .before .before .pre in
+    .before .before .before .before .before .pre in
     let w = begun-at _ _ _ _ _ (begun .given .1) (begin .ensures) in
     record { job = _; started = w; lent = search needs; long = search needs; room = pre .room }
 
@@ -60,9 +60,9 @@ same-length-6 c = search needs
 returns-2 : tie.Need-returns-2
 returns-2 c =
     let read-record = c .before .before .before .before .before .before .before .before .before .read-record in
-    let begun = c .before .before .before .before .before .before .before .before .before .before .before .before .before .before .before .begun in
+    let begun = c .before .before .before .before .before .before .before .before .before .before .before .before .before .before .before .before .begun in
     let begin = c .before .before .before .before .before .before .before .before .before .before .before .before .before .before .before .before
-    .before .before .before .before .before .begin in
+    .before .before .before .before .before .before .begin in
     let w = begun-at _ _ _ _ _ (begun .given .1) (begin .ensures) in
     not-chosen _ _ _ _ w _ _ _ _ _ (c .before .enum-told2 .given .1) (c .why-read .ensures) (read-record .ensures _ w)
 
@@ -81,9 +81,9 @@ same-length-10 c = search needs
 returns-3 : tie.Need-returns-3
 returns-3 c =
     let read-record = c .before .before .before .before .before .before .before .before .before .read-record in
-    let begun = c .before .before .before .before .before .before .before .before .before .before .before .before .before .before .before .begun in
+    let begun = c .before .before .before .before .before .before .before .before .before .before .before .before .before .before .before .before .begun in
     let begin = c .before .before .before .before .before .before .before .before .before .before .before .before .before .before .before .before
-    .before .before .before .before .before .begin in
+    .before .before .before .before .before .before .begin in
     let w = begun-at _ _ _ _ _ (begun .given .1) (begin .ensures) in
     chosen _ _ _ _ w _ _ _ _ (c .before .read .given .1) (read-record .ensures _ w)
 

@@ -62,10 +62,8 @@ same-length-6 c = search needs
 returns-2 : tie.Need-returns-2
 returns-2 c =
     let choose = c .before .before .before .before .before .before .before .choose in
-    let build-items = c .before .before .before .before .before .before .before .before .before .before .before .before .before .before
-    .build-items in
-    let wide = c .before .before .before .before .before .before .before .before .before .before .before .before .before .before .before .before
-    .wide in
+    let build-items = c .before .before .before .before .before .before .before .before .before .before .before .before .before .before .build-items in
+    let wide = c .before .before .before .before .before .before .before .before .before .before .before .before .before .before .before .before .wide in
     λ j w. is-read j _ _ _ w _ _ _ (wide .ensures) (build-items .ensures (w .grammar .tree) (readable j _ _ _ w)) _ _
     (choose .ensures (w .grammar .tree) (prepares j _ _ _ w _ _ _ (wide .ensures) (build-items .ensures (w .grammar .tree) (readable j _ _ _ w))))
     _ _ (c .before .walked .given .1)

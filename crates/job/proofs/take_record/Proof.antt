@@ -25,15 +25,15 @@ same-length-2 : tie.Need-same-length-2
 same-length-2 c = search needs
 
 returns-2 : tie.Need-returns-2
-returns-2 c = too-many _ _ _ _ (c .before .before .before .before .before .before .decode-text .ensures) _ (c .before .before .decoded .given .1) (c .if1 .taken)
+returns-2 c = too-many _ _ _ _ (c .before .before .before .before .before .before .before .decode-text .ensures) _ (c .before .before .before .decoded .given .1) (c .if1 .taken)
 
 same-length-3 : tie.Need-same-length-3
 same-length-3 c = search needs
 
 returns-3 : tie.Need-returns-3
 returns-3 c =
-    taken _ _ _ _ (c .before .before .before .before .before .before .decode-text .ensures) _ (c .before .before .decoded .given .1)
-    (omega (arith, c .if1 .left)) (c .before .before .before .before .before .before .before .before .before .before .pre)
+    taken _ _ _ _ (c .before .before .before .before .before .before .before .decode-text .ensures) _ (c .before .before .before .decoded .given .1)
+    (omega (arith, c .if1 .left)) (c .before .before .before .before .before .before .before .before .before .before .before .pre)
 
 pub take-record-spec : {M : Type 1} → statement M
 take-record-spec =

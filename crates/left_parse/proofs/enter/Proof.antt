@@ -38,18 +38,18 @@ mul-scratch-2 c = search needs
 slice-write-scratch-2 : tie.Need-slice-write-scratch-2
 slice-write-scratch-2 c = search needs
 
-add-t10 : tie.Need-add-t10
-add-t10 c = search needs
+add-t11 : tie.Need-add-t11
+add-t11 c = search needs
 
-add-t12 : tie.Need-add-t12
-add-t12 c = search needs
+add-t13 : tie.Need-add-t13
+add-t13 c = search needs
 
 same-length : tie.Need-same-length
 same-length c = search needs
 
 returns : tie.Need-returns
 returns c =
-    let at-alternative = c .before .before .before .before in
+    let at-alternative = c .before .before .before .before .before in
     let at-target-at = at-alternative .before in
     let at-look = at-target-at .before in
     record {
@@ -73,7 +73,7 @@ enter-spec =
     add-scratch
     mul-scratch-2
     slice-write-scratch-2
-    add-t10
-    add-t12
+    add-t11
+    add-t13
     same-length
     returns)

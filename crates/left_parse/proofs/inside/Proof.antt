@@ -12,12 +12,18 @@ target-at-requires c κs = search needs
 alternative-requires : tie.Need-alternative-requires
 alternative-requires c κs = search needs
 
-add-t7 : tie.Need-add-t7
-add-t7 c = search needs
+add-t8 : tie.Need-add-t8
+add-t8 c = search needs
 
 returns : tie.Need-returns
-returns c = record { spot = refl; found = rw (← (c .before .before .before .look .ensures .0), ← (c .before .before .target-at .ensures)) (c .before .alternative .ensures) }
+returns c = record { spot = refl; found = rw (← (c .before .before .before .before .look .ensures .0), ← (c .before .before .before .target-at .ensures)) (c .before .before .alternative .ensures) }
 
 pub inside-spec : {M : Type 1} → statement M
 inside-spec =
-    tie.close (tie.spec look-requires target-at-requires alternative-requires add-t7 returns)
+    tie.close
+    (tie.spec
+    look-requires
+    target-at-requires
+    alternative-requires
+    add-t8
+    returns)

@@ -26,4 +26,12 @@ returns c = rw (c .before .before .before .look .ensures .0, c .before .look2 .e
 
 pub jump-spec : {M : Type 1} → statement M
 jump-spec =
-    tie.close (tie.spec mul-look look-requires mul-look-2 add-look look-requires-2 add-t5 returns)
+    tie.close
+    (tie.spec
+    mul-look
+    look-requires
+    mul-look-2
+    add-look
+    look-requires-2
+    add-t5
+    returns)

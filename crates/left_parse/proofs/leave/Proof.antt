@@ -40,17 +40,17 @@ mul-scratch-2 c = search needs
 
 slice-write-scratch-2 : tie.Need-slice-write-scratch-2
 slice-write-scratch-2 c =
-    let start = c .before .before .before .before .before .before .before .before in
+    let start = c .before .before .before .before .before .before .before .before .before in
     simp length-set (omega (arith, start .pre .room, start .pre .some))
 
-add-t6 : tie.Need-add-t6
-add-t6 c = search needs
+add-t7 : tie.Need-add-t7
+add-t7 c = search needs
 
 same-length : tie.Need-same-length
 same-length c = search needs
 
 returns : tie.Need-returns
-returns c = record { scratch = refl; spot = rw (c .before .before .before .before .look .ensures .0, c .before .before .look2 .ensures .0) }
+returns c = record { scratch = refl; spot = rw (c .before .before .before .before .before .look .ensures .0, c .before .before .before .look2 .ensures .0) }
 
 pub leave-spec : {M : Type 1} → statement M
 leave-spec =
@@ -68,6 +68,6 @@ leave-spec =
     add-scratch
     mul-scratch-2
     slice-write-scratch-2
-    add-t6
+    add-t7
     same-length
     returns)

@@ -25,12 +25,12 @@ token-at-requires c κs = search needs
 terminal-width-requires : tie.Need-terminal-width-requires
 terminal-width-requires c κs = search needs
 
-add-t8 : tie.Need-add-t8
-add-t8 c = let G = c .before .before .before .before .before .before .before .before .pre .1 .3 in omega (arith, item-inside (G .walk), G .walk .table)
-
 add-t9 : tie.Need-add-t9
-add-t9 c =
-    let at-terminal-width = c .before .before in
+add-t9 c = let G = c .before .before .before .before .before .before .before .before .before .pre .1 .3 in omega (arith, item-inside (G .walk), G .walk .table)
+
+add-t10 : tie.Need-add-t10
+add-t10 c =
+    let at-terminal-width = c .before .before .before in
     let at-token-at = at-terminal-width .before in
     let at-if1 = at-token-at .before in
     let at-kind-at = at-if1 .before in
@@ -43,7 +43,7 @@ add-t9 c =
 
 returns : tie.Need-returns
 returns c =
-    let at-terminal-width = c .before .before in
+    let at-terminal-width = c .before .before .before in
     let at-token-at = at-terminal-width .before in
     let at-if1 = at-token-at .before in
     let at-kind-at = at-if1 .before in
@@ -97,8 +97,8 @@ step-spec =
     kind-at-requires
     token-at-requires
     terminal-width-requires
-    add-t8
     add-t9
+    add-t10
     returns
     enter-requires
     same-length

@@ -1,5 +1,5 @@
 use borrow.Author.Needs.{needs}
-use Rattle.load.proofs.Loads.{readable, no-tree, standing, judged}
+use Rattle.load.proofs.Loads.{readable, no-tree, standing, checked}
 use Rattle.load.proofs.read_text.Statement.{statement}
 use Rattle.load.proofs.read_text.Tie as tie
 
@@ -21,8 +21,8 @@ returns c =
     let start = at-read-grammar .before .before .before .before in
     no-tree (start .args .text .now) (at-read-grammar .read-grammar .last .1 .0) (at-read-grammar .read-grammar .result) (c .enum-told .given .1) (at-read-grammar .read-grammar .ensures)
 
-judge-requires : tie.Need-judge-requires
-judge-requires c κs =
+check-tree-requires : tie.Need-check-tree-requires
+check-tree-requires c κs =
     let at-read-grammar = c .before .before .before .before .before .before in
     let start = at-read-grammar .before .before .before .before in
     standing (start .args .text .now) (at-read-grammar .read-grammar .last .1 .0) (at-read-grammar .read-grammar .result) _
@@ -36,8 +36,8 @@ returns-2 c =
     let at-read = c .before .before .before in
     let at-read-grammar = at-read .before .before .before .before in
     let start = at-read-grammar .before .before .before .before in
-    judged (start .args .text .now) (at-read-grammar .read-grammar .last .1 .0) (at-read-grammar .read-grammar .result) _
-    (at-read .read .given .1) (at-read-grammar .read-grammar .ensures) (start .pre .chars) (c .judge .result) (c .judge .ensures)
+    checked (start .args .text .now) (at-read-grammar .read-grammar .last .1 .0) (at-read-grammar .read-grammar .result) _
+    (at-read .read .given .1) (at-read-grammar .read-grammar .ensures) (start .pre .chars) (c .check-tree .result) (c .check-tree .ensures)
 
 pub read-text-spec : {M : Type 1} → statement M
 read-text-spec =
@@ -48,6 +48,6 @@ read-text-spec =
     enum-told
     same-length
     returns
-    judge-requires
+    check-tree-requires
     same-length-2
     returns-2)

@@ -28,4 +28,11 @@ returns-2 : tie.Need-returns-2
 returns-2 c = record { named = λ g R. head-plain (now (c .before .before .before .args .table)) g R (λ e. c .if1 .left (c .before .look .ensures .0 ∙ e)); fits = omega arith }
 
 pub head-at-spec : {M : Type 1} → statement M
-head-at-spec = tie.close (tie.spec look-requires look-requires-2 add-result returns returns-2)
+head-at-spec =
+    tie.close
+    (tie.spec
+    look-requires
+    look-requires-2
+    add-result
+    returns
+    returns-2)

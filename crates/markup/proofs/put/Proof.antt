@@ -12,8 +12,8 @@ use Rattle.markup.proofs.put.Tie as tie
 slice-write-out : tie.Need-slice-write-out
 slice-write-out c = search needs
 
-add-result : tie.Need-add-result
-add-result c = search needs
+add-t8 : tie.Need-add-t8
+add-t8 c = search needs
 
 same-length : tie.Need-same-length
 same-length c = search needs
@@ -21,11 +21,11 @@ same-length c = search needs
 returns : tie.Need-returns
 unfolding puts
 returns c =
-    let l : c .before .args .pos ≤ length (now (c .before .args .out)) = omega (arith, c .if1 .taken, c .before .pre) in
+    let l : c .before .before .args .pos .0 ≤ length (now (c .before .before .args .out)) = omega (arith, c .if1 .taken, c .before .before .pre) in
     rw (lt-ltb _ _ (c .if1 .taken), le-leb _ _ l)
 
-add-result-2 : tie.Need-add-result-2
-add-result-2 c = search needs
+add-t10 : tie.Need-add-t10
+add-t10 c = search needs
 
 returns-2 : tie.Need-returns-2
 unfolding puts
@@ -38,4 +38,11 @@ returns-3 c = rw (le-ltb _ _ (c .before .if1 .left), lt-leb _ _ (c .if2 .left))
 pub put-spec : {M : Type 1} → statement M
 put-spec =
     tie.close
-    (tie.spec slice-write-out add-result same-length returns add-result-2 returns-2 returns-3)
+    (tie.spec
+    slice-write-out
+    add-t8
+    same-length
+    returns
+    add-t10
+    returns-2
+    returns-3)

@@ -10,10 +10,10 @@ use Rattle.markup.proofs.put_all.Statement.{statement}
 use Rattle.markup.proofs.put_all.Tie as tie
 
 abbrev Inv-loop : tie.InvT-loop
-Inv-loop out₀ limit pos s at₀ i₀ out at i = (length out ≡ length out₀) × (i ≤ length s) × (puts limit (state at out) (drop i s) ≡ puts limit (state pos out₀) s)
+Inv-loop out₀ limit s at₀ i₀ out at i = (length out ≡ length out₀) × (i ≤ length s) × (puts (limit .0) (state (at .0) out) (drop i s) ≡ puts (limit .0) (state (at₀ .0) out₀) s)
 
 abbrev μ-loop : tie.MeasureT-loop
-μ-loop out₀ limit pos s at₀ i₀ out at i = length s - i
+μ-loop out₀ limit s at₀ i₀ out at i = length s - i
 
 loop-holds : tie.Need-loop-holds Inv-loop μ-loop
 loop-holds c = (refl, omega arith, refl)
@@ -38,8 +38,8 @@ loop-again c =
     let start = at-loop .before .before .before in (
       omega arith,
       omega arith,
-      turn (start .args .limit) (now (start .args .s)) (at-loop .loop .i)
-          (state (at-loop .loop .at) (at-loop .loop .out)) (state (at-put .put .result) (at-put .put .last .0))
+      turn (start .args .limit .0) (now (start .args .s)) (at-loop .loop .i)
+          (state (at-loop .loop .at .0) (at-loop .loop .out)) (state (at-put .put .result .0) (at-put .put .last .0))
           (at-loop-test .loop-test .taken) (at-put .put .ensures) ∙ at-loop .loop .inv .2,
     )
 
@@ -49,7 +49,7 @@ same-length c = omega arith
 returns : tie.Need-returns Inv-loop μ-loop
 returns c =
     let start = c .before .before .before .before in
-    sym (puts-none (start .args .limit) (state (c .before .loop .at) (c .before .loop .out))) ∙ rw (← drop-of-length-le (now (start .args .s)) (c .loop-test .left)) (c .before .loop .inv .2)
+    sym (puts-none (start .args .limit .0) (state (c .before .loop .at .0) (c .before .loop .out))) ∙ rw (← drop-of-length-le (now (start .args .s)) (c .loop-test .left)) (c .before .loop .inv .2)
 
 pub put-all-spec : {M : Type 1} → statement M
 put-all-spec =

@@ -60,7 +60,7 @@ returns-2 c =
     let start = at-if1 .before .before in
     let x = start .args .c in
     wrote-bytes ((0xc0 + x / 64) ∷ (0x80 + x % 64) ∷ [])
-    (then (start .args .limit) _ ((0xc0 + x / 64) ∷ []) ((0x80 + x % 64) ∷ []) (at-put2 .put2 .ensures)
+    (then (start .args .limit .0) _ ((0xc0 + x / 64) ∷ []) ((0x80 + x % 64) ∷ []) (at-put2 .put2 .ensures)
     (c .before .before .put3 .ensures)) (small x (omega (arith, at-if2 .if2 .taken))
     ∙ utf8-2 x (at-if1 .if1 .left) (at-if2 .if2 .taken))
 
@@ -75,8 +75,8 @@ returns-3 c =
     let x = c .before .before .before .before .before .before .before .before .args .c in
     wrote-bytes (utf8 x) (c .before .before .put-three .ensures) (small x (omega (arith, c .before .before .before .before .if3 .taken)))
 
-put-long-requires : tie.Need-put-long-requires
-put-long-requires c κs = search needs
+put-four-requires : tie.Need-put-four-requires
+put-four-requires c κs = search needs
 
 same-length-4 : tie.Need-same-length-4
 same-length-4 c = search needs
@@ -84,10 +84,10 @@ same-length-4 c = search needs
 returns-4 : tie.Need-returns-4
 returns-4 c =
     let x = c .before .before .before .before .before .before .before .before .before .args .c in
-    wrote-bytes (utf8 x) (c .before .before .put-long .ensures) (small x (c .before .before .before .before .if4 .taken))
+    wrote-bytes (utf8 x) (c .before .before .put-four .ensures) (small x (c .before .before .before .before .if4 .taken))
 
-put-long-requires-2 : tie.Need-put-long-requires-2
-put-long-requires-2 c κs = search needs
+put-four-requires-2 : tie.Need-put-four-requires-2
+put-four-requires-2 c κs = search needs
 
 same-length-5 : tie.Need-same-length-5
 same-length-5 c = search needs
@@ -95,7 +95,7 @@ same-length-5 c = search needs
 returns-5 : tie.Need-returns-5
 returns-5 c =
     let x = c .before .before .before .before .before .before .before .before .before .args .c in
-    wrote-bytes (utf8 0x110000) (c .before .before .put-long2 .ensures) (large x (c .before .before .before .before .if4 .left))
+    wrote-bytes (utf8 0x110000) (c .before .before .put-four2 .ensures) (large x (c .before .before .before .before .if4 .left))
 
 pub put-char-spec : {M : Type 1} → statement M
 put-char-spec =
@@ -116,9 +116,9 @@ put-char-spec =
     put-three-requires
     same-length-3
     returns-3
-    put-long-requires
+    put-four-requires
     same-length-4
     returns-4
-    put-long-requires-2
+    put-four-requires-2
     same-length-5
     returns-5)

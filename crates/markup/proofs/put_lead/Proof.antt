@@ -22,4 +22,10 @@ returns-2 : tie.Need-returns-2
 returns-2 c = wrote-text (rw (c .if1 .left)) wrote-none
 
 pub put-lead-spec : {M : Type 1} → statement M
-put-lead-spec = tie.close (tie.spec put-requires same-length returns returns-2)
+put-lead-spec =
+    tie.close
+    (tie.spec
+    put-requires
+    same-length
+    returns
+    returns-2)

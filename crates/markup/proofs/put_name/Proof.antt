@@ -37,4 +37,11 @@ returns c =
 
 pub put-name-spec : {M : Type 1} → statement M
 put-name-spec =
-    tie.close (tie.spec add-look look-requires add-put-text put-text-requires same-length returns)
+    tie.close
+    (tie.spec
+    add-look
+    look-requires
+    add-put-text
+    put-text-requires
+    same-length
+    returns)

@@ -14,12 +14,12 @@ none : (n : ℕ) → n ≤ 0 → n ≡ 0
 none n h = omega arith
 
 abbrev Inv-loop : tie.InvT-loop
-Inv-loop out₀ limit pos mode t from count q₀ i₀ n₀ out q i n =
-    (length out ≡ length out₀) × (puts limit (state q out) (enc (concatMap (spelt mode) (take n (drop i t)))) ≡ puts limit (state pos out₀)
+Inv-loop out₀ limit mode t from count q₀ i₀ n₀ out q i n =
+    (length out ≡ length out₀) × (puts (limit .0) (state (q .0) out) (enc (concatMap (spelt mode) (take n (drop i t)))) ≡ puts (limit .0) (state (q₀ .0) out₀)
     (enc (concatMap (spelt mode) (take count (drop from t)))))
 
 abbrev μ-loop : tie.MeasureT-loop
-μ-loop out₀ limit pos mode t from count q₀ i₀ n₀ out q i n = n
+μ-loop out₀ limit mode t from count q₀ i₀ n₀ out q i n = n
 
 loop-holds : tie.Need-loop-holds Inv-loop μ-loop
 loop-holds c = (refl, refl)
@@ -33,7 +33,7 @@ returns c =
     let start = at-loop .before .before .before in
     let a = start .args in
     record {
-      is = text-end (a .limit) (at-loop .loop .q) (at-loop .loop .out) (a .mode)
+      is = text-end (a .limit .0) (at-loop .loop .q .0) (at-loop .loop .out) (a .mode)
           (take (at-loop .loop .n) (drop (at-loop .loop .i) (now (a .t))))
           (stretch-none (now (a .t)) (at-loop .loop .i) (at-loop .loop .n) (c .if1 .taken)) (at-loop .loop .inv .1);
     }
@@ -62,7 +62,7 @@ loop-again c =
     let start = at-loop .before .before .before in
     let a = start .args in (
       omega arith,
-      text-on (puts (a .limit) (state (a .pos) (now (a .out)))
+      text-on (puts (a .limit .0) (state (a .pos .0) (now (a .out)))
           (enc (concatMap (spelt (a .mode)) (take (a .count) (drop (a .from) (now (a .t))))))) (a .mode) (now (a .t)) (at-loop .loop .i)
           (at-loop .loop .n) (at-loop-test .loop-test .taken) (at-if1 .if1 .left) (at-loop .loop .inv .1) (at-look .look .result)
           (at-look .look .ensures .0) (c .before .before .put-escaped .ensures),
@@ -76,7 +76,7 @@ returns-2 c =
     let start = c .before .before .before .before in
     let a = start .args in
     record {
-      is = text-end (a .limit) (c .before .loop .q) (c .before .loop .out) (a .mode)
+      is = text-end (a .limit .0) (c .before .loop .q .0) (c .before .loop .out) (a .mode)
           (take (c .before .loop .n) (drop (c .before .loop .i) (now (a .t))))
           (ap (λ (k : ℕ). take k (drop (c .before .loop .i) (now (a .t)))) (none (c .before .loop .n) (c .loop-test .left)))
           (c .before .loop .inv .1);

@@ -49,18 +49,18 @@ spells-requires c κs =
 returns : tie.Need-returns
 returns c =
     let at-if1 = c .before .before .before in
-    let start = at-if1 .before .before .before .before in
+    let start = c .before .before .before .before .before .before .before in
     λ x w. c .spells .ensures ∙ ap (λ (n : ℕ). begins (take n (drop (start .args .at + 2) (start .args .table .now)))
-    (drop (start .args .i) (start .args .text .now))) (c .before .wide .ensures)
-    ∙ fit-quoted w (drop (start .args .i) (start .args .text .now)) (at-if1 .if1 .taken)
+    (drop (start .args .i .0) (start .args .text .now))) (c .before .wide .ensures)
+    ∙ fit-quoted w (drop (start .args .i .0) (start .args .text .now)) (at-if1 .if1 .taken)
 
 returns-2 : tie.Need-returns-2
-returns-2 c = λ x w. fit-insertion w (drop (c .before .before .before .before .before .args .i) (c .before .before .before .before .before .args .text .now)) (c .if2 .taken)
+returns-2 c = λ x w. fit-insertion w (drop (c .before .before .before .before .before .args .i .0) (c .before .before .before .before .before .args .text .now)) (c .if2 .taken)
 
 returns-3 : tie.Need-returns-3
 returns-3 c =
     let start = c .before .before .before .before .before .before in
-    λ x w. fit-past w (c .before .before .if1 .left) (c .before .if2 .left) ∙ ap (fits x) (sym (drop-of-length-le (start .args .text .now) {i = start .args .i} (c .if3 .taken)))
+    λ x w. fit-past w (c .before .before .if1 .left) (c .before .if2 .left) ∙ ap (fits x) (sym (drop-of-length-le (start .args .text .now) {i = start .args .i .0} (c .if3 .taken)))
 
 mul-c : tie.Need-mul-c
 mul-c c = search needs
@@ -82,12 +82,12 @@ shared-slice-read-result c =
 returns-4 : tie.Need-returns-4
 returns-4 c =
     let at-if3 = c .before .before .before in
-    let at-if2 = at-if3 .before in
-    let at-if1 = at-if2 .before in
-    let start = at-if1 .before .before .before .before in
-    λ x w. fit-coded w (at-if1 .if1 .left) (at-if2 .if2 .left) (getD (start .args .text .now) (start .args .i) 0)
-    (drop (suc (start .args .i)) (start .args .text .now)) (c .before .if4 .taken)
-    ∙ ap (fits x) (sym (drop-cons (start .args .text .now) (start .args .i) 0 (at-if3 .if3 .left)))
+    let at-if2 = c .before .before .before .before in
+    let at-if1 = c .before .before .before .before .before in
+    let start = c .before .before .before .before .before .before .before .before .before in
+    λ x w. fit-coded w (at-if1 .if1 .left) (at-if2 .if2 .left) (getD (start .args .text .now) (start .args .i .0) 0)
+    (drop (suc (start .args .i .0)) (start .args .text .now)) (c .before .if4 .taken)
+    ∙ ap (fits x) (sym (drop-cons (start .args .text .now) (start .args .i .0) 0 (at-if3 .if3 .left)))
 
 add-any-member : tie.Need-add-any-member
 add-any-member c =
@@ -97,31 +97,31 @@ add-any-member c =
 any-member-requires : tie.Need-any-member-requires
 any-member-requires c κs =
     let at-if2 = c .before .before .before in
-    let start = at-if2 .before .before .before .before .before in
+    let start = c .before .before .before .before .before .before .before .before in
     record { small = start .pre .small; members = membersIn (start .pre .here .terminal); are = term-members (start .pre .here .is) (c .if4 .left) (at-if2 .if2 .left) }
 
 returns-5 : tie.Need-returns-5
 returns-5 c =
     let at-if4 = c .before .before in
-    let at-if3 = at-if4 .before .before in
-    let at-if2 = at-if3 .before in
-    let at-if1 = at-if2 .before in
-    let start = at-if1 .before .before .before .before in
-    λ x w. fit-inclusion w (at-if1 .if1 .left) (at-if2 .if2 .left) (getD (start .args .text .now) (start .args .i) 0)
-    (drop (suc (start .args .i)) (start .args .text .now)) (c .before .any-member .result) (at-if4 .if4 .left) (c .if5 .taken)
+    let at-if3 = c .before .before .before .before in
+    let at-if2 = c .before .before .before .before .before in
+    let at-if1 = c .before .before .before .before .before .before in
+    let start = c .before .before .before .before .before .before .before .before .before .before in
+    λ x w. fit-inclusion w (at-if1 .if1 .left) (at-if2 .if2 .left) (getD (start .args .text .now) (start .args .i .0) 0)
+    (drop (suc (start .args .i .0)) (start .args .text .now)) (c .before .any-member .result) (at-if4 .if4 .left) (c .if5 .taken)
     (c .before .any-member .ensures (membersIn x) (term-members w (at-if4 .if4 .left) (at-if2 .if2 .left)))
-    ∙ ap (fits x) (sym (drop-cons (start .args .text .now) (start .args .i) 0 (at-if3 .if3 .left)))
+    ∙ ap (fits x) (sym (drop-cons (start .args .text .now) (start .args .i .0) 0 (at-if3 .if3 .left)))
 
 returns-6 : tie.Need-returns-6
 returns-6 c =
     let at-if3 = c .before .before .before .before in
-    let at-if2 = at-if3 .before in
-    let at-if1 = at-if2 .before in
-    let start = at-if1 .before .before .before .before in
-    λ x w. fit-exclusion w (at-if1 .if1 .left) (at-if2 .if2 .left) (getD (start .args .text .now) (start .args .i) 0)
-    (drop (suc (start .args .i)) (start .args .text .now)) (c .before .any-member .result) (c .if5 .left)
+    let at-if2 = c .before .before .before .before .before in
+    let at-if1 = c .before .before .before .before .before .before in
+    let start = c .before .before .before .before .before .before .before .before .before .before in
+    λ x w. fit-exclusion w (at-if1 .if1 .left) (at-if2 .if2 .left) (getD (start .args .text .now) (start .args .i .0) 0)
+    (drop (suc (start .args .i .0)) (start .args .text .now)) (c .before .any-member .result) (c .if5 .left)
     (c .before .any-member .ensures (membersIn x) (term-members w (c .before .before .if4 .left) (at-if2 .if2 .left)))
-    ∙ ap (fits x) (sym (drop-cons (start .args .text .now) (start .args .i) 0 (at-if3 .if3 .left)))
+    ∙ ap (fits x) (sym (drop-cons (start .args .text .now) (start .args .i .0) 0 (at-if3 .if3 .left)))
 
 pub terminal-fits-spec : {M : Type 1} → statement M
 terminal-fits-spec =

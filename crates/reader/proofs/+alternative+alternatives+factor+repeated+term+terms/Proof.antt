@@ -43,15 +43,14 @@ use Rattle.reader.proofs.+alternative+alternatives+factor+repeated+term
 use Rattle.reader.proofs.+alternative+alternatives+factor+repeated+term+terms.Proof.Factors.{factor-same-length-3, factor-returns-4, factor-peek-requires-2}
 use Rattle.reader.proofs.+alternative+alternatives+factor+repeated+term+terms.Proof.Factors.{factor-same-length-4, factor-returns-5}
 use Rattle.reader.proofs.+alternative+alternatives+factor+repeated+term+terms.Proof.Factors.{factor-token-requires-2, factor-same-length-5, factor-returns-6}
-use Rattle.reader.proofs.+alternative+alternatives+factor+repeated+term+terms.Proof.Factors.{repeated-add-out, repeated-peek-requires}
+use Rattle.reader.proofs.+alternative+alternatives+factor+repeated+term+terms.Proof.Factors.{repeated-after-requires, repeated-peek-requires}
 use Rattle.reader.proofs.+alternative+alternatives+factor+repeated+term+terms.Proof.Factors.{repeated-add-if1, repeated-add-token, repeated-token-requires}
 use Rattle.reader.proofs.+alternative+alternatives+factor+repeated+term+terms.Proof.Factors.{repeated-same-length, repeated-returns}
-use Rattle.reader.proofs.+alternative+alternatives+factor+repeated+term+terms.Proof.Factors.{repeated-add-out-2, repeated-skip-requires, repeated-enum-known-w}
+use Rattle.reader.proofs.+alternative+alternatives+factor+repeated+term+terms.Proof.Factors.{repeated-after-requires-2, repeated-skip-requires, repeated-enum-known-w}
 use Rattle.reader.proofs.+alternative+alternatives+factor+repeated+term+terms.Proof.Factors.{repeated-enum-told, repeated-returns-2}
 use Rattle.reader.proofs.+alternative+alternatives+factor+repeated+term+terms.Proof.Factors.{repeated-factor-requires, repeated-enum-known-q, repeated-enum-told-2}
 use Rattle.reader.proofs.+alternative+alternatives+factor+repeated+term+terms.Proof.Factors.{repeated-same-length-2}
-use Rattle.reader.proofs.+alternative+alternatives+factor+repeated+term+terms.Proof.Factors.{repeated-returns-3, repeated-add-out-3, repeated-mul-out}
-use Rattle.reader.proofs.+alternative+alternatives+factor+repeated+term+terms.Proof.Factors.{repeated-slice-write-out, repeated-add-t13}
+use Rattle.reader.proofs.+alternative+alternatives+factor+repeated+term+terms.Proof.Factors.{repeated-returns-3, repeated-add-put, repeated-put-requires}
 use Rattle.reader.proofs.+alternative+alternatives+factor+repeated+term+terms.Proof.Factors.{repeated-same-length-3, repeated-returns-4}
 use Rattle.reader.proofs.+alternative+alternatives+factor+repeated+term+terms.Proof.Terms.{term-factor-requires, term-enum-known-q, term-enum-told, term-same-length}
 use Rattle.reader.proofs.+alternative+alternatives+factor+repeated+term+terms.Proof.Terms.{term-returns, term-peek-requires}
@@ -63,7 +62,7 @@ use Rattle.reader.proofs.+alternative+alternatives+factor+repeated+term
 use Rattle.reader.proofs.+alternative+alternatives+factor+repeated+term+terms.Proof.Terms.{terms-term-requires, terms-enum-known-q}
 use Rattle.reader.proofs.+alternative+alternatives+factor+repeated+term+terms.Proof.Terms.{terms-enum-told, terms-same-length, terms-returns, terms-peek-requires}
 use Rattle.reader.proofs.+alternative+alternatives+factor+repeated+term+terms.Proof.Terms.{terms-same-length-2, terms-returns-2}
-use Rattle.reader.proofs.+alternative+alternatives+factor+repeated+term+terms.Proof.Terms.{terms-add-t20, terms-skip-requires, terms-enum-known-w, terms-enum-told-2}
+use Rattle.reader.proofs.+alternative+alternatives+factor+repeated+term+terms.Proof.Terms.{terms-after-requires, terms-skip-requires, terms-enum-known-w, terms-enum-told-2}
 use Rattle.reader.proofs.+alternative+alternatives+factor+repeated+term+terms.Proof.Terms.{terms-same-length-3}
 use Rattle.reader.proofs.+alternative+alternatives+factor+repeated+term+terms.Proof.Terms.{terms-returns-3, terms-loop-less, terms-loop-again}
 
@@ -135,14 +134,14 @@ pub +alternative+alternatives+factor+repeated+term+terms-spec : {M : Type 1} →
     (λ t. repeated-lts.spec (repeated-gets t)
     (repeated-at t)
     repeated.Post
-    (repeated-add-out t)
+    (repeated-after-requires t)
     (repeated-peek-requires t)
     (repeated-add-if1 t)
     (repeated-add-token t)
     (repeated-token-requires t)
     (repeated-same-length t)
     (repeated-returns t)
-    (repeated-add-out-2 t)
+    (repeated-after-requires-2 t)
     (repeated-skip-requires t)
     (repeated-enum-known-w t)
     (repeated-enum-told t)
@@ -152,10 +151,8 @@ pub +alternative+alternatives+factor+repeated+term+terms-spec : {M : Type 1} →
     (repeated-enum-told-2 t)
     (repeated-same-length-2 t)
     (repeated-returns-3 t)
-    (repeated-add-out-3 t)
-    (repeated-mul-out t)
-    (repeated-slice-write-out t)
-    (repeated-add-t13 t)
+    (repeated-add-put t)
+    (repeated-put-requires t)
     (repeated-same-length-3 t)
     (repeated-returns-4 t))
     (λ t. term-lts.spec (term-gets t)
@@ -192,7 +189,7 @@ pub +alternative+alternatives+factor+repeated+term+terms-spec : {M : Type 1} →
     (terms-peek-requires t)
     (terms-same-length-2 t)
     (terms-returns-2 t)
-    (terms-add-t20 t)
+    (terms-after-requires t)
     (terms-skip-requires t)
     (terms-enum-known-w t)
     (terms-enum-told-2 t)

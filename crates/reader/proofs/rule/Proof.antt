@@ -47,9 +47,10 @@ same-length-2 c = search needs
 returns-2 : tie.Need-returns-2
 returns-2 c =
     let alternatives = c .before .before .before .before .alternatives in
-    let y = c .before .before .before .before .before .before .before .y in
-    let rule-head = c .before .before .before .before .before .before .before .before .before .before .before .rule-head in
-    let pre = c .before .before .before .before .before .before .before .before .before .before .before .before .before .before .before .pre in
+    let at-y = c .before .before .before .before .before .before .before in
+    let y = at-y .y in
+    let rule-head = at-y .before .before .before .before .rule-head in
+    let pre = at-y .before .before .before .before .before .before .before .before .pre in
     let a = got (y .given .1) (rule-head .ensures) in
     rule-no-body _ _ _ _ (pre) _ _ _ a (rw (c .enum-told2 .given .1) at (alternatives .ensures))
 
@@ -63,107 +64,66 @@ returns-3 : tie.Need-returns-3
 returns-3 c =
     let z = c .before .before .before .z in
     let alternatives = c .before .before .before .before .before .before .before .alternatives in
-    let y = c .before .before .before .before .before .before .before .before .before .before .y in
-    let rule-head = c .before .before .before .before .before .before .before .before .before .before .before .before .before .before .rule-head in
-    let pre = c .before .before .before .before .before .before .before .before .before .before .before .before .before .before .before .before
-    .before .before .pre in
+    let at-y = c .before .before .before .before .before .before .before .before .before .before in
+    let y = at-y .y in
+    let rule-head = at-y .before .before .before .before .rule-head in
+    let pre = at-y .before .before .before .before .before .before .before .before .pre in
     let a = got (y .given .1) (rule-head .ensures) in
     let v = got (z .given .1) (alternatives .ensures) in
     rule-no-stop _ _ _ _ (pre) _ _ _ a _ ((alternatives .kept .1 .1 .1 .0) ∙ (rule-head .kept .1 .1 .0)) _ _ v
     (not-ch (c .before .peek .ensures) 46 (c .if1 .taken))
 
-mul-out : tie.Need-mul-out
-mul-out c =
-    let z = c .before .before .before .z in
-    let alternatives = c .before .before .before .before .before .before .before .alternatives in
-    let y = c .before .before .before .before .before .before .before .before .before .before .y in
-    let rule-head = c .before .before .before .before .before .before .before .before .before .before .before .before .before .before .rule-head in
-    let good = c .before .before .before .before .before .before .before .before .before .before .before .before .before .before .before .before
-    .before .before .good in
-    let pre = c .before .before .before .before .before .before .before .before .before .before .before .before .before .before .before .before
-    .before .before .pre in
-    let a = got (y .given .1) (rule-head .ensures) in
-    let v = got (z .given .1) (alternatives .ensures) in
-    omega (
-      arith,
-      stop-cell _ _ _ _ (pre) _ _ _ a _ ((alternatives .kept .1 .1 .1 .0) ∙ (rule-head .kept .1 .1 .0)) _ _ v
-          (is-ch (c .before .peek .ensures) 46 (c .if1 .left)),
-      (rule-head .kept .1 .1 .0),
-      (alternatives .kept .1 .1 .1 .0),
-      (good .1 .1 .0),
-    )
-
-slice-write-out : tie.Need-slice-write-out
-slice-write-out c =
-    let z = c .before .before .before .z in
-    let alternatives = c .before .before .before .before .before .before .before .alternatives in
-    let y = c .before .before .before .before .before .before .before .before .before .before .y in
-    let rule-head = c .before .before .before .before .before .before .before .before .before .before .before .before .before .before .rule-head in
-    let pre = c .before .before .before .before .before .before .before .before .before .before .before .before .before .before .before .before
-    .before .before .pre in
+put-requires : tie.Need-put-requires
+put-requires c κs =
+    let z = c .before .before .before .before .z in
+    let alternatives = c .before .before .before .before .before .before .before .before .alternatives in
+    let at-y = c .before .before .before .before .before .before .before .before .before .before .before in
+    let y = at-y .y in
+    let rule-head = at-y .before .before .before .before .rule-head in
+    let pre = at-y .before .before .before .before .before .before .before .before .pre in
     let a = got (y .given .1) (rule-head .ensures) in
     let v = got (z .given .1) (alternatives .ensures) in
     stop-cell _ _ _ _ (pre) _ _ _ a _ ((alternatives .kept .1 .1 .1 .0) ∙ (rule-head .kept .1 .1 .0)) _ _ v
-    (is-ch (c .before .peek .ensures) 46 (c .if1 .left))
+    (is-ch (c .before .before .peek .ensures) 46 (c .before .if1 .left))
 
-add-t19 : tie.Need-add-t19
-add-t19 c =
-    let z = c .before .before .before .z in
-    let alternatives = c .before .before .before .before .before .before .before .alternatives in
-    let y = c .before .before .before .before .before .before .before .before .before .before .y in
-    let rule-head = c .before .before .before .before .before .before .before .before .before .before .before .before .before .before .rule-head in
-    let good = c .before .before .before .before .before .before .before .before .before .before .before .before .before .before .before .before
-    .before .before .good in
-    let pre = c .before .before .before .before .before .before .before .before .before .before .before .before .before .before .before .before
-    .before .before .pre in
+after-requires : tie.Need-after-requires
+after-requires c κs =
+    let z = c .before .before .before .before .before .before .before .z in
+    let alternatives = c .before .before .before .before .before .before .before .before .before .before .before .alternatives in
+    let at-y = c .before .before .before .before .before .before .before .before .before .before .before .before .before .before in
+    let y = at-y .y in
+    let rule-head = at-y .before .before .before .before .rule-head in
+    let good = at-y .before .before .before .before .before .before .before .before .good in
+    let pre = at-y .before .before .before .before .before .before .before .before .pre in
     let a = got (y .given .1) (rule-head .ensures) in
     let v = got (z .given .1) (alternatives .ensures) in
     omega (
       arith,
       stop-in _ _ _ _ (pre) _ _ _ a _ ((alternatives .kept .1 .1 .1 .0) ∙ (rule-head .kept .1 .1 .0)) _ _ v
-          (is-ch (c .before .peek .ensures) 46 (c .if1 .left)),
+          (is-ch (c .before .before .before .before .before .peek .ensures) 46 (c .before .before .before .before .if1 .left)),
       (good .0),
-    )
-
-add-t22 : tie.Need-add-t22
-add-t22 c =
-    let z = c .before .before .before .z in
-    let alternatives = c .before .before .before .before .before .before .before .alternatives in
-    let y = c .before .before .before .before .before .before .before .before .before .before .y in
-    let rule-head = c .before .before .before .before .before .before .before .before .before .before .before .before .before .before .rule-head in
-    let good = c .before .before .before .before .before .before .before .before .before .before .before .before .before .before .before .before
-    .before .before .good in
-    let pre = c .before .before .before .before .before .before .before .before .before .before .before .before .before .before .before .before
-    .before .before .pre in
-    let a = got (y .given .1) (rule-head .ensures) in
-    let v = got (z .given .1) (alternatives .ensures) in
-    omega (
-      arith,
-      stop-cell _ _ _ _ (pre) _ _ _ a _ ((alternatives .kept .1 .1 .1 .0) ∙ (rule-head .kept .1 .1 .0)) _ _ v
-          (is-ch (c .before .peek .ensures) 46 (c .if1 .left)),
-      (rule-head .kept .1 .1 .0),
-      (alternatives .kept .1 .1 .1 .0),
-      (good .1 .1 .0),
     )
 
 same-length-4 : tie.Need-same-length-4
 same-length-4 c =
-    let alternatives = c .before .before .before .before .before .before .before .alternatives in
-    let rule-head = c .before .before .before .before .before .before .before .before .before .before .before .before .before .before .rule-head in
-    simp length-set ((alternatives .kept .1 .1 .1 .0) ∙ (rule-head .kept .1 .1 .0))
+    let at-alternatives = c .before .before .before .before .before .before .before .before .before .before .before .before in
+    let alternatives = at-alternatives .alternatives in
+    let rule-head = at-alternatives .before .before .before .before .before .before .before .rule-head in
+    (c .before .before .before .put .kept .0) ∙ (alternatives .kept .1 .1 .1 .0) ∙ (rule-head .kept .1 .1 .0)
 
 returns-4 : tie.Need-returns-4
 returns-4 c =
-    let z = c .before .before .before .z in
-    let alternatives = c .before .before .before .before .before .before .before .alternatives in
-    let y = c .before .before .before .before .before .before .before .before .before .before .y in
-    let rule-head = c .before .before .before .before .before .before .before .before .before .before .before .before .before .before .rule-head in
-    let pre = c .before .before .before .before .before .before .before .before .before .before .before .before .before .before .before .before
-    .before .before .pre in
+    let z = c .before .before .before .before .before .before .before .before .z in
+    let alternatives = c .before .before .before .before .before .before .before .before .before .before .before .before .alternatives in
+    let at-y = c .before .before .before .before .before .before .before .before .before .before .before .before .before .before .before in
+    let y = at-y .y in
+    let rule-head = at-y .before .before .before .before .rule-head in
+    let pre = at-y .before .before .before .before .before .before .before .before .pre in
     let a = got (y .given .1) (rule-head .ensures) in
     let v = got (z .given .1) (alternatives .ensures) in
-    rule-got _ _ _ _ (pre) _ _ _ a _ ((alternatives .kept .1 .1 .1 .0) ∙ (rule-head .kept .1 .1 .0)) _ _ v
-    (is-ch (c .before .peek .ensures) 46 (c .if1 .left))
+    rw (c .after .ensures, c .before .before .before .put .ensures .0, c .before .before .before .put .ensures .1)
+    (rule-got _ _ _ _ (pre) _ _ _ a _ ((alternatives .kept .1 .1 .1 .0) ∙ (rule-head .kept .1 .1 .0)) _ _ v (is-ch
+    (c .before .before .before .before .before .before .peek .ensures) 46 (c .before .before .before .before .before .if1 .left)))
 
 pub rule-spec : {M : Type 1} → statement M
 rule-spec =
@@ -182,9 +142,7 @@ rule-spec =
     peek-requires
     same-length-3
     returns-3
-    mul-out
-    slice-write-out
-    add-t19
-    add-t22
+    put-requires
+    after-requires
     same-length-4
     returns-4)

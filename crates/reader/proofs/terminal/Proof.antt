@@ -10,13 +10,13 @@ use Rattle.reader.proofs.terminal.Tie as tie
 peek-requires : tie.Need-peek-requires
 peek-requires c κs = search needs
 
-add-t11 : tie.Need-add-t11
-add-t11 c = search needs
+after-requires : tie.Need-after-requires
+after-requires c κs = search needs
 
 skip-requires : tie.Need-skip-requires
 skip-requires c κs =
-    let args = c .before .before .before .before .args in
-    omega (arith, seen-in (args .text .now) (args .p .0) _ 0x7e (c .before .peek .ensures) (c .if1 .taken) (omega arith))
+    let args = c .before .before .before .before .before .args in
+    omega (arith, seen-in (args .text .now) (args .p .0) _ 0x7e (c .before .before .peek .ensures) (c .before .if1 .taken) (omega arith), c .after .ensures)
 
 enum-known-q : tie.Need-enum-known-q
 enum-known-q c = search needs
@@ -27,11 +27,11 @@ enum-told c = search needs
 returns : tie.Need-returns
 returns c =
     let skip = c .before .before .skip in
-    let if1 = c .before .before .before .if1 in
-    let peek = c .before .before .before .before .peek in
-    let args = c .before .before .before .before .before .before .before .args in
+    let if1 = c .before .before .before .before .if1 in
+    let peek = c .before .before .before .before .before .peek in
+    let args = c .before .before .before .before .before .before .before .before .args in
     exclude-bad (args .text .now) (args .p .0) (args .m) (args .out .now) (args .at .0) (is-ch (peek .ensures) 0x7e (if1 .taken))
-    (rw (c .enum-told .given .1) at (skip .ensures))
+    (rw (c .before .before .before .after .ensures, c .enum-told .given .1) at (skip .ensures))
 
 add-set : tie.Need-add-set
 add-set c = search needs
@@ -40,9 +40,9 @@ set-requires : tie.Need-set-requires
 set-requires c κs =
     let q = c .before .before .q in
     let skip = c .before .before .before .before .skip in
-    let args = c .before .before .before .before .before .before .before .before .before .args in
-    let pre = c .before .before .before .before .before .before .before .before .before .pre in
-    room-past (args .text .now) (args .p .0) _ _ _ (pre .0) (rw (q .given .1) at (skip .ensures))
+    let args = c .before .before .before .before .before .before .before .before .before .before .args in
+    let pre = c .before .before .before .before .before .before .before .before .before .before .pre in
+    room-past (args .text .now) (args .p .0) _ _ _ (pre .0) (rw (c .before .before .before .before .before .after .ensures, q .given .1) at (skip .ensures))
 
 same-length : tie.Need-same-length
 same-length c = search needs
@@ -52,11 +52,11 @@ returns-2 c =
     let set = c .before .before .set in
     let q = c .before .before .before .before .before .q in
     let skip = c .before .before .before .before .before .before .before .skip in
-    let if1 = c .before .before .before .before .before .before .before .before .if1 in
-    let peek = c .before .before .before .before .before .before .before .before .before .peek in
-    let args = c .before .before .before .before .before .before .before .before .before .before .before .before .args in
+    let if1 = c .before .before .before .before .before .before .before .before .before .if1 in
+    let peek = c .before .before .before .before .before .before .before .before .before .before .peek in
+    let args = c .before .before .before .before .before .before .before .before .before .before .before .before .before .args in
     excluded (args .text .now) (args .p .0) (args .m) (args .out .now) (args .at .0) (is-ch (peek .ensures) 0x7e (if1 .taken)) _
-    (rw (q .given .1) at (skip .ensures)) (set .result) _ (set .ensures)
+    (rw (c .before .before .before .before .before .before .before .before .after .ensures, q .given .1) at (skip .ensures)) (set .result) _ (set .ensures)
 
 add-set-2 : tie.Need-add-set-2
 add-set-2 c = search needs
@@ -110,7 +110,7 @@ terminal-spec =
     tie.close
     (tie.spec
     peek-requires
-    add-t11
+    after-requires
     skip-requires
     enum-known-q
     enum-told

@@ -26,16 +26,16 @@ add-find-end c = search needs
 
 find-end-requires : tie.Need-find-end-requires
 find-end-requires c κs =
-    let pre = c .before .before .before .before .before .before .pre in
-    can-find (pre .0) (pre .1 .0) (pre .1 .1) (c .before .number-at .result) (c .before .number-at .ensures .0)
+    let pre = c .before .before .before .before .before .before .before .before .pre in
+    can-find (pre .0) (pre .1 .0) (pre .1 .1) (c .before .before .before .number-at .result) (c .before .before .before .number-at .ensures .0)
 
 add-other-end : tie.Need-add-other-end
 add-other-end c = search needs
 
 other-end-requires : tie.Need-other-end-requires
 other-end-requires c κs =
-    let number-at = c .before .before .number-at in
-    let pre = c .before .before .before .before .before .before .before .pre in
+    let number-at = c .before .before .before .before .number-at in
+    let pre = c .before .before .before .before .before .before .before .before .before .pre in
     can-other (pre .0) (pre .1 .0) (pre .1 .1) (number-at .result) (number-at .ensures .0)
 
 add-push : tie.Need-add-push
@@ -44,8 +44,8 @@ add-push c = search needs
 push-requires : tie.Need-push-requires
 push-requires c κs = search needs
 
-add-t15 : tie.Need-add-t15
-add-t15 c = search needs
+add-t17 : tie.Need-add-t17
+add-t17 c = search needs
 
 either-requires : tie.Need-either-requires
 either-requires c κs = search needs
@@ -53,10 +53,11 @@ either-requires c κs = search needs
 enter-requires : tie.Need-enter-requires
 enter-requires c κs =
     let find-end = c .before .before .before .before .before .before .before .before .find-end in
-    let number-at2 = c .before .before .before .before .before .before .before .before .before .number-at2 in
-    let number-at = c .before .before .before .before .before .before .before .before .before .before .number-at in
-    let pre = c .before .before .before .before .before .before .before .before .before .before .before .before .before .before .before .pre in
-    can-enter (pre .0) (pre .1 .0) (pre .1 .1) (number-at .result) (number-at .ensures .0) (number-at2 .result) (find-end .result)
+    let number-at2 = c .before .before .before .before .before .before .before .before .before .before .before .number-at2 in
+    let number-at = c .before .before .before .before .before .before .before .before .before .before .before .before .number-at in
+    let pre = c .before .before .before .before .before .before .before .before .before .before .before .before .before .before .before .before
+    .before .pre in
+    can-enter (pre .0) (pre .1 .0) (pre .1 .1) (number-at .result) (number-at .ensures .0) (number-at2 .result) (find-end .result .0)
     (c .before .either .result) (number-at2 .ensures .0) (find-end .ensures)
 
 same-length : tie.Need-same-length
@@ -72,11 +73,11 @@ returns c =
     let push = c .before .before .before .before .before .before .before .before .push in
     let other-end = c .before .before .before .before .before .before .before .before .before .before .other-end in
     let find-end = c .before .before .before .before .before .before .before .before .before .before .before .find-end in
-    let number-at2 = c .before .before .before .before .before .before .before .before .before .before .before .before .number-at2 in
-    let number-at = c .before .before .before .before .before .before .before .before .before .before .before .before .before .number-at in
+    let number-at2 = c .before .before .before .before .before .before .before .before .before .before .before .before .before .before .number-at2 in
+    let number-at = c .before .before .before .before .before .before .before .before .before .before .before .before .before .before .before .number-at in
     let pre = c .before .before .before .before .before .before .before .before .before .before .before .before .before .before .before .before
-    .before .before .pre in
-    stepped (pre .0) (pre .1 .0) (pre .1 .1) (number-at .result) (number-at .ensures .0) (number-at2 .result) (find-end .result)
+    .before .before .before .before .pre in
+    stepped (pre .0) (pre .1 .0) (pre .1 .1) (number-at .result) (number-at .ensures .0) (number-at2 .result) (find-end .result .0)
     (other-end .result) (either .result) (number-at2 .ensures .0) (find-end .ensures) (other-end .ensures) (push .ensures) (either .ensures)
     (enter .ensures)
 
@@ -96,7 +97,7 @@ descend-spec =
     other-end-requires
     add-push
     push-requires
-    add-t15
+    add-t17
     either-requires
     enter-requires
     same-length

@@ -1,31 +1,34 @@
-use mathlib.Core.Path.{refl, sym, subst}
+use mathlib.Core.Path.{refl, sym, subst, ap}
 use Prim.Native.Nat.{ℕ, _+_}
 use native.Mathlib.Omega.{arith}
 use denote.Ref.{now}
+use Rattle.reading.specs.declared.Cursor.{Cursor}
 use Rattle.reading.specs.Walk.{SomeLow, FirstLow, full, wrote}
 use Rattle.reading.proofs.Lines.{line-few}
 use borrow.Author.Needs.{needs}
 use Rattle.reading.proofs.enter.Statement.{statement}
 use Rattle.reading.proofs.enter.Tie as tie
 
-add-t14 : tie.Need-add-t14
-add-t14 c = search needs
+count-only-requires : tie.Need-count-only-requires
+count-only-requires c κs = search needs
 
 returns : tie.Need-returns
 returns c =
-    let pre = c .before .before .before .before .pre in
-    full (omega (arith, pre .most)) refl refl (omega (arith, pre .most)) refl
+    let pre = c .before .before .before .before .before .before .before .pre in
+    let e = c .count-only .ensures in
+    let n = ap (λ (z : Cursor). z .at) e in
+    full (omega (arith, pre .most)) refl (ap (λ (z : Cursor). z .p) e) (omega (arith, pre .most)) (ap (λ (z : Cursor). z .depth) e)
 
 height-requires : tie.Need-height-requires
 height-requires c κs = search needs
 
 find-alternative-requires : tie.Need-find-alternative-requires
 find-alternative-requires c κs =
-    let args = c .before .before .before .before .before .args in
-    let pre = c .before .before .before .before .before .pre in
+    let args = c .before .before .before .before .before .before .before .args in
+    let pre = c .before .before .before .before .before .before .before .pre in
     let a = args in (
       pre .stretch,
-      subst (λ (z : ℕ). SomeLow (now (a .code)) (now (a .main)) (a .n) (a .first) (a .h .i) (a .h .j) z) (sym (c .height .ensures)) (pre .some),
+      subst (λ (z : ℕ). SomeLow (now (a .code)) (now (a .main)) (a .n .0) (a .first) (a .h .i .0) (a .h .j .0) z) (sym (c .height .ensures)) (pre .some),
     )
 
 other-alternative-requires : tie.Need-other-alternative-requires
@@ -40,8 +43,8 @@ mul-out c = search needs
 slice-write-out : tie.Need-slice-write-out
 slice-write-out c = search needs
 
-add-t16 : tie.Need-add-t16
-add-t16 c = search needs
+add-t17 : tie.Need-add-t17
+add-t17 c = search needs
 
 either-requires : tie.Need-either-requires
 either-requires c κs = search needs
@@ -55,11 +58,11 @@ returns-2 c =
     let find-alternative = c .before .before .before .find-alternative in
     let height = c .before .before .before .before .height in
     let if1 = c .before .before .before .before .before .if1 in
-    let args = c .before .before .before .before .before .before .before .before .before .args in
+    let args = c .before .before .before .before .before .before .before .before .before .before .before .args in
     let a = args in
     let r = find-alternative .result in
     wrote r (other-alternative .result) (if1 .left)
-    (subst (λ (z : ℕ). FirstLow (now (a .code)) (now (a .main)) (a .n) (a .first) (a .h .i) (a .h .j) z r) (height .ensures)
+    (subst (λ (z : ℕ). FirstLow (now (a .code)) (now (a .main)) (a .n .0) (a .first) (a .h .i .0) (a .h .j .0) z r) (height .ensures)
     (find-alternative .ensures))
     (other-alternative .ensures) refl
     (λ ι. record
@@ -69,7 +72,7 @@ pub enter-spec : {M : Type 1} → statement M
 enter-spec =
     tie.close
     (tie.spec
-    add-t14
+    count-only-requires
     returns
     height-requires
     find-alternative-requires
@@ -77,7 +80,7 @@ enter-spec =
     cast-out
     mul-out
     slice-write-out
-    add-t16
+    add-t17
     either-requires
     same-length
     returns-2)

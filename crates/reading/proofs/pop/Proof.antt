@@ -20,25 +20,25 @@ add-number-at c = search needs
 number-at-requires-2 : tie.Need-number-at-requires-2
 number-at-requires-2 c κs = search needs
 
-add-t7 : tie.Need-add-t7
-add-t7 c = search needs
+add-t8 : tie.Need-add-t8
+add-t8 c = search needs
 
-mul-t8 : tie.Need-mul-t8
-mul-t8 c = search needs
+mul-t9 : tie.Need-mul-t9
+mul-t9 c = search needs
 
-shared-slice-read-t10 : tie.Need-shared-slice-read-t10
-shared-slice-read-t10 c = search needs
+shared-slice-read-t11 : tie.Need-shared-slice-read-t11
+shared-slice-read-t11 c = search needs
 
 returns : tie.Need-returns
 returns c =
-    let number-at = c .before .before .number-at in
-    let args = c .before .before .before .before .before .args in
+    let number-at = c .before .before .before .number-at in
+    let args = c .before .before .before .before .before .before .args in
     let h = args .h in
     let st = now (args .stack) in
     λ ι. record {
       p = number-at .ensures .0 ι;
       i = h .j;
-      j = c .before .number-at2 .ensures .0 ι;
+      j = record { 0 = c .before .before .number-at2 .ensures .0 ι };
       k = getD st (3 * (h .depth - 1) + 2) 0;
       at = h .at;
       depth = h .depth - 1;
@@ -54,7 +54,7 @@ pop-spec =
     number-at-requires
     add-number-at
     number-at-requires-2
-    add-t7
-    mul-t8
-    shared-slice-read-t10
+    add-t8
+    mul-t9
+    shared-slice-read-t11
     returns)

@@ -33,21 +33,21 @@ add-number-at c = search needs
 number-at-requires-2 : tie.Need-number-at-requires-2
 number-at-requires-2 c κs = search needs
 
-add-t14 : tie.Need-add-t14
-add-t14 c = search needs
+add-t16 : tie.Need-add-t16
+add-t16 c = search needs
 
-add-t15 : tie.Need-add-t15
-add-t15 c = search needs
+add-t17 : tie.Need-add-t17
+add-t17 c = search needs
 
 returns-2 : tie.Need-returns-2
 returns-2 c =
-    let if2 = c .before .before .if2 in
-    let number-at = c .before .before .before .before .number-at in
-    let args = c .before .before .before .before .before .before .before .before .before .args in
+    let if2 = c .before .before .before .if2 in
+    let number-at = c .before .before .before .before .before .number-at in
+    let args = c .before .before .before .before .before .before .before .before .before .before .args in
     let h = args .h in
     at-terminal (sym (number-at .ensures .0) ∙ if2 .taken) refl refl
     (λ ι. record
-    { p = h .p + 1; i = h .i + c .before .number-at2 .ensures .0 ι; j = h .j; k = h .k; at = h .at; depth = h .depth; mark = h .mark })
+    { p = h .p + 1; i = record { 0 = h .i .0 + c .before .before .number-at2 .ensures .0 ι }; j = h .j; k = h .k; at = h .at; depth = h .depth; mark = h .mark })
 
 descend-requires : tie.Need-descend-requires
 descend-requires c κs = search needs
@@ -73,8 +73,8 @@ step-spec =
     mul-number-at-2
     add-number-at
     number-at-requires-2
-    add-t14
-    add-t15
+    add-t16
+    add-t17
     returns-2
     descend-requires
     same-length-2

@@ -4,7 +4,7 @@ use denote.Ref.{now}
 use lib.ListN.{length}
 use Rattle.text.specs.Limits.{mostSize}
 use Rattle.derive.specs.Derive.{Row}
-use Rattle.reading.specs.Answer.{Finished}
+use Rattle.reading.specs.Answer.{Finished, no-reading, too-long}
 use Rattle.reading.proofs.Tables.{position, short}
 use Rattle.reading.proofs.Walks.{Stage, enter-stage}
 use Rattle.reading.proofs.Course.{weight, going, Root, rooted, unrooted, can-begin, begin, can-step, step-stage, step-falls, finish, finish-long}
@@ -13,7 +13,7 @@ use Rattle.reading.proofs.walk.Tie as tie
 
 abbrev Inv-loop : tie.InvT-loop
 Inv-loop code main n top first out₀ stack₀ h₀ out stack h =
-    (length out ≡ length out₀) × (length stack ≡ length stack₀) × ((t : Finished code main n top first) (w : Row) → Root t w → Stage t out stack h w)
+    (length out ≡ length out₀) × (length stack ≡ length stack₀) × ((t : Finished code main (n .0) top first) (w : Row) → Root t w → Stage t out stack h w)
 
 abbrev μ-loop : tie.MeasureT-loop
 μ-loop code main n top first out₀ stack₀ h₀ out stack h = weight mostSize h
@@ -26,7 +26,7 @@ height-requires c κs =
     (position t (args .top) (t .code .root-inside) .row, record { order = omega arith; inside = omega arith; short = short t })
 
 returns : tie.Need-returns Inv-loop μ-loop
-returns c = λ t. unrooted t (sym (c .before .height .ensures) ∙ c .if1 .taken)
+returns c = λ t. no-reading (unrooted t (sym (c .before .height .ensures) ∙ c .if1 .taken))
 
 enter-requires : tie.Need-enter-requires Inv-loop μ-loop
 enter-requires c κs =
@@ -101,7 +101,7 @@ returns-2 c =
     let loop = c .before .before .before .before .loop in
     let if1 = c .before .before .before .before .before .before .before .before .before .if1 in
     let height = c .before .before .before .before .before .before .before .before .before .before .height in
-    λ t. let w = rooted t (λ e. if1 .left (height .ensures ∙ e)) in finish-long t (loop .inv .2 t (w .0) (w .1)) (w .1) (c .if3 .taken)
+    λ t. let w = rooted t (λ e. if1 .left (height .ensures ∙ e)) in too-long (finish-long t (loop .inv .2 t (w .0) (w .1)) (w .1) (c .if3 .taken))
 
 same-length-3 : tie.Need-same-length-3 Inv-loop μ-loop
 same-length-3 c =

@@ -1,4 +1,5 @@
 use denote.Ref.{now}
+use Rattle.static_errors.specs.Held.{ruleNumber}
 use Rattle.static_errors.proofs.Top as law
 use borrow.Author.Needs.{needs}
 use Rattle.static_errors.proofs.static_refusal.Statement.{statement}
@@ -20,15 +21,12 @@ refusal-requires c κs =
     let start = c .before .before .before .before .before in
     record { some = law.some-tokens (now (start .args .table)) (start .args .end) (start .pre); listing = c .before .before .heads .ensures .listing }
 
-ruling-of-requires : tie.Need-ruling-of-requires
-ruling-of-requires c κs = search needs
-
 returns : tie.Need-returns
 returns c =
-    let at-heads = c .before .before .before .before in
+    let at-heads = c .before .before .before in
     let start = at-heads .before .before .before in
     law.answer (now (start .args .table)) (start .args .end) _ (at-heads .heads .result) (at-heads .heads .ensures)
-    (c .before .refusal .result) (c .before .refusal .ensures) (c .ruling-of .result) (c .ruling-of .ensures)
+    (ruleNumber (c .refusal .result)) (c .refusal .ensures)
 
 pub static-refusal-spec : {M : Type 1} → statement M
 static-refusal-spec =
@@ -38,5 +36,4 @@ static-refusal-spec =
     heads-requires
     slice-aggregate-refusal
     refusal-requires
-    ruling-of-requires
     returns)

@@ -15,18 +15,18 @@ use Rattle.writer.proofs.put_attributes.Statement.{statement}
 use Rattle.writer.proofs.put_attributes.Tie as tie
 
 abbrev Inv-loop : tie.InvT-loop
-Inv-loop table parse «record» scratch₀ out₀ limit from at₀ pos₀ quoted₀ scratch out at pos quoted =
+Inv-loop table parse «record» scratch₀ out₀ from limit pos₀ at₀ quoted₀ scratch out pos at quoted =
     (length scratch ≡ length scratch₀) × (length out ≡ length out₀)
-    × Reached table parse scratch₀ scratch at₀ at (Quoting «record» limit (state pos₀ out₀) (state pos out) quoted)
+    × Reached table parse scratch₀ scratch at₀ at (Quoting «record» (limit .0) (state (pos₀ .0) out₀) (state (pos .0) out) quoted)
 
 abbrev μ-loop : tie.MeasureT-loop
-μ-loop table parse «record» scratch₀ out₀ limit from at₀ pos₀ quoted₀ scratch out at pos quoted = weight table parse at
+μ-loop table parse «record» scratch₀ out₀ from limit pos₀ at₀ quoted₀ scratch out pos at quoted = weight table parse at
 
 loop-holds : tie.Need-loop-holds Inv-loop μ-loop
 loop-holds c = (refl, refl, reached-begin (Quoting _ _ _ _ _) (λ r k. quoting-begin))
 
 next-requires : tie.Need-next-requires Inv-loop μ-loop
-next-requires c κs = reached-some (Quoting _ _ _ _ _) (c .before .loop .inv .2) (row-some (c .before .before .before .before .before .before .before .pre .1))
+next-requires c κs = reached-some (Quoting _ _ _ _ _) (c .before .loop .inv .2) (row-some (c .before .before .before .before .before .before .before .before .before .pre .1))
 
 enum-known-event : tie.Need-enum-known-event Inv-loop μ-loop
 enum-known-event c = search needs
@@ -37,7 +37,7 @@ text-at-requires c κs = search needs
 put-quoted-requires : tie.Need-put-quoted-requires Inv-loop μ-loop
 put-quoted-requires c κs =
     let at-loop = c .before .before .before .before .before .before .before .before .before in
-    let start = at-loop .before .before .before .before .before .before in
+    let start = at-loop .before .before .before .before .before .before .before .before in
     omega (arith, start .pre .0, at-loop .loop .inv .1)
 
 skip-requires : tie.Need-skip-requires Inv-loop μ-loop
@@ -45,7 +45,7 @@ skip-requires c κs =
     let at-event = c .before .before .before .before .before .before .before in
     let at-next = at-event .before .before .before .before in
     let at-loop = at-next .before .before in
-    let start = at-loop .before .before .before .before .before .before in
+    let start = at-loop .before .before .before .before .before .before .before .before in
     text-stands (Quoting _ _ _ _ _) (at-loop .loop .inv .2) (at-next .next .ensures) (at-event .event .given .1) (row-some (start .pre .1))
 
 loop-less : tie.Need-loop-less Inv-loop μ-loop
@@ -77,7 +77,7 @@ past-requires : tie.Need-past-requires Inv-loop μ-loop
 past-requires c κs =
     let at-next = c .before .before .before .before .before .before in
     let at-loop = at-next .before .before in
-    let start = at-loop .before .before .before .before .before .before in
+    let start = at-loop .before .before .before .before .before .before .before .before in
     (_, open-node (Quoting _ _ _ _ _) (at-loop .loop .inv .2) (at-next .next .ensures) (c .before .before .event2 .given .1) (row-some (start .pre .1)))
 
 loop-less-2 : tie.Need-loop-less-2 Inv-loop μ-loop
@@ -103,7 +103,7 @@ put-equals-requires : tie.Need-put-equals-requires Inv-loop μ-loop
 put-equals-requires c κs =
     let at-next = c .before .before .before .before .before .before in
     let at-loop = at-next .before .before in
-    let start = at-loop .before .before .before .before .before .before in
+    let start = at-loop .before .before .before .before .before .before .before .before in
     (omega (arith, start .pre .0, at-loop .loop .inv .1), omega (arith, attribute-is (at-next .next .ensures) (c .before .before .event3 .given .1) .fits))
 
 enter-requires : tie.Need-enter-requires Inv-loop μ-loop
@@ -111,7 +111,7 @@ enter-requires c κs =
     let at-event3 = c .before .before .before .before .before .before in
     let at-next = at-event3 .before .before .before .before in
     let at-loop = at-next .before .before in
-    let start = at-loop .before .before .before .before .before .before in
+    let start = at-loop .before .before .before .before .before .before .before .before in
     (_, attribute-node (Quoting _ _ _ _ _) (at-loop .loop .inv .2) (at-next .next .ensures) (at-event3 .event3 .given .1) (row-some (start .pre .1)))
 
 loop-less-3 : tie.Need-loop-less-3 Inv-loop μ-loop
@@ -140,7 +140,7 @@ enum-known-event-4 c = search needs
 put-requires : tie.Need-put-requires Inv-loop μ-loop
 put-requires c κs =
     let at-loop = c .before .before .before .before .before .before .before .before in
-    let start = at-loop .before .before .before .before .before .before in
+    let start = at-loop .before .before .before .before .before .before .before .before in
     omega (arith, start .pre .0, at-loop .loop .inv .1)
 
 loop-less-4 : tie.Need-loop-less-4 Inv-loop μ-loop
@@ -164,18 +164,21 @@ loop-again-4 c =
 enum-told : tie.Need-enum-told Inv-loop μ-loop
 enum-told c = search needs
 
+moved-requires : tie.Need-moved-requires Inv-loop μ-loop
+moved-requires c κs = search needs
+
 same-length : tie.Need-same-length Inv-loop μ-loop
-same-length c = omega (arith, c .before .before .before .before .before .before .loop .inv .0)
+same-length c = omega (arith, c .before .before .before .before .before .before .before .loop .inv .0)
 
 same-length-2 : tie.Need-same-length-2 Inv-loop μ-loop
-same-length-2 c = omega (arith, c .before .before .before .before .before .before .loop .inv .1)
+same-length-2 c = omega (arith, c .before .before .before .before .before .before .before .loop .inv .1)
 
 returns : tie.Need-returns Inv-loop μ-loop
 returns c =
-    let at-next = c .before .before .before .before in
+    let at-next = c .before .before .before .before .before in
     let at-loop = at-next .before .before in
-    let start = at-loop .before .before .before .before .before .before in
-    quoting-end (start .pre .1) (on-end (Quoting _ _ _ _ _) (at-loop .loop .inv .2) (at-next .next .ensures) (c .enum-told .given .1))
+    let start = at-loop .before .before .before .before .before .before .before .before in
+    quoting-end (start .pre .1) (c .moved .ensures) (on-end (Quoting _ _ _ _ _) (at-loop .loop .inv .2) (at-next .next .ensures) (c .before .enum-told .given .1))
 
 pub put-attributes-spec : {M : Type 1} → statement M
 put-attributes-spec =
@@ -205,6 +208,7 @@ put-attributes-spec =
     loop-less-4
     loop-again-4
     enum-told
+    moved-requires
     same-length
     same-length-2
     returns)

@@ -1,22 +1,31 @@
-use mathlib.Core.Path.{_≡_}
+use mathlib.Core.Path.{_≡_, refl, ap}
 use native.Mathlib.Omega.{arith}
 use denote.Ref.{now}
-use Rattle.markup.proofs.Puts.{and-then}
+use Rattle.writer.specs.declared.Output.{Output}
+use Rattle.writer.proofs.Folds.{room-left}
+use Rattle.writer.proofs.Whole.{started, started-is}
 use borrow.Author.Needs.{needs}
 use Rattle.writer.proofs.put_open.Statement.{statement}
 use Rattle.writer.proofs.put_open.Tie as tie
 
-put-lead-requires : tie.Need-put-lead-requires
-put-lead-requires c κs = search needs
-
-inside-requires : tie.Need-inside-requires
-inside-requires c κs = (_, c .before .before .before .before .before .before .before .before .before .before .pre .1 .1)
+token-at-requires : tie.Need-token-at-requires
+token-at-requires c κs = search needs
 
 put-start-requires : tie.Need-put-start-requires
-put-start-requires c κs =
-    let start = c .before .before .before .before .before .before .before .before .before .before .before .before .before in
-    let N = start .pre .1 .1 in
-    ((omega (arith, start .pre .0 .0), start .pre .0 .1), record { x = N .x; stands = c .before .before .inside .ensures .goes (start .pre .1 .0) _ (N .S₀) (N .n) (N .x) (N .k) (N .node) })
+put-start-requires c κs = (omega (arith, c .before .before .before .before .before .before .before .before .pre .0), omega (arith, c .before .token-at .ensures .1))
+
+inside-requires : tie.Need-inside-requires
+inside-requires c κs = (_, c .before .before .before .before .before .before .before .before .before .before .before .before .pre .1 .1)
+
+put-attributes-requires : tie.Need-put-attributes-requires
+put-attributes-requires c κs =
+    let at-inside = c .before .before in
+    let at-put-start = at-inside .before .before .before .before in
+    let start = at-put-start .before .before .before .before .before .before .before .before .before in
+    let N = start .pre .1 .1 in (
+      room-left (ap (λ (o : Output). o .limit) (at-put-start .put-start .ensures .0)) (start .pre .0) (search needs),
+      record { x = N .x; stands = at-inside .inside .ensures .goes (start .pre .1 .0) _ (N .S₀) (N .n) (N .x) (N .k) (N .node) },
+    )
 
 same-length : tie.Need-same-length
 same-length c = search needs
@@ -26,22 +35,28 @@ same-length-2 c = search needs
 
 returns : tie.Need-returns
 returns c =
-    let at-put-start = c .before .before .before .before in
-    let at-inside = at-put-start .before .before .before in
-    let at-put-lead = at-inside .before .before .before .before in
-    let start = at-put-lead .before .before .before .before .before .before .before in
+    let at-put-attributes = c .before .before .before .before in
+    let at-inside = at-put-attributes .before .before .before in
+    let at-put-start = at-inside .before .before .before .before in
+    let at-token-at = at-put-start .before .before in
+    let start = at-token-at .before .before .before .before .before .before .before in
+    let e = at-put-start .put-start .ensures .0 in
+    let A = at-put-attributes .put-attributes .ensures in
     record {
-      kept = at-put-start .put-start .ensures .kept;
-      wrote = λ S₀ m n x k N A. and-then (at-put-lead .put-lead .ensures) (at-put-start .put-start .ensures .wrote m n N x (at-inside .inside .ensures .goes (start .pre .1 .0) _ S₀ n x k A));
+      kept = A .kept;
+      is = started-is (start .args .o) e A;
+      wrote = λ S₀ n x k N. started (start .args .o) e A n x (at-put-start .put-start .ensures .1 (N .token) n (rw (at-token-at .token-at .ensures .0) (N .named)))
+          (at-inside .inside .ensures .goes (start .pre .1 .0) _ S₀ n x k N);
     }
 
 pub put-open-spec : {M : Type 1} → statement M
 put-open-spec =
     tie.close
     (tie.spec
-    put-lead-requires
-    inside-requires
+    token-at-requires
     put-start-requires
+    inside-requires
+    put-attributes-requires
     same-length
     same-length-2
     returns)

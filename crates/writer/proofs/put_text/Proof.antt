@@ -1,4 +1,4 @@
-use mathlib.Core.Path.{sym}
+use mathlib.Core.Path.{_≡_, refl, sym}
 use native.Mathlib.Omega.{arith}
 use Rattle.markup.proofs.Puts.{wrote-as, and-then}
 use borrow.Author.Needs.{needs}
@@ -15,8 +15,7 @@ same-length : tie.Need-same-length
 same-length c = search needs
 
 returns : tie.Need-returns
-returns c =
-    λ t s. and-then (c .before .before .before .before .before .before .put-lead .ensures) (wrote-as (sym (s .same 1 (λ e. omega arith))) (c .before .before .put-piece .ensures))
+returns c = (refl, λ t s. and-then (c .before .before .before .before .before .before .put-lead .ensures) (wrote-as (sym (s .same 1 (λ e. omega arith))) (c .before .before .put-piece .ensures)))
 
 pub put-text-spec : {M : Type 1} → statement M
 put-text-spec =

@@ -1,3 +1,4 @@
+use native.Mathlib.Omega.{arith}
 use mathlib.Core.Path.{sym, ap, _∙_}
 use Rattle.xml.specs.Names.{nameStart}
 use Rattle.xml_names.proofs.Names.{name-none, name-start, name-other}
@@ -19,6 +20,9 @@ add-look-2 c = search needs
 
 look-requires-2 : tie.Need-look-requires-2
 look-requires-2 c κs = search needs
+
+cast-first : tie.Need-cast-first
+cast-first c = omega (arith, c .look2 .ensures .1)
 
 name-start-requires : tie.Need-name-start-requires
 name-start-requires c κs = search needs
@@ -52,6 +56,7 @@ bad-name-spec =
     returns
     add-look-2
     look-requires-2
+    cast-first
     name-start-requires
     add-some-odd
     sub-some-odd

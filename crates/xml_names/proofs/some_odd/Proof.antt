@@ -30,6 +30,9 @@ returns c =
 look-requires : tie.Need-look-requires Inv-loop μ-loop
 look-requires c κs = tt
 
+cast-c : tie.Need-cast-c Inv-loop μ-loop
+cast-c c = omega (arith, c .look .ensures .1)
+
 is-odd-requires : tie.Need-is-odd-requires Inv-loop μ-loop
 is-odd-requires c κs = tt
 
@@ -81,6 +84,7 @@ some-odd-spec =
     loop-holds
     returns
     look-requires
+    cast-c
     is-odd-requires
     returns-2
     add-i

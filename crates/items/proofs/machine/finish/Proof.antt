@@ -6,7 +6,8 @@ use native.Mathlib.Numerals.{add-one}
 use lib.ListN.{length-set}
 use lib.Seq.{sets}
 use lib.ListN.{set, getD}
-use Rattle.items.specs.Machine.{Entry, entry, nums, entryAt, laid, Abs, Has, Rep, Fit, One, Two, oneCount, twoCount, oneFirst, twoFirst}
+use Rattle.repetitions.specs.Blocks.{Entry, entry, nums, entryAt, laid, oneCount, twoCount, oneFirst, twoFirst}
+use Rattle.items.specs.Machine.{Abs, Has, Rep, Fit, One, Two}
 use Rattle.items.proofs.Reps.{rep-pushed, rep-one', rep-two', rep-closed, rep-finished, one-bounds, two-bounds, block-bounds, finished-items, mark-old}
 use borrow.Author.Needs.{needs}
 use Rattle.items.proofs.machine.finish.Statement.{statement}

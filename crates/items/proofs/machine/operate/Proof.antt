@@ -4,7 +4,8 @@ use mathlib.Core.Path.{_≡_, sym, ap, _∙_, refl, subst}
 use Prim.Native.Nat.{ℕ, suc, _+_, _*_, _-_, _≤_}
 use lib.Seq.{sets}
 use lib.ListN.{set, getD}
-use Rattle.items.specs.Machine.{Entry, entry, nums, entryAt, laid, Abs, Has, Rep, Fit, One, Two, oneCount, twoCount, oneFirst, twoFirst}
+use Rattle.repetitions.specs.Blocks.{Entry, entry, nums, entryAt, laid, oneCount, twoCount, oneFirst, twoFirst}
+use Rattle.items.specs.Machine.{Abs, Has, Rep, Fit, One, Two}
 use Rattle.items.proofs.Reps.{rep-pushed, rep-one', rep-two', rep-closed, rep-finished, one-bounds, two-bounds, one-first, two-first}
 use borrow.Author.Needs.{needs}
 use Rattle.items.proofs.machine.operate.Statement.{statement}

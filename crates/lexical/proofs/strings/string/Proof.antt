@@ -19,16 +19,16 @@ returns c =
     let args = c .before .before .before .before .before .args in
     string-none (args .text .now) (args .p .0) (tested (peek .ensures) quote (sym (c .before .quote .ensures) ∙ not-true _ (c .if1 .taken)))
 
-add-t14 : tie.Need-add-t14
-add-t14 c = search needs
+after-requires : tie.Need-after-requires
+after-requires c κs = search needs
 
 copy-quoted-requires : tie.Need-copy-quoted-requires
 copy-quoted-requires c κs =
-    let quote = c .before .before .quote in
-    let peek = c .before .before .before .peek in
-    let pre = c .before .before .before .before .before .before .pre in (
-      string-space _ _ _ (peek .ensures) (sym (quote .ensures) ∙ not-false _ (c .before .if1 .left)) _ _ (pre),
-      sym (quote .ensures) ∙ not-false _ (c .before .if1 .left),
+    let quote = c .before .before .before .quote in
+    let peek = c .before .before .before .before .peek in
+    let pre = c .before .before .before .before .before .before .before .pre in (
+      rw (c .before .after .ensures) (string-space _ _ _ (peek .ensures) (sym (quote .ensures) ∙ not-false _ (c .before .before .if1 .left)) _ _ (pre)),
+      sym (quote .ensures) ∙ not-false _ (c .before .before .if1 .left),
     )
 
 enum-known-u : tie.Need-enum-known-u
@@ -43,40 +43,40 @@ same-length c = search needs
 returns-2 : tie.Need-returns-2
 returns-2 c =
     let copy-quoted = c .before .before .before .before .copy-quoted in
-    let if1 = c .before .before .before .before .before .before .if1 in
-    let quote = c .before .before .before .before .before .before .before .quote in
-    let peek = c .before .before .before .before .before .before .before .before .peek in
-    let args = c .before .before .before .before .before .before .before .before .before .before .before .args in
+    let if1 = c .before .before .before .before .before .before .before .if1 in
+    let quote = c .before .before .before .before .before .before .before .before .quote in
+    let peek = c .before .before .before .before .before .before .before .before .before .peek in
+    let args = c .before .before .before .before .before .before .before .before .before .before .before .before .args in
     string-bad (args .text .now) (args .p .0) _ (peek .ensures) (sym (quote .ensures) ∙ not-false _ (if1 .left))
-    (rw (c .enum-told .given .1) at (copy-quoted .ensures))
+    (rw (c .before .before .before .before .before .before .after .ensures, c .enum-told .given .1) at (copy-quoted .ensures))
 
 same-length-2 : tie.Need-same-length-2
 same-length-2 c = search needs
 
 returns-3 : tie.Need-returns-3
 returns-3 c =
-    let u = c .before .before .u in
-    let copy-quoted = c .before .before .before .before .before .before .copy-quoted in
-    let if1 = c .before .before .before .before .before .before .before .before .if1 in
-    let quote = c .before .before .before .before .before .before .before .before .before .quote in
-    let peek = c .before .before .before .before .before .before .before .before .before .before .peek in
-    let args = c .before .before .before .before .before .before .before .before .before .before .before .before .before .args in
+    let u = c .before .before .before .before .u in
+    let copy-quoted = c .before .before .before .before .before .before .before .before .copy-quoted in
+    let if1 = c .before .before .before .before .before .before .before .before .before .before .before .if1 in
+    let quote = c .before .before .before .before .before .before .before .before .before .before .before .before .quote in
+    let peek = c .before .before .before .before .before .before .before .before .before .before .before .before .before .peek in
+    let args = c .before .before .before .before .before .before .before .before .before .before .before .before .before .before .before .before .args in
     string-empty (args .text .now) (args .p .0) _ (peek .ensures) (sym (quote .ensures) ∙ not-false _ (if1 .left)) _ _ _ _ _
-    (rw (u .given .1) at (copy-quoted .ensures)) (c .if2 .taken)
+    (rw (c .before .before .before .before .before .before .before .before .before .before .after .ensures, u .given .1) at (copy-quoted .ensures)) (c .if2 .taken)
 
 same-length-3 : tie.Need-same-length-3
 same-length-3 c = search needs
 
 returns-4 : tie.Need-returns-4
 returns-4 c =
-    let u = c .before .before .u in
-    let copy-quoted = c .before .before .before .before .before .before .copy-quoted in
-    let if1 = c .before .before .before .before .before .before .before .before .if1 in
-    let quote = c .before .before .before .before .before .before .before .before .before .quote in
-    let peek = c .before .before .before .before .before .before .before .before .before .before .peek in
-    let args = c .before .before .before .before .before .before .before .before .before .before .before .before .before .args in
+    let u = c .before .before .before .before .u in
+    let copy-quoted = c .before .before .before .before .before .before .before .before .copy-quoted in
+    let if1 = c .before .before .before .before .before .before .before .before .before .before .before .if1 in
+    let quote = c .before .before .before .before .before .before .before .before .before .before .before .before .quote in
+    let peek = c .before .before .before .before .before .before .before .before .before .before .before .before .before .peek in
+    let args = c .before .before .before .before .before .before .before .before .before .before .before .before .before .before .before .before .args in
     string-read (args .text .now) (args .p .0) _ (peek .ensures) (sym (quote .ensures) ∙ not-false _ (if1 .left)) _ _ _ _ _
-    (rw (u .given .1) at (copy-quoted .ensures)) (c .if2 .left)
+    (rw (c .before .before .before .before .before .before .before .before .before .before .after .ensures, u .given .1) at (copy-quoted .ensures)) (c .if2 .left)
 
 pub string-spec : {M : Type 1} → statement M
 string-spec =
@@ -85,7 +85,7 @@ string-spec =
     peek-requires
     quote-requires
     returns
-    add-t14
+    after-requires
     copy-quoted-requires
     enum-known-u
     enum-told

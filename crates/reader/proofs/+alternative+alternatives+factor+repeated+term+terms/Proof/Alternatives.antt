@@ -57,10 +57,10 @@ alternative-returns-2 t c =
     (tested (peek .ensures) starts (sym (c .before .starts .ensures) ∙ (c .if1 .left)))
 
 abbrev pub alternatives-Inv-loop : alternatives-lts.InvT-loop
-alternatives-Inv-loop text d out₀ i₀ j₀ out i j = Looping (λ n x. Alts= d (drop n text) x) bodyCode text i₀ out₀ j₀ i out j
+alternatives-Inv-loop text d out₀ from₀ to₀ out from to = Looping (λ n x. Alts= d (drop n text) x) bodyCode text (from₀ .0) out₀ (to₀ .0) (from .0) out (to .0)
 
 abbrev pub alternatives-μ-loop : alternatives-lts.MeasureT-loop
-alternatives-μ-loop text d out₀ i₀ j₀ out i j = length text - i
+alternatives-μ-loop text d out₀ from₀ to₀ out from to = length text - from .0
 
 pub alternatives-loop-holds : (t : ℕ) → alternatives-lts.Need-loop-holds (alternatives-gets t) (alternatives-at t) alternatives.Post alternatives-Inv-loop alternatives-μ-loop
 alternatives-loop-holds t c =
@@ -73,7 +73,7 @@ alternatives-alternative-requires t c κs =
     let loop = c .before .loop in
     let args = c .before .before .before .before .args in
     let pre = c .before .before .before .before .pre in (
-      falls-at t (length (args .text .now)) (args .p .0) (loop .i) 5 4 ((loop .inv) .context .on) ((loop .inv) .room .place) (pre .0) (omega arith),
+      falls-at t (length (args .text .now)) (args .p .0) (loop .from .0) 5 4 ((loop .inv) .context .on) ((loop .inv) .room .place) (pre .0) (omega arith),
       (loop .inv) .room,
     )
 
@@ -94,7 +94,7 @@ alternatives-returns t c =
     let alternative = c .before .before .before .before .alternative in
     let loop = c .before .before .before .before .before .before .loop in
     let args = c .before .before .before .before .before .before .before .before .before .args in
-    loop-fail (loop .inv) (alts-none (args .d) (drop (loop .i) (args .text .now)) (rw (c .enum-told .given .1) at (alternative .ensures)))
+    loop-fail (loop .inv) (alts-none (args .d) (drop (loop .from .0) (args .text .now)) (rw (c .enum-told .given .1) at (alternative .ensures)))
 
 pub alternatives-peek-requires : (t : ℕ) → alternatives-lts.Need-peek-requires (alternatives-gets t) (alternatives-at t) alternatives.Post alternatives-Inv-loop alternatives-μ-loop
 alternatives-peek-requires t c κs = search needs
@@ -115,9 +115,9 @@ alternatives-returns-2 t c =
     let alternative = c .before .before .before .before .before .before .before .before .alternative in
     let loop = c .before .before .before .before .before .before .before .before .before .before .loop in
     let args = c .before .before .before .before .before .before .before .before .before .before .before .before .before .args in
-    loop-read (loop .inv) (args .p .0) (loop .i) (alternative .last .1 .1 .1 .0) (q .given .0 .0 .0) (q .given .0 .1 .0 .0)
+    loop-read (loop .inv) (args .p .0) (loop .from .0) (alternative .last .1 .1 .1 .0) (q .given .0 .0 .0) (q .given .0 .1 .0 .0)
     ((loop .inv) .context .on)
-    (alts-stop (args .text .now) (loop .i) (args .d) (loop .out) (loop .j) (alternative .last .1 .1 .1 .0) (q .given .0 .0 .0)
+    (alts-stop (args .text .now) (loop .from .0) (args .d) (loop .out) (loop .to .0) (alternative .last .1 .1 .1 .0) (q .given .0 .0 .0)
     (q .given .0 .1 .0 .0) (rw (q .given .1) at (alternative .ensures))
     (tested (peek .ensures) bar (sym (c .before .bar .ensures) ∙ not-true _ (c .if1 .taken))))
 
@@ -164,7 +164,7 @@ alternatives-returns-3 t c =
     let args = c .before .before .before .before .before .before .before .before .before .before .before .before .before .before .before .before
     .before .before .before .args in
     loop-fail (loop .inv)
-    (alts-no-space (args .text .now) (loop .i) (args .d) (loop .out) (loop .j) (alternative .last .1 .1 .1 .0) (q .given .0 .0 .0)
+    (alts-no-space (args .text .now) (loop .from .0) (args .d) (loop .out) (loop .to .0) (alternative .last .1 .1 .1 .0) (q .given .0 .0 .0)
     (q .given .0 .1 .0 .0) (rw (q .given .1) at (alternative .ensures))
     (tested (peek .ensures) bar (sym (bar′ .ensures) ∙ not-false _ (if1 .left))) (rw (c .enum-told2 .given .1) at (token .ensures)))
 
@@ -182,7 +182,7 @@ alternatives-loop-less t c =
     .before .loop in
     let args = c .before .before .before .before .before .before .before .before .before .before .before .before .before .before .before .before
     .before .before .before .before .args in
-    alts-less (args .text .now) (loop .i) (args .d) (loop .out) (loop .j) (alternative .last .1 .1 .1 .0) (q .given .0 .0 .0)
+    alts-less (args .text .now) (loop .from .0) (args .d) (loop .out) (loop .to .0) (alternative .last .1 .1 .1 .0) (q .given .0 .0 .0)
     (q .given .0 .1 .0 .0) (rw (q .given .1) at (alternative .ensures))
     (tested (peek .ensures) bar (sym (bar′ .ensures) ∙ not-false _ (if1 .left))) (token .last .1 .1 .1 .0) (w .given .0 .0 .0)
     (w .given .0 .1 .0 .0) (rw (w .given .1) at (token .ensures))
@@ -201,7 +201,7 @@ alternatives-loop-again t c =
     .before .loop in
     let args = c .before .before .before .before .before .before .before .before .before .before .before .before .before .before .before .before
     .before .before .before .before .args in
-    alts-again (args .text .now) (loop .i) (args .d) (loop .out) (loop .j) (alternative .last .1 .1 .1 .0) (q .given .0 .0 .0)
+    alts-again (args .text .now) (loop .from .0) (args .d) (loop .out) (loop .to .0) (alternative .last .1 .1 .1 .0) (q .given .0 .0 .0)
     (q .given .0 .1 .0 .0) (rw (q .given .1) at (alternative .ensures))
     (tested (peek .ensures) bar (sym (bar′ .ensures) ∙ not-false _ (if1 .left))) (token .last .1 .1 .1 .0) (w .given .0 .0 .0)
     (w .given .0 .1 .0 .0) (rw (w .given .1) at (token .ensures)) (loop .inv) (alternative .kept .1 .1 .1 .0) (token .kept .1 .1 .1 .0)

@@ -22,11 +22,13 @@ use Rattle.reader.proofs.+alternative+alternatives+factor+repeated+term
 use Rattle.reader.proofs.terms.Reads as terms
 use Rattle.reader.proofs.terms.Kinds as terms-kinds
 use Rattle.reader.proofs.+alternative+alternatives+factor+repeated+term+terms.Lts-terms as terms-lts
+use Rattle.decode.proofs.after.Reads as after-reads
 use Rattle.spacing.proofs.bar.Reads as bar-reads
 use Rattle.spacing.proofs.peek.Reads as peek-reads
 use Rattle.spacing.proofs.skip.Reads as skip-reads
 use Rattle.spacing.proofs.token.Reads as token-reads
 use Rattle.reader.proofs.plain_factor.Reads as plain-factor-reads
+use Rattle.reader.proofs.put.Reads as put-reads
 use Rattle.reader.proofs.starts.Reads as starts-reads
 
 abbrev pub μ-alternative : Measures 2 alternative-kinds.ps ℕ
@@ -102,10 +104,23 @@ abbrev pub factor-gets : ℕ → factor-lts.Claims
 factor-gets t = (peek-reads.Asked, peek-reads.Learnt, plain-factor-reads.Asked, plain-factor-reads.Learnt, token-reads.Asked, token-reads.Learnt, alternatives-below t, alternatives.Post)
 
 abbrev pub repeated-gets : ℕ → repeated-lts.Claims
-repeated-gets t = (peek-reads.Asked, peek-reads.Learnt, token-reads.Asked, token-reads.Learnt, skip-reads.Asked, skip-reads.Learnt, factor-below t, factor.Post)
+repeated-gets t = (
+  after-reads.Asked,
+  after-reads.Learnt,
+  peek-reads.Asked,
+  peek-reads.Learnt,
+  token-reads.Asked,
+  token-reads.Learnt,
+  skip-reads.Asked,
+  skip-reads.Learnt,
+  factor-below t,
+  factor.Post,
+  put-reads.Asked,
+  put-reads.Learnt,
+)
 
 abbrev pub term-gets : ℕ → term-lts.Claims
 term-gets t = (factor-below t, factor.Post, peek-reads.Asked, peek-reads.Learnt, token-reads.Asked, token-reads.Learnt, repeated-below t, repeated.Post)
 
 abbrev pub terms-gets : ℕ → terms-lts.Claims
-terms-gets t = (term-below t, term.Post, peek-reads.Asked, peek-reads.Learnt, skip-reads.Asked, skip-reads.Learnt)
+terms-gets t = (term-below t, term.Post, peek-reads.Asked, peek-reads.Learnt, after-reads.Asked, after-reads.Learnt, skip-reads.Asked, skip-reads.Learnt)

@@ -3,8 +3,7 @@ use Prim.Native.Nat.{_+_, _-_}
 use mathlib.Core.Path.{_∙_}
 use borrow.Author.Needs.{needs}
 use native.Mathlib.Omega.{arith}
-use lib.ListN.{length-set}
-use Rattle.spacing.proofs.Places.{is-ch, not-ch}
+use Rattle.spacing.proofs.Places.{is-ch, not-ch, twice}
 use Rattle.reader.proofs.Loops.{room-read, room-cell, falls-read, seen-in, less-one}
 use Rattle.reader.proofs.Cycle.{mark-in, marks-in, sep-room, sep-falls, repeat-alone, repeat-no-space, repeat-no-factor, repeat-cell}
 use Rattle.reader.proofs.Cycle.{repeat-sep, factor-of-plain, factor-deep, factor-no-space, factor-no-alts, factor-open, factor-shut}
@@ -192,8 +191,8 @@ factor-returns-6 t c =
     (alternatives .last .1 .1 .1 .0) (q .given .0 .0 .0) (q .given .0 .1 .0 .0) (rw (q .given .1) at (alternatives .ensures))
     (is-ch (peek2 .ensures) 41 (if3 .left)) (token2 .result) (token2 .last .1 .1 .1 .0) (token2 .ensures)
 
-pub repeated-add-out : (t : ℕ) → repeated-lts.Need-add-out (repeated-gets t) (repeated-at t) repeated.Post
-repeated-add-out t c =
+pub repeated-after-requires : (t : ℕ) → repeated-lts.Need-after-requires (repeated-gets t) (repeated-at t) repeated.Post
+repeated-after-requires t c κs =
     let args = c .before .before .args in
     let pre = c .before .before .pre in
     omega (arith, (mark-in (args .text .now) (args .p .0) (args .k) (pre .1 .1) (pre .1 .2)))
@@ -202,17 +201,19 @@ pub repeated-peek-requires : (t : ℕ) → repeated-lts.Need-peek-requires (repe
 repeated-peek-requires t c κs = search needs
 
 pub repeated-add-if1 : (t : ℕ) → repeated-lts.Need-add-if1 (repeated-gets t) (repeated-at t) repeated.Post
-repeated-add-if1 t c = omega (arith, (c .before .before .before .pre .1 .1))
+repeated-add-if1 t c =
+    let start = c .before .before .before .before in
+    omega (arith, (start .pre .1 .1))
 
 pub repeated-add-token : (t : ℕ) → repeated-lts.Need-add-token (repeated-gets t) (repeated-at t) repeated.Post
 repeated-add-token t c =
-    let pre = c .before .before .before .before .pre in
+    let pre = c .before .before .before .before .before .pre in
     omega (arith, (pre .1 .1))
 
 pub repeated-token-requires : (t : ℕ) → repeated-lts.Need-token-requires (repeated-gets t) (repeated-at t) repeated.Post
 repeated-token-requires t c κs =
-    let args = c .before .before .before .before .before .args in
-    let pre = c .before .before .before .before .before .pre in
+    let args = c .before .before .before .before .before .before .args in
+    let pre = c .before .before .before .before .before .before .pre in
     let i = (mark-in (args .text .now) (args .p .0) (args .k) (pre .1 .1) (pre .1 .2)) in
     (i, room-cell (pre .1 .0) i)
 
@@ -221,24 +222,34 @@ repeated-same-length t c = (c .before .before .token .kept .1 .1 .1 .0)
 
 pub repeated-returns : (t : ℕ) → repeated-lts.Need-returns (repeated-gets t) (repeated-at t) repeated.Post
 repeated-returns t c =
+    let after = c .before .before .before .before .before .before .after in
     let token = c .before .before .token in
     let if1 = c .before .before .before .before .if1 in
     let peek = c .before .before .before .before .before .peek in
-    let args = c .before .before .before .before .before .before .before .before .args in
+    let args = c .before .before .before .before .before .before .before .before .before .args in
     repeat-alone (args .text .now) (args .p .0) (args .k) (args .d) (args .out .now) (args .at .0)
-    (not-ch (peek .ensures) (42 + (args .k)) (if1 .taken)) (token .result) (token .last .1 .1 .1 .0) (token .ensures)
+    (not-ch (rw (after .ensures) at (peek .ensures)) (42 + (args .k)) (if1 .taken)) (token .result) (token .last .1 .1 .1 .0) (token .ensures)
 
-pub repeated-add-out-2 : (t : ℕ) → repeated-lts.Need-add-out-2 (repeated-gets t) (repeated-at t) repeated.Post
-repeated-add-out-2 t c =
-    let args = c .before .before .before .before .args in
-    let pre = c .before .before .before .before .pre in
-    omega (arith, (marks-in (args .text .now) (args .p .0) (args .k) (c .before .peek .result) (pre .1 .1) (c .before .peek .ensures) (c .if1 .left)))
+pub repeated-after-requires-2 : (t : ℕ) → repeated-lts.Need-after-requires-2 (repeated-gets t) (repeated-at t) repeated.Post
+repeated-after-requires-2 t c κs =
+    let after = c .before .before .after in
+    let args = c .before .before .before .before .before .args in
+    let pre = c .before .before .before .before .before .pre in
+    omega (
+      arith,
+      c .before .before .after .ensures,
+      (marks-in (args .text .now) (args .p .0) (args .k) (c .before .peek .result) (pre .1 .1) (rw
+          (after .ensures) at (c .before .peek .ensures)) (c .if1 .left)),
+    )
 
 pub repeated-skip-requires : (t : ℕ) → repeated-lts.Need-skip-requires (repeated-gets t) (repeated-at t) repeated.Post
 repeated-skip-requires t c κs =
-    let args = c .before .before .before .before .args in
-    let pre = c .before .before .before .before .pre in
-    (marks-in (args .text .now) (args .p .0) (args .k) (c .before .peek .result) (pre .1 .1) (c .before .peek .ensures) (c .if1 .left))
+    let after = c .before .before .before .after in
+    let after2 = c .after2 in
+    let args = c .before .before .before .before .before .before .args in
+    let pre = c .before .before .before .before .before .before .pre in
+    rw (twice _ (after .ensures) (after2 .ensures)) (marks-in (args .text .now) (args .p .0) (args .k) (c .before .before .peek .result) (pre .1 .1)
+    (rw (after .ensures) at (c .before .before .peek .ensures)) (c .before .if1 .left))
 
 pub repeated-enum-known-w : (t : ℕ) → repeated-lts.Need-enum-known-w (repeated-gets t) (repeated-at t) repeated.Post
 repeated-enum-known-w t c = search needs
@@ -248,21 +259,25 @@ repeated-enum-told t c = search needs
 
 pub repeated-returns-2 : (t : ℕ) → repeated-lts.Need-returns-2 (repeated-gets t) (repeated-at t) repeated.Post
 repeated-returns-2 t c =
+    let after = c .before .before .before .before .before .before .after in
+    let after2 = c .before .before .before .after2 in
     let skip = c .before .before .skip in
-    let if1 = c .before .before .before .if1 in
-    let peek = c .before .before .before .before .peek in
-    let args = c .before .before .before .before .before .before .before .args in
+    let if1 = c .before .before .before .before .if1 in
+    let peek = c .before .before .before .before .before .peek in
+    let args = c .before .before .before .before .before .before .before .before .before .args in
     repeat-no-space (args .text .now) (args .p .0) (args .k) (args .d) (args .out .now) (args .at .0)
-    (is-ch (peek .ensures) (42 + (args .k)) (if1 .left)) (rw (c .enum-told .given .1) at (skip .ensures))
+    (is-ch (rw (after .ensures) at (peek .ensures)) (42 + (args .k)) (if1 .left)) (rw (twice _ (after .ensures) (after2 .ensures), c .enum-told .given .1) at (skip .ensures))
 
 pub repeated-factor-requires : (t : ℕ) → repeated-lts.Need-factor-requires (repeated-gets t) (repeated-at t) repeated.Post
 repeated-factor-requires t c κs =
+    let after = c .before .before .before .before .before .before .before .before .after in
+    let after2 = c .before .before .before .before .before .after2 in
     let w = c .before .before .w in
     let skip = c .before .before .before .before .skip in
-    let args = c .before .before .before .before .before .before .before .before .before .args in
-    let pre = c .before .before .before .before .before .before .before .before .before .pre in (
-      sep-falls t 1 1 (args .text .now) (args .p .0) (w .given .0 .0 .0) (rw (w .given .1) at (skip .ensures)) (pre .0) (omega arith),
-      sep-room (w .given .0 .0 .0) (pre .1 .0) (rw (w .given .1) at (skip .ensures)),
+    let args = c .before .before .before .before .before .before .before .before .before .before .before .args in
+    let pre = c .before .before .before .before .before .before .before .before .before .before .before .pre in (
+      sep-falls t 1 1 (args .text .now) (args .p .0) (w .given .0 .0 .0) (rw (twice _ (after .ensures) (after2 .ensures), w .given .1) at (skip .ensures)) (pre .0) (omega arith),
+      sep-room (w .given .0 .0 .0) (pre .1 .0) (rw (twice _ (after .ensures) (after2 .ensures), w .given .1) at (skip .ensures)),
     )
 
 pub repeated-enum-known-q : (t : ℕ) → repeated-lts.Need-enum-known-q (repeated-gets t) (repeated-at t) repeated.Post
@@ -278,94 +293,73 @@ repeated-same-length-2 t c =
 
 pub repeated-returns-3 : (t : ℕ) → repeated-lts.Need-returns-3 (repeated-gets t) (repeated-at t) repeated.Post
 repeated-returns-3 t c =
+    let after = c .before .before .before .before .before .before .before .before .before .before .before .before .before .after in
+    let after2 = c .before .before .before .before .before .before .before .before .before .before .after2 in
     let factor = c .before .before .before .before .factor in
     let w = c .before .before .before .before .before .before .before .w in
     let skip = c .before .before .before .before .before .before .before .before .before .skip in
-    let if1 = c .before .before .before .before .before .before .before .before .before .before .if1 in
-    let peek = c .before .before .before .before .before .before .before .before .before .before .before .peek in
-    let args = c .before .before .before .before .before .before .before .before .before .before .before .before .before .before .args in
+    let if1 = c .before .before .before .before .before .before .before .before .before .before .before .if1 in
+    let peek = c .before .before .before .before .before .before .before .before .before .before .before .before .peek in
+    let args = c .before .before .before .before .before .before .before .before .before .before .before .before .before .before .before .before .args in
     repeat-no-factor (args .text .now) (args .p .0) (args .k) (args .d) (args .out .now) (args .at .0)
-    (is-ch (peek .ensures) (42 + (args .k)) (if1 .left)) (w .given .0 .0 .0) (rw (w .given .1) at (skip .ensures))
+    (is-ch (rw (after .ensures) at (peek .ensures)) (42 + (args .k)) (if1 .left)) (w .given .0 .0 .0) (rw (
+      twice _ (after .ensures)
+          (after2 .ensures),
+      w .given .1,
+    ) at (skip .ensures))
     (rw (c .enum-told2 .given .1) at (factor .ensures))
 
-pub repeated-add-out-3 : (t : ℕ) → repeated-lts.Need-add-out-3 (repeated-gets t) (repeated-at t) repeated.Post
-repeated-add-out-3 t c =
-    let pre = c .before .before .before .before .before .before .before .before .before .before .before .before .before .before .before .pre in
+pub repeated-add-put : (t : ℕ) → repeated-lts.Need-add-put (repeated-gets t) (repeated-at t) repeated.Post
+repeated-add-put t c =
+    let pre = c .before .before .before .before .before .before .before .before .before .before .before .before .before .before .before .before .before .before .pre in
     omega (arith, (pre .1 .1))
 
-pub repeated-mul-out : (t : ℕ) → repeated-lts.Need-mul-out (repeated-gets t) (repeated-at t) repeated.Post
-repeated-mul-out t c =
-    let q = c .before .q in
-    let factor = c .before .before .before .before .before .factor in
-    let w = c .before .before .before .before .before .before .before .before .w in
-    let skip = c .before .before .before .before .before .before .before .before .before .before .skip in
-    let if1 = c .before .before .before .before .before .before .before .before .before .before .before .if1 in
-    let peek = c .before .before .before .before .before .before .before .before .before .before .before .before .peek in
-    let args = c .before .before .before .before .before .before .before .before .before .before .before .before .before .before .before .args in
-    let pre = c .before .before .before .before .before .before .before .before .before .before .before .before .before .before .before .pre in
+pub repeated-put-requires : (t : ℕ) → repeated-lts.Need-put-requires (repeated-gets t) (repeated-at t) repeated.Post
+repeated-put-requires t c κs =
+    let after = c .before .before .before .before .before .before .before .before .before .before .before .before .before .before .before .after in
+    let after2 = c .before .before .before .before .before .before .before .before .before .before .before .before .after2 in
+    let q = c .before .before .q in
+    let factor = c .before .before .before .before .before .before .factor in
+    let w = c .before .before .before .before .before .before .before .before .before .w in
+    let skip = c .before .before .before .before .before .before .before .before .before .before .before .skip in
+    let if1 = c .before .before .before .before .before .before .before .before .before .before .before .before .before .if1 in
+    let peek = c .before .before .before .before .before .before .before .before .before .before .before .before .before .before .peek in
+    let args = c .before .before .before .before .before .before .before .before .before .before .before .before .before .before .before .before .before .before .args in
+    let pre = c .before .before .before .before .before .before .before .before .before .before .before .before .before .before .before .before .before .before .pre in
     omega (
       arith,
       repeat-cell (args .text .now) (args .p .0) (args .k) (args .d) (args .out .now) (args .at .0)
-          (is-ch (peek .ensures) (42 + (args .k)) (if1 .left)) (w .given .0 .0 .0) (rw (w .given .1) at (skip .ensures))
+          (is-ch (rw (after .ensures) at (peek .ensures)) (42 + (args .k)) (if1 .left)) (w .given .0 .0 .0) (rw (
+            twice _ (after .ensures)
+                (after2 .ensures),
+            w .given .1,
+          ) at (skip .ensures))
           (factor .last .1 .1 .1 .0) (q .given .0 .0 .0) (q .given .0 .1 .0 .0) (rw (q .given .1) at (factor .ensures)) (pre .1 .0)
           (factor .kept .1 .1 .1 .0),
-      (factor .kept .1 .1 .1 .0),
-      (pre .1 .0) .few,
-    )
-
-pub repeated-slice-write-out : (t : ℕ) → repeated-lts.Need-slice-write-out (repeated-gets t) (repeated-at t) repeated.Post
-repeated-slice-write-out t c =
-    let q = c .before .q in
-    let factor = c .before .before .before .before .before .factor in
-    let w = c .before .before .before .before .before .before .before .before .w in
-    let skip = c .before .before .before .before .before .before .before .before .before .before .skip in
-    let if1 = c .before .before .before .before .before .before .before .before .before .before .before .if1 in
-    let peek = c .before .before .before .before .before .before .before .before .before .before .before .before .peek in
-    let args = c .before .before .before .before .before .before .before .before .before .before .before .before .before .before .before .args in
-    let pre = c .before .before .before .before .before .before .before .before .before .before .before .before .before .before .before .pre in
-    omega (
-      arith,
-      repeat-cell (args .text .now) (args .p .0) (args .k) (args .d) (args .out .now) (args .at .0)
-          (is-ch (peek .ensures) (42 + (args .k)) (if1 .left)) (w .given .0 .0 .0) (rw (w .given .1) at (skip .ensures))
-          (factor .last .1 .1 .1 .0) (q .given .0 .0 .0) (q .given .0 .1 .0 .0) (rw (q .given .1) at (factor .ensures)) (pre .1 .0)
-          (factor .kept .1 .1 .1 .0),
-    )
-
-pub repeated-add-t13 : (t : ℕ) → repeated-lts.Need-add-t13 (repeated-gets t) (repeated-at t) repeated.Post
-repeated-add-t13 t c =
-    let q = c .before .q in
-    let factor = c .before .before .before .before .before .factor in
-    let w = c .before .before .before .before .before .before .before .before .w in
-    let skip = c .before .before .before .before .before .before .before .before .before .before .skip in
-    let if1 = c .before .before .before .before .before .before .before .before .before .before .before .if1 in
-    let peek = c .before .before .before .before .before .before .before .before .before .before .before .before .peek in
-    let args = c .before .before .before .before .before .before .before .before .before .before .before .before .before .before .before .args in
-    let pre = c .before .before .before .before .before .before .before .before .before .before .before .before .before .before .before .pre in
-    omega (
-      arith,
-      repeat-cell (args .text .now) (args .p .0) (args .k) (args .d) (args .out .now) (args .at .0)
-          (is-ch (peek .ensures) (42 + (args .k)) (if1 .left)) (w .given .0 .0 .0) (rw (w .given .1) at (skip .ensures))
-          (factor .last .1 .1 .1 .0) (q .given .0 .0 .0) (q .given .0 .1 .0 .0) (rw (q .given .1) at (factor .ensures)) (pre .1 .0)
-          (factor .kept .1 .1 .1 .0),
-      (factor .kept .1 .1 .1 .0),
-      (pre .1 .0) .few,
     )
 
 pub repeated-same-length-3 : (t : ℕ) → repeated-lts.Need-same-length-3 (repeated-gets t) (repeated-at t) repeated.Post
 repeated-same-length-3 t c =
-    let factor = c .before .before .before .before .before .factor in
-    simp length-set (factor .kept .1 .1 .1 .0)
+    let factor = c .before .before .before .before .before .before .before .before .before .factor in
+    (c .before .before .put .kept .0) ∙ (factor .kept .1 .1 .1 .0)
 
 pub repeated-returns-4 : (t : ℕ) → repeated-lts.Need-returns-4 (repeated-gets t) (repeated-at t) repeated.Post
 repeated-returns-4 t c =
-    let q = c .before .q in
-    let factor = c .before .before .before .before .before .factor in
-    let w = c .before .before .before .before .before .before .before .before .w in
-    let skip = c .before .before .before .before .before .before .before .before .before .before .skip in
-    let if1 = c .before .before .before .before .before .before .before .before .before .before .before .if1 in
-    let peek = c .before .before .before .before .before .before .before .before .before .before .before .before .peek in
-    let args = c .before .before .before .before .before .before .before .before .before .before .before .before .before .before .before .args in
-    let pre = c .before .before .before .before .before .before .before .before .before .before .before .before .before .before .before .pre in
-    repeat-sep (args .text .now) (args .p .0) (args .k) (args .d) (args .out .now) (args .at .0)
-    (is-ch (peek .ensures) (42 + (args .k)) (if1 .left)) (w .given .0 .0 .0) (rw (w .given .1) at (skip .ensures)) (factor .last .1 .1 .1 .0)
-    (q .given .0 .0 .0) (q .given .0 .1 .0 .0) (rw (q .given .1) at (factor .ensures)) (pre .1 .0) (factor .kept .1 .1 .1 .0)
+    let after = c .before .before .before .before .before .before .before .before .before .before .before .before .before .before .before .before .before .before .after in
+    let after2 = c .before .before .before .before .before .before .before .before .before .before .before .before .before .before .before .after2 in
+    let q = c .before .before .before .before .before .q in
+    let factor = c .before .before .before .before .before .before .before .before .before .factor in
+    let w = c .before .before .before .before .before .before .before .before .before .before .before .before .w in
+    let skip = c .before .before .before .before .before .before .before .before .before .before .before .before .before .before .skip in
+    let if1 = c .before .before .before .before .before .before .before .before .before .before .before .before .before .before .before .before .if1 in
+    let peek = c .before .before .before .before .before .before .before .before .before .before .before .before .before .before .before .before .before .peek in
+    let args = c .before .before .before .before .before .before .before .before .before .before .before .before .before .before .before .before .before .before .before .before .before .args in
+    let pre = c .before .before .before .before .before .before .before .before .before .before .before .before .before .before .before .before .before .before .before .before .before .pre in
+    rw (c .before .before .put .ensures .0, c .before .before .put .ensures .1)
+    (repeat-sep (args .text .now) (args .p .0) (args .k) (args .d) (args .out .now) (args .at .0)
+    (is-ch (rw (after .ensures) at (peek .ensures)) (42 + (args .k)) (if1 .left)) (w .given .0 .0 .0) (rw (
+      twice _ (after .ensures)
+          (after2 .ensures),
+      w .given .1,
+    ) at (skip .ensures)) (factor .last .1 .1 .1 .0)
+    (q .given .0 .0 .0) (q .given .0 .1 .0 .0) (rw (q .given .1) at (factor .ensures)) (pre .1 .0) (factor .kept .1 .1 .1 .0))

@@ -156,10 +156,10 @@ term-returns-5 t c =
     (not-ch (peek .ensures) 42 (c .before .if2 .left)) (not-ch (peek .ensures) 43 (c .if3 .left))
 
 abbrev pub terms-Inv-loop : terms-lts.InvT-loop
-terms-Inv-loop text d out₀ i₀ j₀ out i j = Looping (λ n x. Terms= d (drop n text) x) alternativeCode text i₀ out₀ j₀ i out j
+terms-Inv-loop text d out₀ from₀ to₀ out from to = Looping (λ n x. Terms= d (drop n text) x) alternativeCode text (from₀ .0) out₀ (to₀ .0) (from .0) out (to .0)
 
 abbrev pub terms-μ-loop : terms-lts.MeasureT-loop
-terms-μ-loop text d out₀ i₀ j₀ out i j = length text - i
+terms-μ-loop text d out₀ from₀ to₀ out from to = length text - from .0
 
 pub terms-loop-holds : (t : ℕ) → terms-lts.Need-loop-holds (terms-gets t) (terms-at t) terms.Post terms-Inv-loop terms-μ-loop
 terms-loop-holds t c =
@@ -173,7 +173,7 @@ terms-term-requires t c κs =
     let loop = c .before .loop in
     let args = c .before .before .before .before .args in
     let pre = c .before .before .before .before .pre in (
-      falls-at t (length (args .text .now)) (args .p .0) (loop .i) 3 2 ((loop .inv) .context .on) ((loop .inv) .room .place) (pre .0) (omega arith),
+      falls-at t (length (args .text .now)) (args .p .0) (loop .from .0) 3 2 ((loop .inv) .context .on) ((loop .inv) .room .place) (pre .0) (omega arith),
       (loop .inv) .room,
     )
 
@@ -194,7 +194,7 @@ terms-returns t c =
     let term = c .before .before .before .before .term in
     let loop = c .before .before .before .before .before .before .loop in
     let args = c .before .before .before .before .before .before .before .before .before .args in
-    loop-fail (loop .inv) (terms-none (args .d) (drop (loop .i) (args .text .now)) (rw (c .enum-told .given .1) at (term .ensures)))
+    loop-fail (loop .inv) (terms-none (args .d) (drop (loop .from .0) (args .text .now)) (rw (c .enum-told .given .1) at (term .ensures)))
 
 pub terms-peek-requires : (t : ℕ) → terms-lts.Need-peek-requires (terms-gets t) (terms-at t) terms.Post terms-Inv-loop terms-μ-loop
 terms-peek-requires t c κs = search needs
@@ -212,23 +212,21 @@ terms-returns-2 t c =
     let loop = c .before .before .before .before .before .before .before .before .before .loop in
     let args = c .before .before .before .before .before .before .before .before .before .before .before .before .args in
     let h = (loop .inv) .context .on in
-    loop-read (loop .inv) ((args .p .0) + 1) ((loop .i) + 1) (term .last .1 .1 .1 .0) (q .given .0 .0 .0) (q .given .0 .1 .0 .0) (omega arith)
-    (terms-stop (args .text .now) (loop .i) (args .d) (loop .out) (loop .j) (term .last .1 .1 .1 .0) (q .given .0 .0 .0)
+    loop-read (loop .inv) ((args .p .0) + 1) ((loop .from .0) + 1) (term .last .1 .1 .1 .0) (q .given .0 .0 .0) (q .given .0 .1 .0 .0) (omega arith)
+    (terms-stop (args .text .now) (loop .from .0) (args .d) (loop .out) (loop .to .0) (term .last .1 .1 .1 .0) (q .given .0 .0 .0)
     (q .given .0 .1 .0 .0) (rw (q .given .1) at (term .ensures)) (not-ch (c .before .peek .ensures) 44 (c .if1 .taken)))
 
-pub terms-add-t20 : (t : ℕ) → terms-lts.Need-add-t20 (terms-gets t) (terms-at t) terms.Post terms-Inv-loop terms-μ-loop
-terms-add-t20 t c =
+pub terms-after-requires : (t : ℕ) → terms-lts.Need-after-requires (terms-gets t) (terms-at t) terms.Post terms-Inv-loop terms-μ-loop
+terms-after-requires t c κs =
     let q = c .before .before .before .q in
     let args = c .before .before .before .before .before .before .before .before .before .before .before .before .args in
-    omega
-    (arith, (seen-in (args .text .now) (q .given .0 .0 .0) (c .before .peek .result) 44 (c .before .peek .ensures) (c .if1 .left) (omega arith)))
+    omega (arith, (seen-in (args .text .now) (q .given .0 .0 .0) (c .before .peek .result) 44 (c .before .peek .ensures) (c .if1 .left) (omega arith)))
 
 pub terms-skip-requires : (t : ℕ) → terms-lts.Need-skip-requires (terms-gets t) (terms-at t) terms.Post terms-Inv-loop terms-μ-loop
 terms-skip-requires t c κs =
-    let q = c .before .before .before .q in
-    let args = c .before .before .before .before .before .before .before .before .before .before .before .before .args in
-    omega
-    (arith, (seen-in (args .text .now) (q .given .0 .0 .0) (c .before .peek .result) 44 (c .before .peek .ensures) (c .if1 .left) (omega arith)))
+    let q = c .before .before .before .before .q in
+    let args = c .before .before .before .before .before .before .before .before .before .before .before .before .before .args in
+    omega (arith, c .after .ensures, (seen-in (args .text .now) (q .given .0 .0 .0) (c .before .before .peek .result) 44 (c .before .before .peek .ensures) (c .before .if1 .left) (omega arith)))
 
 pub terms-enum-known-w : (t : ℕ) → terms-lts.Need-enum-known-w (terms-gets t) (terms-at t) terms.Post terms-Inv-loop terms-μ-loop
 terms-enum-known-w t c = search needs
@@ -238,48 +236,46 @@ terms-enum-told-2 t c = search needs
 
 pub terms-same-length-3 : (t : ℕ) → terms-lts.Need-same-length-3 (terms-gets t) (terms-at t) terms.Post terms-Inv-loop terms-μ-loop
 terms-same-length-3 t c =
-    let term = c .before .before .before .before .before .before .before .before .before .before .term in
-    let loop = c .before .before .before .before .before .before .before .before .before .before .before .before .loop in
+    let term = c .before .before .before .before .before .before .before .before .before .before .before .term in
+    let loop = c .before .before .before .before .before .before .before .before .before .before .before .before .before .loop in
     (term .kept .1 .1 .1 .0) ∙ ((loop .inv) .same)
 
 pub terms-returns-3 : (t : ℕ) → terms-lts.Need-returns-3 (terms-gets t) (terms-at t) terms.Post terms-Inv-loop terms-μ-loop
 terms-returns-3 t c =
     let skip = c .before .before .skip in
-    let if1 = c .before .before .before .if1 in
-    let peek = c .before .before .before .before .peek in
-    let q = c .before .before .before .before .before .before .q in
-    let term = c .before .before .before .before .before .before .before .before .before .before .term in
-    let loop = c .before .before .before .before .before .before .before .before .before .before .before .before .loop in
-    let args = c .before .before .before .before .before .before .before .before .before .before .before .before .before .before .before .args in
+    let if1 = c .before .before .before .before .if1 in
+    let peek = c .before .before .before .before .before .peek in
+    let q = c .before .before .before .before .before .before .before .q in
+    let term = c .before .before .before .before .before .before .before .before .before .before .before .term in
+    let loop = c .before .before .before .before .before .before .before .before .before .before .before .before .before .loop in
+    let args = c .before .before .before .before .before .before .before .before .before .before .before .before .before .before .before .before .args in
     loop-fail (loop .inv)
-    (terms-no-space (args .text .now) (loop .i) (args .d) (loop .out) (loop .j) (term .last .1 .1 .1 .0) (q .given .0 .0 .0)
+    (terms-no-space (args .text .now) (loop .from .0) (args .d) (loop .out) (loop .to .0) (term .last .1 .1 .1 .0) (q .given .0 .0 .0)
     (q .given .0 .1 .0 .0) (rw (q .given .1) at (term .ensures)) (is-ch (peek .ensures) 44 (if1 .left))
-    (rw (c .enum-told2 .given .1) at (skip .ensures)))
+    (rw (c .before .before .before .after .ensures, c .enum-told2 .given .1) at (skip .ensures)))
 
 pub terms-loop-less : (t : ℕ) → terms-lts.Need-loop-less (terms-gets t) (terms-at t) terms.Post terms-Inv-loop terms-μ-loop
 terms-loop-less t c =
     let skip = c .before .before .before .skip in
-    let if1 = c .before .before .before .before .if1 in
-    let peek = c .before .before .before .before .before .peek in
-    let q = c .before .before .before .before .before .before .before .q in
-    let term = c .before .before .before .before .before .before .before .before .before .before .before .term in
-    let loop = c .before .before .before .before .before .before .before .before .before .before .before .before .before .loop in
-    let args = c .before .before .before .before .before .before .before .before .before .before .before .before .before .before .before .before
-    .args in
-    terms-less (args .text .now) (loop .i) (args .d) (loop .out) (loop .j) (term .last .1 .1 .1 .0) (q .given .0 .0 .0) (q .given .0 .1 .0 .0)
+    let if1 = c .before .before .before .before .before .if1 in
+    let peek = c .before .before .before .before .before .before .peek in
+    let q = c .before .before .before .before .before .before .before .before .q in
+    let term = c .before .before .before .before .before .before .before .before .before .before .before .before .term in
+    let loop = c .before .before .before .before .before .before .before .before .before .before .before .before .before .before .loop in
+    let args = c .before .before .before .before .before .before .before .before .before .before .before .before .before .before .before .before .before .args in
+    terms-less (args .text .now) (loop .from .0) (args .d) (loop .out) (loop .to .0) (term .last .1 .1 .1 .0) (q .given .0 .0 .0) (q .given .0 .1 .0 .0)
     (rw (q .given .1) at (term .ensures)) (is-ch (peek .ensures) 44 (if1 .left)) (c .before .w .given .0 .0 .0)
-    (rw (c .before .w .given .1) at (skip .ensures))
+    (rw (c .before .before .before .before .after .ensures, c .before .w .given .1) at (skip .ensures))
 
 pub terms-loop-again : (t : ℕ) → terms-lts.Need-loop-again (terms-gets t) (terms-at t) terms.Post terms-Inv-loop terms-μ-loop
 terms-loop-again t c =
     let skip = c .before .before .before .skip in
-    let if1 = c .before .before .before .before .if1 in
-    let peek = c .before .before .before .before .before .peek in
-    let q = c .before .before .before .before .before .before .before .q in
-    let term = c .before .before .before .before .before .before .before .before .before .before .before .term in
-    let loop = c .before .before .before .before .before .before .before .before .before .before .before .before .before .loop in
-    let args = c .before .before .before .before .before .before .before .before .before .before .before .before .before .before .before .before
-    .args in
-    terms-again (args .text .now) (loop .i) (args .d) (loop .out) (loop .j) (term .last .1 .1 .1 .0) (q .given .0 .0 .0) (q .given .0 .1 .0 .0)
+    let if1 = c .before .before .before .before .before .if1 in
+    let peek = c .before .before .before .before .before .before .peek in
+    let q = c .before .before .before .before .before .before .before .before .q in
+    let term = c .before .before .before .before .before .before .before .before .before .before .before .before .term in
+    let loop = c .before .before .before .before .before .before .before .before .before .before .before .before .before .before .loop in
+    let args = c .before .before .before .before .before .before .before .before .before .before .before .before .before .before .before .before .before .args in
+    terms-again (args .text .now) (loop .from .0) (args .d) (loop .out) (loop .to .0) (term .last .1 .1 .1 .0) (q .given .0 .0 .0) (q .given .0 .1 .0 .0)
     (rw (q .given .1) at (term .ensures)) (is-ch (peek .ensures) 44 (if1 .left)) (c .before .w .given .0 .0 .0)
-    (rw (c .before .w .given .1) at (skip .ensures)) (loop .inv) (term .kept .1 .1 .1 .0)
+    (rw (c .before .before .before .before .after .ensures, c .before .w .given .1) at (skip .ensures)) (loop .inv) (term .kept .1 .1 .1 .0)

@@ -21,17 +21,17 @@ returns c =
 
 returns-2 : tie.Need-returns-2
 returns-2 c =
-    let q = c .before .before .before .q in
-    let skip = c .before .before .before .before .before .skip in
-    let args = c .before .before .before .before .before .before .before .args in
+    let q = c .before .before .before .before .q in
+    let skip = c .before .before .before .before .before .before .skip in
+    let args = c .before .before .before .before .before .before .before .before .args in
     let k : Skipped (args .text .now) (args .p .0) (q .given .0 .0 .0) = rw (q .given .1) at (skip .ensures) in
     required-still (args .text .now) (args .p .0) (q .given .0 .0 .0) k (c .if1 .taken)
 
 returns-3 : tie.Need-returns-3
 returns-3 c =
-    let q = c .before .before .before .q in
-    let skip = c .before .before .before .before .before .skip in
-    let args = c .before .before .before .before .before .before .before .args in
+    let q = c .before .before .before .before .q in
+    let skip = c .before .before .before .before .before .before .skip in
+    let args = c .before .before .before .before .before .before .before .before .args in
     let k : Skipped (args .text .now) (args .p .0) (q .given .0 .0 .0) = rw (q .given .1) at (skip .ensures) in
     required-moved (args .text .now) (args .p .0) (q .given .0 .0 .0) k (c .if1 .left)
 

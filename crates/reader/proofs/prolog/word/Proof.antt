@@ -7,10 +7,10 @@ use Rattle.reader.proofs.prolog.word.Statement.{statement}
 use Rattle.reader.proofs.prolog.word.Tie as tie
 
 abbrev Inv-loop : tie.InvT-loop
-Inv-loop text w i₀ k₀ i k = Spelled w text i₀ i k
+Inv-loop text w at₀ k₀ at k = Spelled w text (at₀ .0) (at .0) k
 
 abbrev μ-loop : tie.MeasureT-loop
-μ-loop text w i₀ k₀ i k = length w - k
+μ-loop text w at₀ k₀ at k = length w - k
 
 loop-holds : tie.Need-loop-holds Inv-loop μ-loop
 loop-holds c = spelled-start _ _ _ (c .before .before .pre)
@@ -30,10 +30,10 @@ returns c =
     let loop-test = c .before .before .before .loop-test in
     let loop = c .before .before .before .before .loop in
     let args = c .before .before .before .before .before .before .before .args in
-    spelled-no (args .w .now) (args .text .now) (args .p .0) (loop .i) (loop .k) (loop .inv) (loop-test .taken) _ (peek .ensures) (c .if1 .taken)
+    spelled-no (args .w .now) (args .text .now) (args .p .0) (loop .at .0) (loop .k) (loop .inv) (loop-test .taken) _ (peek .ensures) (c .if1 .taken)
 
-add-i : tie.Need-add-i Inv-loop μ-loop
-add-i c =
+after-requires : tie.Need-after-requires Inv-loop μ-loop
+after-requires c κs =
     let peek = c .before .before .peek in
     let loop-test = c .before .before .before .loop-test in
     let loop = c .before .before .before .before .loop in
@@ -42,7 +42,7 @@ add-i c =
     let l : getD (args .w .now) (loop .k) 0 < 256 = omega (arith, (c .before .shared-slice-known3 .given) (loop .k)) in
     omega (
       arith,
-      spelled-in (args .w .now) (args .text .now) (args .p .0) (loop .i) (loop .k) (loop .inv) (loop-test .taken) _ (peek .ensures)
+      spelled-in (args .w .now) (args .text .now) (args .p .0) (loop .at .0) (loop .k) (loop .inv) (loop-test .taken) _ (peek .ensures)
           (c .if1 .left) l,
       (good .0),
     )
@@ -55,18 +55,19 @@ loop-less c = omega arith
 
 loop-again : tie.Need-loop-again Inv-loop μ-loop
 loop-again c =
-    let peek = c .before .before .peek in
-    let loop-test = c .before .before .before .loop-test in
-    let loop = c .before .before .before .before .loop in
-    let args = c .before .before .before .before .before .before .before .args in
-    let l : getD (args .w .now) (loop .k) 0 < 256 = omega (arith, (c .before .shared-slice-known3 .given) (loop .k)) in
-    spelled-on (args .w .now) (args .text .now) (args .p .0) (loop .i) (loop .k) (loop .inv) (loop-test .taken) _ (peek .ensures) (c .if1 .left) l
+    let peek = c .before .before .before .peek in
+    let loop-test = c .before .before .before .before .loop-test in
+    let loop = c .before .before .before .before .before .loop in
+    let args = c .before .before .before .before .before .before .before .before .args in
+    let l : getD (args .w .now) (loop .k) 0 < 256 = omega (arith, (c .before .before .shared-slice-known3 .given) (loop .k)) in
+    rw (c .after .ensures)
+    (spelled-on (args .w .now) (args .text .now) (args .p .0) (loop .at .0) (loop .k) (loop .inv) (loop-test .taken) _ (peek .ensures) (c .before .if1 .left) l)
 
 returns-2 : tie.Need-returns-2 Inv-loop μ-loop
 returns-2 c =
     let loop = c .before .loop in
     let args = c .before .before .before .before .args in
-    spelled-end (args .w .now) (args .text .now) (args .p .0) (loop .i) (loop .k) (loop .inv) (c .loop-test .left)
+    spelled-end (args .w .now) (args .text .now) (args .p .0) (loop .at .0) (loop .k) (loop .inv) (c .loop-test .left)
 
 pub word-spec : {M : Type 1} → statement M
 word-spec =
@@ -79,7 +80,7 @@ word-spec =
     shared-slice-read-if1
     cast-if1
     returns
-    add-i
+    after-requires
     add-k
     loop-less
     loop-again

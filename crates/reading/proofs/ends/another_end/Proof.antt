@@ -19,7 +19,7 @@ value-requires c κs = search needs
 returns-3 : tie.Need-returns-3
 returns-3 c =
     let height = c .before .before .height in
-    let if1 = c .before .before .before .if1 in
+    let if1 = c .before .before .before .before .before .before .if1 in
     tells-ne (c .value .result) 4294967295
     (λ f. record { other = if1 .left; one = λ e. c .before .if2 .left (height .ensures ∙ e); others = λ e. f (c .value .ensures ∙ e) })
     (λ w e. w .others (sym (c .value .ensures) ∙ e))

@@ -13,7 +13,7 @@ value-requires c κs = search needs
 returns : tie.Need-returns
 returns c =
     let height = c .before .before .height in
-    let args = c .before .before .before .before .before .args in
+    let args = c .before .before .before .before .before .before .before .before .args in
     tells-le (c .value .result) (args .k)
     (λ l. record { one = omega (arith, height .ensures, c .before .if1 .taken); others = omega (arith, c .value .ensures) })
     (λ w. omega (arith, c .value .ensures, w .others))

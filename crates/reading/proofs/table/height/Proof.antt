@@ -17,7 +17,7 @@ mul-result c =
     let pre = c .before .before .pre in
     let a = args in
     let s = pre .1 in
-    omega (arith, c .cell .ensures, cell-lt (a .s .n) (a .p) (a .s .i) (a .s .j) (length (now (a .main))) (s .order) (s .inside) (pre .0 .cells))
+    omega (arith, c .cell .ensures, cell-lt (a .s .n .0) (a .p) (a .s .i .0) (a .s .j .0) (length (now (a .main))) (s .order) (s .inside) (pre .0 .cells))
 
 shared-slice-read-result : tie.Need-shared-slice-read-result
 shared-slice-read-result c =
@@ -28,7 +28,7 @@ shared-slice-read-result c =
     omega (
       arith,
       c .before .cell .ensures,
-      cell-lt (a .s .n) (a .p) (a .s .i) (a .s .j) (length (now (a .main))) (s .order) (s .inside) (pre .0 .cells),
+      cell-lt (a .s .n .0) (a .p) (a .s .i .0) (a .s .j .0) (length (now (a .main))) (s .order) (s .inside) (pre .0 .cells),
     )
 
 returns : tie.Need-returns

@@ -20,8 +20,8 @@ returns c =
     let args = c .before .before .before .before .before .before .args in
     let a = args in
     sym
-    (value-empty (now (a .code)) (now (a .main)) (a .s .n) (a .p) (a .s .i) (a .s .j) (sym (number-at .ensures .0) ∙ if1 .taken) ∙ ap
-    emptyOr (eq-eqb (a .s .i) (a .s .j) (c .if2 .taken)))
+    (value-empty (now (a .code)) (now (a .main)) (a .s .n .0) (a .p) (a .s .i .0) (a .s .j .0) (sym (number-at .ensures .0) ∙ if1 .taken) ∙ ap
+    emptyOr (eq-eqb (a .s .i .0) (a .s .j .0) (c .if2 .taken)))
 
 returns-2 : tie.Need-returns-2
 returns-2 c =
@@ -30,8 +30,8 @@ returns-2 c =
     let args = c .before .before .before .before .before .before .args in
     let a = args in
     sym
-    (value-empty (now (a .code)) (now (a .main)) (a .s .n) (a .p) (a .s .i) (a .s .j) (sym (number-at .ensures .0) ∙ if1 .taken) ∙ ap
-    emptyOr (ne-eqb (a .s .i) (a .s .j) (c .if2 .left)))
+    (value-empty (now (a .code)) (now (a .main)) (a .s .n .0) (a .p) (a .s .i .0) (a .s .j .0) (sym (number-at .ensures .0) ∙ if1 .taken) ∙ ap
+    emptyOr (ne-eqb (a .s .i .0) (a .s .j .0) (c .if2 .left)))
 
 height-requires : tie.Need-height-requires
 height-requires c κs = search needs
@@ -42,7 +42,7 @@ returns-3 c =
     let args = c .before .before .before .before .before .args in
     let a = args in
     c .height .ensures ∙ sym
-    (value-cell (now (a .code)) (now (a .main)) (a .s .n) (a .p) (a .s .i) (a .s .j) (λ e. c .before .if1 .left (number-at .ensures .0 ∙ e)))
+    (value-cell (now (a .code)) (now (a .main)) (a .s .n .0) (a .p) (a .s .i .0) (a .s .j .0) (λ e. c .before .if1 .left (number-at .ensures .0 ∙ e)))
 
 pub value-spec : {M : Type 1} → statement M
 value-spec =

@@ -1,0 +1,64 @@
+use mathlib.Core.Path.{_∙_}
+use Rattle.load.proofs.Stages.{broken, kept, size-refuses, passes, to-static, to-size, static-asks, size-asks}
+use borrow.Author.Needs.{needs}
+use Rattle.load.proofs.check_tree.Statement.{statement}
+use Rattle.load.proofs.check_tree.Tie as tie
+
+static-refusal-requires : tie.Need-static-refusal-requires
+static-refusal-requires c κs = static-asks (c .before .args .table .now) (c .before .args .end) (c .before .pre)
+
+enum-told : tie.Need-enum-told
+enum-told c = search needs
+
+why-broken-requires : tie.Need-why-broken-requires
+why-broken-requires c κs = search needs
+
+returns : tie.Need-returns
+returns c =
+    let at-static-refusal = c .before .before in
+    let start = at-static-refusal .before .before in
+    λ g h. broken g (at-static-refusal .static-refusal .result) (c .why-broken .result) (c .before .match .keys2)
+    (c .why-broken .ensures) (at-static-refusal .static-refusal .ensures g
+    (to-static (start .args .table .now) (start .args .end) g (start .pre .within) h))
+
+grammar-size-requires : tie.Need-grammar-size-requires
+grammar-size-requires c κs = size-asks (c .before .before .before .before .args .table .now) (c .before .before .before .before .args .end) (c .before .before .before .before .pre)
+
+returns-2 : tie.Need-returns-2
+returns-2 c =
+    let at-static-refusal = c .before .before .before .before in
+    let start = at-static-refusal .before .before in
+    λ g h. size-refuses g (c .before .grammar-size .result)
+    (kept g (at-static-refusal .static-refusal .result) (c .before .before .enum-told .given .1)
+    (at-static-refusal .static-refusal .ensures g (to-static (start .args .table .now) (start .args .end) g (start .pre .within) h)))
+    (c .before .grammar-size .ensures g (to-size (start .args .table .now) (start .args .end) g h)) (search needs)
+
+version-mismatch-requires : tie.Need-version-mismatch-requires
+version-mismatch-requires c κs =
+    let start = c .before .before .before .before .before .before in
+    static-asks (start .args .table .now) (start .args .end) (start .pre)
+
+returns-3 : tie.Need-returns-3
+returns-3 c =
+    let at-grammar-size = c .before .before in
+    let at-enum-told = at-grammar-size .before in
+    let at-static-refusal = at-enum-told .before .before in
+    let start = at-static-refusal .before .before in
+    λ g h. passes g (start .args .end) (at-grammar-size .grammar-size .result) (c .version-mismatch .result)
+    (kept g (at-static-refusal .static-refusal .result) (at-enum-told .enum-told .given .1)
+    (at-static-refusal .static-refusal .ensures g (to-static (start .args .table .now) (start .args .end) g (start .pre .within) h)))
+    (at-grammar-size .grammar-size .ensures g (to-size (start .args .table .now) (start .args .end) g h)) (search needs)
+    (c .version-mismatch .ensures g (to-static (start .args .table .now) (start .args .end) g (start .pre .within) h))
+
+pub check-tree-spec : {M : Type 1} → statement M
+check-tree-spec =
+    tie.close
+    (tie.spec
+    static-refusal-requires
+    enum-told
+    why-broken-requires
+    returns
+    grammar-size-requires
+    returns-2
+    version-mismatch-requires
+    returns-3)
