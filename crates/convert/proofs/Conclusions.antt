@@ -19,6 +19,10 @@ use Rattle.writer.specs.declared.Written.the-variants as written
 use Rattle.writer.specs.Whole.{Job, Some, Writable, writtenNumber, writtenCount, Answered}
 use Rattle.dynamic_errors.specs.declared.Verdict.{Verdict}
 use Rattle.dynamic_errors.specs.Judgment.{topmost, judgmentOf, verdictNumber, Judged}
+use denote.Enum.Declared.{tagOf}
+use types.Run.{OneOf}
+use Rattle.dynamic_errors.proofs.Verdict.{the-type}
+use Rattle.dynamic_errors.specs.declared.Verdict.the-variants.{Allowed, RepeatedAttribute, NotXmlName, NotXmlCharacter, AttributeRoot, DeletedRoot, AttributeXmlns}
 use Rattle.convert.specs.declared.Converted.{Converted}
 use Rattle.convert.specs.declared.Converted.the-variants.{Xml, Refused}
 use Rattle.convert.specs.Concluded.{Parsing, Ready, Written, NotWritten, Concludes}
@@ -42,6 +46,20 @@ writable g r t e =
     let d = document g r t in
     let w = clear (twice d) (misnamed d) (unwritable d) (isAttribute (markOf g (root g))) (notOne d) (namespaced d) e in
     record { names = w .names; chars = w .chars; one = w .one }
+
+-- a verdict that does not allow the XML has a number
+pub some-verdict : (v : Verdict) → OneOf (1 ∷ 2 ∷ 3 ∷ 4 ∷ 5 ∷ 6 ∷ []) (tagOf the-type v) → verdictNumber v ≡ 0 → ⊥
+some-verdict Allowed h e = by h
+  where
+    by : OneOf (1 ∷ 2 ∷ 3 ∷ 4 ∷ 5 ∷ 6 ∷ []) 0 → ⊥
+    by h = ⊎-elim (λ q. omega arith) (λ h. ⊎-elim (λ q. omega arith) (λ h. ⊎-elim (λ q. omega arith) (λ h. ⊎-elim (λ q. omega arith)
+        (λ h. ⊎-elim (λ q. omega arith) (λ q. omega arith) h) h) h) h) h
+some-verdict RepeatedAttribute h e = omega arith
+some-verdict NotXmlName h e = omega arith
+some-verdict NotXmlCharacter h e = omega arith
+some-verdict AttributeRoot h e = omega arith
+some-verdict DeletedRoot h e = omega arith
+some-verdict AttributeXmlns h e = omega arith
 
 module _ {T : List ℕ} {root : ℕ} {P : List ℕ} {r : Text} where
   pub room : {S : List ℕ} → Ready T root P r → length S ≡ 8192 → Room T P S

@@ -52,10 +52,9 @@ pub fn convert(
     let mut seen = [0u32; limits::READING_NUMBERS];
     left_parse::note(table, root, parse, &mut scratch);
     let judged = dynamic_errors::first_error(table, root, parse, record, &mut scratch, &mut seen);
-    let number = why(judged);
-    if number != refusals::ANSWERED {
-        return Converted::Refused(number);
-    }
+    let Verdict::Allowed = judged else {
+        return Converted::Refused(why(judged));
+    };
     let due = StateWords {
         ambiguous,
         mismatch,

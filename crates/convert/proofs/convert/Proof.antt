@@ -1,5 +1,7 @@
+use mathlib.Core.Path.{refl, sym, ap, _∙_}
 use native.Mathlib.Omega.{arith}
-use Rattle.convert.proofs.Conclusions.{room, some-job, some-later, forbidden, concluded, too-long}
+use Rattle.dynamic_errors.specs.Judgment.{verdictNumber}
+use Rattle.convert.proofs.Conclusions.{room, some-verdict, some-job, some-later, forbidden, concluded, too-long}
 use borrow.Author.Needs.{needs}
 use Rattle.convert.proofs.convert.Statement.{statement}
 use Rattle.convert.proofs.convert.Tie as tie
@@ -22,16 +24,19 @@ first-error-requires c κs =
     let start = at-note .before .before .before .before .before .before in
     (omega (arith, start .pre .few), (room (start .pre) (search needs), some-job (at-note .note .ensures) (start .pre)))
 
+enum-told : tie.Need-enum-told
+enum-told c = search needs
+
 why-requires : tie.Need-why-requires
 why-requires c κs = search needs
 
 returns : tie.Need-returns
 returns c =
-    let at-if1 = c in
-    let at-why = at-if1 .before in
-    let at-first-error = at-why .before .before .before in
+    let at-match = c .before in
+    let at-first-error = at-match .before .before .before in
     let at-note = at-first-error .before .before .before .before in
-    λ g t p. forbidden (at-note .note .ensures) (at-first-error .first-error .ensures) g t _ _ _ _ p (at-why .why .ensures) (at-if1 .if1 .taken)
+    λ g t p. forbidden (at-note .note .ensures) (at-first-error .first-error .ensures) g t _ _ _ _ p (c .why .ensures)
+    (λ z. some-verdict (at-first-error .first-error .result) (at-match .match .keys2) (sym (c .why .ensures) ∙ z))
 
 slice-aggregate-write-xml : tie.Need-slice-aggregate-write-xml
 slice-aggregate-write-xml c = search needs
@@ -46,8 +51,8 @@ write-xml-requires c κs =
 enum-known-written : tie.Need-enum-known-written
 enum-known-written c = search needs
 
-enum-told : tie.Need-enum-told
-enum-told c = search needs
+enum-told-2 : tie.Need-enum-told-2
+enum-told-2 c = search needs
 
 same-length : tie.Need-same-length
 same-length c = search needs
@@ -55,12 +60,11 @@ same-length c = search needs
 returns-2 : tie.Need-returns-2
 returns-2 c =
     let at-write-xml = c .before .before .before .before .before in
-    let at-if1 = at-write-xml .before .before .before in
-    let at-why = at-if1 .before in
-    let at-first-error = at-why .before .before .before in
+    let at-told = at-write-xml .before .before .before in
+    let at-first-error = at-told .before .before .before .before in
     let at-note = at-first-error .before .before .before .before in
-    λ g t p. too-long (at-note .note .ensures) (at-first-error .first-error .ensures) g t _ _ _ _ p (at-why .why .ensures) (at-if1 .if1 .left) _ _
-    (at-write-xml .write-xml .ensures g t) (c .enum-told .given .1)
+    λ g t p. too-long (at-note .note .ensures) (at-first-error .first-error .ensures) g t _ _ _ _ p (sym (ap verdictNumber (at-told .enum-told .given .1))) refl _ _
+    (at-write-xml .write-xml .ensures g t) (c .enum-told2 .given .1)
 
 same-length-2 : tie.Need-same-length-2
 same-length-2 c = search needs
@@ -68,11 +72,10 @@ same-length-2 c = search needs
 returns-3 : tie.Need-returns-3
 returns-3 c =
     let at-write-xml = c .before .before .before .before .before .before in
-    let at-if1 = at-write-xml .before .before .before in
-    let at-why = at-if1 .before in
-    let at-first-error = at-why .before .before .before in
+    let at-told = at-write-xml .before .before .before in
+    let at-first-error = at-told .before .before .before .before in
     let at-note = at-first-error .before .before .before .before in
-    λ g t p. concluded (at-note .note .ensures) (at-first-error .first-error .ensures) g t _ _ _ _ p (at-why .why .ensures) (at-if1 .if1 .left) _ _
+    λ g t p. concluded (at-note .note .ensures) (at-first-error .first-error .ensures) g t _ _ _ _ p (sym (ap verdictNumber (at-told .enum-told .given .1))) refl _ _
     (at-write-xml .write-xml .ensures g t) _ (c .before .written .given .1)
 
 pub convert-spec : {M : Type 1} → statement M
@@ -84,12 +87,13 @@ convert-spec =
     slice-aggregate-first-error
     slice-aggregate-first-error-2
     first-error-requires
+    enum-told
     why-requires
     returns
     slice-aggregate-write-xml
     write-xml-requires
     enum-known-written
-    enum-told
+    enum-told-2
     same-length
     returns-2
     same-length-2
