@@ -68,6 +68,21 @@ extern "C" {
 
 /* ---- Answers --------------------------------------------------------- */
 
+/* Where a job is at fault. A place that its number does not name is 0. */
+typedef struct {
+    /*
+     * With 2, 3, 12 and 13: the first byte of the sequence that breaks UTF-8
+     * (2, 12), or of the first character outside the alphabet (3, 13), counted
+     * from 0 at the first byte of the grammar (2, 3) or of the record (12, 13),
+     * a byte order mark included.
+     */
+    size_t byte;
+    /* 0 so far. */
+    size_t fault;
+    /* 0 so far. */
+    size_t grammar;
+} ixml_places;
+
 typedef struct {
     /* 0 (IXML_ANSWERED), or the number of a refusal. */
     uint32_t number;
@@ -86,6 +101,7 @@ typedef struct {
      * all the same. Set only with the numbers 0 and 16.
      */
     bool version;
+    ixml_places places;
 } ixml_answer;
 
 /*

@@ -15,6 +15,20 @@ pub struct Answer {
     /// The grammar's prolog names another version than 1.0; it is read as 1.0
     /// all the same. Only with the numbers 0 and 16.
     pub version: bool,
+    pub places: Places,
+}
+
+/// Where a job is at fault. A place that the number does not name is 0.
+#[repr(C)]
+#[derive(Clone, Copy, Debug, Default, PartialEq, Eq)]
+pub struct Places {
+    /// With 2, 3, 12 and 13: the first byte of what is not UTF-8, or outside the
+    /// alphabet, from the first byte of the grammar or of the record on.
+    pub byte: usize,
+    /// 0 so far.
+    pub fault: usize,
+    /// 0 so far.
+    pub grammar: usize,
 }
 
 impl Answer {

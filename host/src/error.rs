@@ -4,9 +4,12 @@ use crate::Answer;
 
 /// Declares the refusals, each with its number and its sentence.
 macro_rules! errors {
-    ($($(#[$attribute:meta])* $name:ident $({ $field:ident: $type:ty })? = $number:literal, $sentence:literal;)*) => {
+    ($($(#[$attribute:meta])* $name:ident $({ $($field:ident: $type:ty = $from:expr),+ })? = $number:literal, $sentence:literal;)*) => {
         /// Why a job was refused. The order is that in which refusals are
-        /// judged: the first that applies is given.
+        /// judged: the first that applies is given. `byte` is the place of the
+        /// first byte at fault and `quote` what stands there, as far as it is
+        /// known; `version_mismatch` says that the grammar's prolog names another
+        /// version than 1.0.
         ///
         /// ```
         /// let error = ixml::check(b"a: ['b'-'a'].").ok().unwrap_err();
@@ -23,10 +26,7 @@ macro_rules! errors {
             $(
                 #[doc = concat!(stringify!($number), ": ", $sentence, ".")]
                 $(#[$attribute])*
-                $name $({
-                    /// The grammar's prolog names another version than 1.0.
-                    $field: $type
-                })?,
+                $name $({ $($field: $type),+ })?,
             )*
         }
 
@@ -55,7 +55,7 @@ macro_rules! errors {
             /// answer, 0 apart.
             fn from(answer: Answer) -> Error {
                 match answer.number {
-                    $($number => Error::$name $({ $field: answer.version })?,)*
+                    $($number => Error::$name $({ $($field: $from(answer)),+ })?,)*
                     number => panic!("{number} is the number of no refusal"),
                 }
             }
@@ -65,8 +65,8 @@ macro_rules! errors {
 
 errors! {
     GrammarTooLong = 1, "the grammar is over 4,096 bytes long";
-    GrammarNotUtf8 = 2, "the grammar is not UTF-8";
-    GrammarCharacter = 3, "the grammar holds a character outside the alphabet (U+0000 to U+017F, U+0300 to U+036F, U+203F, U+2040)";
+    GrammarNotUtf8 { byte: usize = byte, quote: Quote = unquoted } = 2, "the grammar is not UTF-8";
+    GrammarCharacter { byte: usize = byte, quote: Quote = unquoted } = 3, "the grammar holds a character outside the alphabet (U+0000 to U+017F, U+0300 to U+036F, U+203F, U+2040)";
     NotIxml = 4, "the grammar is not in the ixml language, or nests brackets or comments over 16 deep";
     UndefinedName = 5, "the grammar uses a name that has no rule";
     RepeatedRule = 6, "the grammar has two rules of one name";
@@ -75,11 +75,11 @@ errors! {
     BackwardRange = 9, "the grammar has a range that runs backwards";
     UnknownClass = 10, "the grammar names a character class that does not exist";
     GrammarTooLarge = 11, "the grammar's size is over 512";
-    RecordNotUtf8 = 12, "the record is not UTF-8";
-    RecordCharacter = 13, "the record holds a character outside the alphabet (U+0000 to U+017F, U+0300 to U+036F, U+203F, U+2040)";
+    RecordNotUtf8 { byte: usize = byte, quote: Quote = unquoted } = 12, "the record is not UTF-8";
+    RecordCharacter { byte: usize = byte, quote: Quote = unquoted } = 13, "the record holds a character outside the alphabet (U+0000 to U+017F, U+0300 to U+036F, U+203F, U+2040)";
     RecordTooLong = 14, "the record has over 200 characters";
     TableTooShort = 15, "the main table or the grammar table is too short";
-    NoReading { version_mismatch: bool } = 16, "the grammar does not derive the record";
+    NoReading { version_mismatch: bool = version } = 16, "the grammar does not derive the record";
     ReadingTooLong = 29, "the chosen reading has over 4,096 numbers";
     RepeatedAttribute = 17, "the XML would have an attribute twice on one element";
     NotXmlName = 18, "the XML would have a name that is no XML name";
@@ -90,9 +90,107 @@ errors! {
     ResultTooLong = 23, "the result is longer than the buffer that was lent for it";
 }
 
+impl Error {
+    /// The place of the first byte at fault, for the refusals that name one.
+    ///
+    /// ```
+    /// let error = ixml::check(b"a: '\xE2'.").ok().unwrap_err();
+    /// assert_eq!(error.byte(), Some(4));
+    /// assert_eq!(error.to_string(), "refused 2: the grammar is not UTF-8, at byte 4");
+    /// ```
+    pub fn byte(self) -> Option<usize> {
+        match self {
+            Error::GrammarNotUtf8 { byte, .. }
+            | Error::GrammarCharacter { byte, .. }
+            | Error::RecordNotUtf8 { byte, .. }
+            | Error::RecordCharacter { byte, .. } => Some(byte),
+            _ => None,
+        }
+    }
+
+    /// The same error with the bytes at fault, from the job's texts.
+    ///
+    /// ```
+    /// let grammar = b"a: '\xE2\x28'.";
+    /// let error = ixml::check(grammar).ok().unwrap_err().quoting(grammar, b"");
+    /// assert_eq!(error.to_string(), "refused 2: the grammar is not UTF-8, at byte 4 (E2)");
+    /// ```
+    pub fn quoting(mut self, grammar: &[u8], record: &[u8]) -> Error {
+        match &mut self {
+            Error::GrammarNotUtf8 { byte, quote } | Error::GrammarCharacter { byte, quote } => {
+                *quote = Quote::at(grammar, *byte);
+            }
+            Error::RecordNotUtf8 { byte, quote } | Error::RecordCharacter { byte, quote } => {
+                *quote = Quote::at(record, *byte);
+            }
+            _ => {}
+        }
+        self
+    }
+
+    fn quote(self) -> Quote {
+        match self {
+            Error::GrammarNotUtf8 { quote, .. }
+            | Error::GrammarCharacter { quote, .. }
+            | Error::RecordNotUtf8 { quote, .. }
+            | Error::RecordCharacter { quote, .. } => quote,
+            _ => Quote::default(),
+        }
+    }
+}
+
+fn byte(answer: Answer) -> usize {
+    answer.places.byte
+}
+
+fn version(answer: Answer) -> bool {
+    answer.version
+}
+
+/// An answer alone does not have the texts.
+fn unquoted(_: Answer) -> Quote {
+    Quote::default()
+}
+
+/// The bytes at a fault: the first and those that continue it, at most four.
+#[derive(Clone, Copy, Debug, Default, PartialEq, Eq, Hash)]
+pub struct Quote {
+    bytes: [u8; 4],
+    length: usize,
+}
+
+impl Quote {
+    fn at(text: &[u8], place: usize) -> Quote {
+        let mut quote = Quote::default();
+        for (cell, &byte) in quote.bytes.iter_mut().zip(text.iter().skip(place)) {
+            if quote.length > 0 && byte & 0xC0 != 0x80 {
+                break;
+            }
+            *cell = byte;
+            quote.length += 1;
+        }
+        quote
+    }
+
+    /// Empty where the texts are not known.
+    pub fn bytes(&self) -> &[u8] {
+        &self.bytes[..self.length]
+    }
+}
+
 impl fmt::Display for Error {
     fn fmt(&self, formatter: &mut fmt::Formatter<'_>) -> fmt::Result {
-        write!(formatter, "refused {}: {}", self.number(), self.sentence())
+        write!(formatter, "refused {}: {}", self.number(), self.sentence())?;
+        if let Some(byte) = self.byte() {
+            write!(formatter, ", at byte {byte}")?;
+        }
+        match self.quote().bytes() {
+            [] => Ok(()),
+            bytes => {
+                let words: Vec<String> = bytes.iter().map(|byte| format!("{byte:02X}")).collect();
+                write!(formatter, " ({})", words.join(" "))
+            }
+        }
     }
 }
 

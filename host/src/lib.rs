@@ -26,8 +26,8 @@ pub mod ffi;
 pub mod limits;
 mod reader;
 
-pub use answer::Answer;
+pub use answer::{Answer, Places};
 pub use calls::{check, convert, read};
 pub use category::{category, Category};
-pub use error::Error;
+pub use error::{Error, Quote};
 pub use reader::{Converted, Reader, Reading};

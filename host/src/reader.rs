@@ -75,7 +75,8 @@ impl Reader {
             &mut self.grammar_table,
             &mut self.numbers,
         )
-        .ok()?;
+        .ok()
+        .map_err(|error| error.quoting(grammar, record))?;
         Ok(Reading {
             numbers: self.numbers[..answer.length].to_vec(),
             ambiguous: answer.ambiguous,
@@ -117,7 +118,7 @@ impl Reader {
                     let more = 8 * self.xml.len();
                     provide(&mut self.xml, more);
                 }
-                settled => break settled?,
+                settled => break settled.map_err(|error| error.quoting(grammar, record))?,
             }
         };
         let xml = self.xml[..answer.length].to_vec();

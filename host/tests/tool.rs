@@ -82,8 +82,14 @@ fn output(answer: Answer, result: &str) -> String {
     let marks = [answer.ambiguous, answer.version].map(u8::from);
     let result = if result.is_empty() { "-" } else { result };
     format!(
-        "{}\t{}\t{}\t{}\t{result}\t0\t0\t0",
-        answer.number, answer.length, marks[0], marks[1]
+        "{}\t{}\t{}\t{}\t{result}\t{}\t{}\t{}",
+        answer.number,
+        answer.length,
+        marks[0],
+        marks[1],
+        answer.places.byte,
+        answer.places.fault,
+        answer.places.grammar
     )
 }
 

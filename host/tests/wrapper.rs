@@ -17,9 +17,11 @@ fn every_refusal_has_its_number_and_a_sentence_of_its_own() {
         let error = answer.ok().expect_err("a refusal");
         assert_eq!(error.number(), number);
         assert!(sentences.insert(error.sentence()));
+        let place = error.byte().map(|byte| format!(", at byte {byte}"));
+        assert_eq!(place.is_some(), [2, 3, 12, 13].contains(&number));
         assert_eq!(
             error.to_string(),
-            format!("refused {number}: {}", error.sentence())
+            format!("refused {number}: {}{}", error.sentence(), place.unwrap_or_default())
         );
     }
     assert_eq!(sentences.len(), 24);
@@ -70,12 +72,16 @@ fn a_reader_reads_jobs_of_all_lengths() {
     }
     let refusals = [
         ("a: b.", "", Error::UndefinedName),
-        ("a: 'x'.", "\u{180}", Error::RecordCharacter),
         ("a: 'x'.", &"x".repeat(RECORD_CHARACTERS + 1), Error::RecordTooLong),
     ];
     for (grammar, record, refusal) in refusals {
         assert_eq!(reader.read(grammar, record), Err(refusal));
     }
+    let broken = reader.read("a: 'x'.", b"x\xE2\x82").expect_err("a refusal");
+    assert_eq!(broken.to_string(), "refused 12: the record is not UTF-8, at byte 1 (E2 82)");
+    let outside = reader.read("a: 'x'.", "x\u{180}y").expect_err("a refusal");
+    assert_eq!((outside.number(), outside.byte()), (13, Some(1)));
+    assert!(outside.to_string().ends_with(", at byte 1 (C6 80)"));
     let no_reading = reader.read("ixml version '2'. a: 'x'.", "y");
     let version_mismatch = true;
     assert_eq!(no_reading, Err(Error::NoReading { version_mismatch }));

@@ -4,7 +4,7 @@ use crate::engine;
 use crate::limits;
 use crate::plain::{plain, Plain};
 use crate::reading::{self, Reading};
-use crate::refusal::Refusal;
+use crate::refusal::{Places, Refusal};
 use crate::statics;
 use crate::syntax;
 use crate::text;
@@ -21,12 +21,14 @@ pub struct Answer {
     pub ambiguous: bool,
     /// The prolog names another version than 1.0.
     pub version: bool,
+    pub places: Places,
 }
 
 impl From<Refusal> for Answer {
     fn from(refusal: Refusal) -> Answer {
         Answer {
             number: refusal.number(),
+            places: refusal.places(),
             ..Answer::default()
         }
     }
@@ -139,6 +141,7 @@ fn derive(
             length,
             ambiguous,
             version,
+            ..Answer::default()
         },
         Err(Refusal::NoReading) => Answer {
             version,

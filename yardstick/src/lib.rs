@@ -25,4 +25,4 @@ mod program;
 pub use calls::{check, convert, read, Answer};
 pub use category::{category, Category};
 pub use program::program;
-pub use refusal::Refusal;
+pub use refusal::{Places, Refusal};

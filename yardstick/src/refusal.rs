@@ -1,12 +1,25 @@
-//! Why a job is refused.
+//! Why a job is refused, and where.
+
+/// Where a job is at fault: 0 where the number names no place.
+#[derive(Clone, Copy, Debug, Default, PartialEq, Eq)]
+pub struct Places {
+    /// Bytes from the first one of the grammar (2, 3) or of the record (12, 13).
+    pub byte: usize,
+    /// Characters of the record.
+    pub fault: usize,
+    /// Characters of the grammar.
+    pub grammar: usize,
+}
 
 /// The refusals in the order in which they are judged, which is not the order
 /// of their numbers: 29 stands right after 16.
 #[derive(Clone, Copy, Debug, PartialEq, Eq, PartialOrd, Ord, Hash)]
 pub enum Refusal {
     GrammarTooLong,
-    GrammarNotUtf8,
-    GrammarAlphabet,
+    /// With the byte place of the first sequence that is broken.
+    GrammarNotUtf8(usize),
+    /// With the byte place of the first character outside the alphabet.
+    GrammarAlphabet(usize),
     NotIxml,
     UndefinedName,
     RepeatedRule,
@@ -15,8 +28,8 @@ pub enum Refusal {
     BackwardRange,
     UnknownClass,
     GrammarTooLarge,
-    RecordNotUtf8,
-    RecordAlphabet,
+    RecordNotUtf8(usize),
+    RecordAlphabet(usize),
     RecordTooLong,
     TableTooShort,
     NoReading,
@@ -35,8 +48,8 @@ impl Refusal {
     pub const fn number(self) -> u32 {
         match self {
             Refusal::GrammarTooLong => 1,
-            Refusal::GrammarNotUtf8 => 2,
-            Refusal::GrammarAlphabet => 3,
+            Refusal::GrammarNotUtf8(_) => 2,
+            Refusal::GrammarAlphabet(_) => 3,
             Refusal::NotIxml => 4,
             Refusal::UndefinedName => 5,
             Refusal::RepeatedRule => 6,
@@ -45,8 +58,8 @@ impl Refusal {
             Refusal::BackwardRange => 9,
             Refusal::UnknownClass => 10,
             Refusal::GrammarTooLarge => 11,
-            Refusal::RecordNotUtf8 => 12,
-            Refusal::RecordAlphabet => 13,
+            Refusal::RecordNotUtf8(_) => 12,
+            Refusal::RecordAlphabet(_) => 13,
             Refusal::RecordTooLong => 14,
             Refusal::TableTooShort => 15,
             Refusal::NoReading => 16,
@@ -58,6 +71,22 @@ impl Refusal {
             Refusal::DeletedRoot => 21,
             Refusal::AttributeXmlns => 22,
             Refusal::ResultTooLong => 23,
+        }
+    }
+
+    /// The places that the answer carries.
+    pub const fn places(self) -> Places {
+        let byte = match self {
+            Refusal::GrammarNotUtf8(place)
+            | Refusal::GrammarAlphabet(place)
+            | Refusal::RecordNotUtf8(place)
+            | Refusal::RecordAlphabet(place) => place,
+            _ => 0,
+        };
+        Places {
+            byte,
+            fault: 0,
+            grammar: 0,
         }
     }
 }

@@ -11,10 +11,11 @@ pub fn grammar(bytes: &[u8]) -> Result<&str, Refusal> {
     if bytes.len() > limits::GRAMMAR_BYTES {
         return Err(Refusal::GrammarTooLong);
     }
-    let text = std::str::from_utf8(bytes).map_err(|_| Refusal::GrammarNotUtf8)?;
-    let text = text.strip_prefix(BYTE_ORDER_MARK).unwrap_or(text);
-    if !in_alphabet(text) {
-        return Err(Refusal::GrammarAlphabet);
+    let all = std::str::from_utf8(bytes)
+        .map_err(|broken| Refusal::GrammarNotUtf8(broken.valid_up_to()))?;
+    let text = all.strip_prefix(BYTE_ORDER_MARK).unwrap_or(all);
+    if let Some(place) = outside_alphabet(text) {
+        return Err(Refusal::GrammarAlphabet(all.len() - text.len() + place));
     }
     Ok(text)
 }
@@ -22,9 +23,10 @@ pub fn grammar(bytes: &[u8]) -> Result<&str, Refusal> {
 /// The record's characters; refusals 12 to 14. Each is judged over the whole
 /// record before the next, so a long record still shows a bad last byte.
 pub fn record(bytes: &[u8]) -> Result<Vec<char>, Refusal> {
-    let text = std::str::from_utf8(bytes).map_err(|_| Refusal::RecordNotUtf8)?;
-    if !in_alphabet(text) {
-        return Err(Refusal::RecordAlphabet);
+    let text = std::str::from_utf8(bytes)
+        .map_err(|broken| Refusal::RecordNotUtf8(broken.valid_up_to()))?;
+    if let Some(place) = outside_alphabet(text) {
+        return Err(Refusal::RecordAlphabet(place));
     }
     let characters: Vec<char> = text.chars().take(limits::RECORD_CHARACTERS + 1).collect();
     if characters.len() > limits::RECORD_CHARACTERS {
@@ -33,6 +35,9 @@ pub fn record(bytes: &[u8]) -> Result<Vec<char>, Refusal> {
     Ok(characters)
 }
 
-fn in_alphabet(text: &str) -> bool {
-    text.chars().all(alphabet::contains)
+/// The byte place of the first character outside the alphabet.
+fn outside_alphabet(text: &str) -> Option<usize> {
+    text.char_indices()
+        .find(|&(_, character)| !alphabet::contains(character))
+        .map(|(place, _)| place)
 }

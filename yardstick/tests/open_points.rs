@@ -243,13 +243,13 @@ fn a15_written_characters() {
 }
 
 #[test]
-fn a16_hex_above_ff_is_legal() {
+fn a16_hex_outside_the_alphabet_is_legal() {
     assert_reading(&[
-        ("a: #100.", "x", "refused 16"),
-        ("a: #100; \"x\".", "x", "1"),
+        ("a: #180.", "x", "refused 16"),
+        ("a: #180; \"x\".", "x", "1"),
     ]);
     assert_xml(&[
-        ("a: +#100.", "", "<a>\u{100}</a>"),
+        ("a: +#180.", "", "<a>\u{180}</a>"),
         ("a: +#20ac.", "", "<a>\u{20AC}</a>"),
         ("a: +#10FFFD.", "", "<a>\u{10FFFD}</a>"),
         ("a: [\"x\"-#20ac].", "\u{FF}", "<a>\u{FF}</a>"),

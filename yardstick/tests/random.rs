@@ -32,9 +32,8 @@ fn compare(job: &Job) -> u32 {
     let version = checked.version;
     let refused = |number: u32| Answer {
         number,
-        length: 0,
-        ambiguous: false,
         version: number == 16 && version,
+        ..Answer::default()
     };
     let syntax = syntax::read(&job.grammar).unwrap();
     let oracle = Oracle::new(&syntax, &job.record);
@@ -55,6 +54,7 @@ fn compare(job: &Job) -> u32 {
                 length,
                 ambiguous: outcome.ambiguous,
                 version,
+                ..Answer::default()
             };
             assert_eq!(reading, answered(outcome.numbers.len()), "{job:?}");
             assert_eq!(numbers[..reading.length], outcome.numbers, "{job:?}");

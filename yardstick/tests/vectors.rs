@@ -1,7 +1,7 @@
 //! Every line of the shared test vectors.
 
 use ixml_yardstick::limits::GRAMMAR_TABLE;
-use ixml_yardstick::{category, check, convert, program, read, Answer};
+use ixml_yardstick::{category, check, convert, program, read, Answer, Places};
 
 /// The lines of all files for one of these calls, a line's first field.
 fn lines(calls: &[&str]) -> Vec<Vec<String>> {
@@ -55,9 +55,13 @@ fn calls() {
             length: line[7].parse().unwrap(),
             ambiguous: line[8] == "1",
             version: line[9] == "1",
+            places: Places {
+                byte: line[11].parse().unwrap(),
+                fault: line[12].parse().unwrap(),
+                grammar: line[13].parse().unwrap(),
+            },
         };
         let result = &line[10];
-        assert_eq!(line[11..], ["0", "0", "0"], "line {number}");
         match line[0].as_str() {
             "check" => assert_eq!(check(&grammar), answer, "line {number}"),
             "read" => {

@@ -20,7 +20,7 @@ use Rattle.derive.specs.Chosen.{Reading, Second}
 use Rattle.derive.specs.Pick.{found, chosenOf}
 use Rattle.derive.proofs.Choose.{chosen-found}
 use Rattle.derive.proofs.Chosen.{chosen-derives, chosen-least}
-use Rattle.answer.specs.Answer.{Line, line, Topmost, GrammarTree, Job, ofReading, Shown, asNumbers, asXml, ResultOf, Answer, Answers, Checks, Reads, Converts}
+use Rattle.answer.specs.Answer.{jobNotes, Line, line, Topmost, GrammarTree, Job, ofReading, Shown, asNumbers, asXml, ResultOf, Answer, Answers, Checks, Reads, Converts}
 use Rattle.answer.specs.Answer.{grammarLines, inputLines, readingLines, recordLines, documentLines, tooLong}
 use Rattle.answer.specs.Demands.{None, Admitted, Underivable, ShortReading, Given, AsChecked, OfChecking, OfReading, OfConverting, OneReading, Demands}
 use Rattle.answer.proofs.Lines.{numbers, listed, other, head-given, none-given, passed, begun}
@@ -52,7 +52,7 @@ one-reading j {g} {h} {r} {s} {t} {u} {p} {q} m x n y =
 
 -- 2. The lines from 16 on, of a call whose last lines are ls and whose result is F.
 module _ (j : Job) (F : Shown) (ls : List Line) (old new : List ℕ) (a : Answer)
-    (w : Answers (grammarLines (j .grammar) (recordLines j ls)) (ResultOf j F) (j .grammar) old a new) where
+    (w : Answers (grammarLines (j .grammar) (recordLines j ls)) (jobNotes j) (ResultOf j F) (j .grammar) old a new) where
   later : Admitted j → Topmost (readingLines j ls) (a .number)
   later u = passed (grammarLines (j .grammar) (inputLines j [])) (readingLines j ls) (a .number) u (w .number)
 

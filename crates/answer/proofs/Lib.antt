@@ -1,4 +1,5 @@
 pub mod Lines
+pub mod Noted
 pub mod Agree
 pub mod Settled
 pub mod Stages

@@ -5,7 +5,7 @@ use mathlib.Core.Logic.{_⊎_, inl, inr, ⊎-elim, _↔_}
 use mathlib.Core.List.{List, [], _∷_, _++_}
 use Prim.Native.Nat.{ℕ}
 use lib.Dec.{T, eqb}
-use borrow.Author.Tests.{eq-eqb}
+use borrow.Author.Tests.{eq-eqb, eqb-true}
 use Rattle.text.specs.Lists.{all}
 use Rattle.text.proofs.Tests.{isT, notT, and-left, and-right}
 use Rattle.answer.specs.Answer.{Line, Topmost}
@@ -83,3 +83,31 @@ begun (l ∷ ls) ms m n (inl x) (inl y) = inr (y .1 ∙ sym (x .1))
 begun (l ∷ ls) ms m n (inl x) (inr y) = absurd (y .0 (x .0))
 begun (l ∷ ls) ms m n (inr x) (inl y) = absurd (x .0 (y .0))
 begun (l ∷ ls) ms m n (inr x) (inr y) = begun ls ms m n (x .1) (y .1)
+
+-- the numbers of a list are all different, and none is 0
+abbrev pub distinct : List ℕ → Bool
+distinct [] = true
+distinct (n ∷ ns) = (other n 0 && all (other n) ns) && distinct ns
+
+-- what the line of a number says
+abbrev pub applies : ℕ → List Line → Type 0
+applies n [] = ⊥
+applies n (l ∷ ls) = elim (eqb (l .number) n) as (λ _. Type 0) [ true ↦ l .Applies | false ↦ applies n ls ]
+
+-- a number is given only where its line applies
+pub given : (ls : List Line) (n : ℕ) → T (distinct (numbers ls)) → (n ≡ 0 → ⊥) → Topmost ls n → applies n ls
+given [] n d z t = z t
+given (l ∷ ls) n d z (inl x) =
+    subst (λ (b : Bool). elim b as (λ _. Type 0) [ true ↦ l .Applies | false ↦ applies n ls ]) (sym (eq-eqb (l .number) n (sym (x .1)))) (x .0)
+given (l ∷ ls) n d z (inr x) = go (given ls n (and-right (other (l .number) 0 && all (other (l .number)) (numbers ls)) (distinct (numbers ls)) d) z (x .1)) (eqb (l .number) n) refl
+  where
+    apart : T (other (l .number) 0 && all (other (l .number)) (numbers ls))
+    apart = and-left (other (l .number) 0 && all (other (l .number)) (numbers ls)) (distinct (numbers ls)) d
+
+    differs : T (other (l .number) n)
+    differs = listed (other (l .number)) ls n (and-left (other (l .number) 0) (all (other (l .number)) (numbers ls)) apart)
+        (and-right (other (l .number) 0) (all (other (l .number)) (numbers ls)) apart) (x .1)
+
+    go : applies n ls → (b : Bool) → eqb (l .number) n ≡ b → elim b as (λ _. Type 0) [ true ↦ l .Applies | false ↦ applies n ls ]
+    go rest true e = absurd (not-not (eqb n (l .number)) differs (isT (eq-eqb n (l .number) (sym (eqb-true (l .number) n e)))))
+    go rest false e = rest

@@ -24,11 +24,12 @@ use Rattle.derive.proofs.Choose.{found-chosen, chosen-found}
 use Rattle.derive.proofs.Ambiguous.{ambiguous-second}
 use Rattle.plain.specs.Static.{mismatched}
 use Rattle.answer.specs.Answer.{Line, line, Topmost, ofTree, grammarLines, recordLines, documentLines, Job, GrammarTree, ofReading}
-use Rattle.answer.specs.Answer.{Shown, asNumbers, asXml, ResultOf, tooLong, Answer, Answers, Checks, Reads, Converts}
+use Rattle.answer.specs.Answer.{Shown, asNumbers, asXml, ResultOf, tooLong, Notes, Placed, checkNotes, jobNotes, Answer, Answers, Checks, Reads, Converts}
 use Rattle.answer.specs.Compute.{Test, test, firstOf, onReading, grammarTests, recordTests, documentTests, isText, isTree, isFound}
 use Rattle.answer.specs.Compute.{onText, onJob, treeOf, afterMark, Result, result, resultOf, resultBy, Outcome, outcome, mismatch}
-use Rattle.answer.specs.Compute.{checkOf, longTest, callOf, readOf, convertOf}
-use Rattle.answer.proofs.Lines.{one-topmost, Agree, first-topmost}
+use Rattle.answer.specs.Compute.{Values, checkValues, jobValues, checkOf, longTest, callOf, readOf, convertOf}
+use Rattle.answer.proofs.Lines.{one-topmost, Agree, first-topmost, numbers, distinct}
+use Rattle.answer.proofs.Noted.{Sole, one-placed, Keeps, keeps-placed, keeps-check, keeps-job, sole-check, sole-job}
 use Rattle.answer.proofs.Agree.{Tests, grammar-agrees, record-agrees, document-agrees, tree-known, reading-known, same-test, less, tree-sound, tree-complete}
 
 -- two tests of one fact are one
@@ -36,19 +37,20 @@ pub same-mark : (a b : Bool) (A : Type 0) → T a ↔ A → T b ↔ A → a ≡ 
 same-mark true b A p q = sym (T-true b (q .1 (p .0 tt)))
 same-mark false b A p q = sym (T-false b (λ t. p .1 (q .0 t)))
 
-module _ (lines : List Line) (R : List ℕ → Bool → Type 0) (bs old : List ℕ) (one : (xs ys : List ℕ) (m n : Bool) → R xs m → R ys n → (xs ≡ ys) × (m ≡ n)) where
+module _ (lines : List Line) (notes : Notes) (sole : Sole notes) (R : List ℕ → Bool → Type 0) (bs old : List ℕ)
+    (one : (xs ys : List ℕ) (m n : Bool) → R xs m → R ys n → (xs ≡ ys) × (m ≡ n)) where
   -- no two answers
-  pub one-answer : (a b : Answer) (new new' : List ℕ) → Answers lines R bs old a new → Answers lines R bs old b new' → (a ≡ b) × (new ≡ new')
+  pub one-answer : (a b : Answer) (new new' : List ℕ) → Answers lines notes R bs old a new → Answers lines notes R bs old b new' → (a ≡ b) × (new ≡ new')
   one-answer a b new new' p q = elim (ℕ-discrete (a .number) 0) as (λ _. (a ≡ b) × (new ≡ new')) [
     | yes z ↦ (let x = p .answered z in
         let y = q .answered (sym same ∙ z) in
         let w = one (x .0) (y .0) (a .ambiguous) (b .ambiguous) (x .1) (y .1) in (
-          λ ι. record { number = same ι; length = (x .2 ∙ ap length (w .0) ∙ sym (y .2)) ι; ambiguous = w .1 ι; version = marks ι },
+          λ ι. record { number = same ι; length = (x .2 ∙ ap length (w .0) ∙ sym (y .2)) ι; ambiguous = w .1 ι; version = marks ι; places = where-at ι },
           x .3 ∙ ap (λ (xs : List ℕ). xs ++ drop (length xs) old) (w .0) ∙ sym (y .3),
         ))
     | no z ↦ (let x = p .refused z in
         let y = q .refused (λ e. z (same ∙ e)) in
-        (λ ι. record { number = same ι; length = (x .0 ∙ sym (y .0)) ι; ambiguous = (x .1 ∙ sym (y .1)) ι; version = marks ι }, x .2 ∙ sym (y .2)))
+        (λ ι. record { number = same ι; length = (x .0 ∙ sym (y .0)) ι; ambiguous = (x .1 ∙ sym (y .1)) ι; version = marks ι; places = where-at ι }, x .2 ∙ sym (y .2)))
   ]
     where
       same : a .number ≡ b .number
@@ -57,6 +59,9 @@ module _ (lines : List Line) (R : List ℕ → Bool → Type 0) (bs old : List �
       marks : a .version ≡ b .version
       marks = same-mark (a .version) (b .version) (((a .number ≡ 0) ⊎ (a .number ≡ 16)) × ofTree bs (λ g. T (mismatched g))) (p .version)
           (subst (λ (n : ℕ). T (b .version) ↔ (((n ≡ 0) ⊎ (n ≡ 16)) × ofTree bs (λ g. T (mismatched g)))) (sym same) (q .version))
+
+      where-at : a .places ≡ b .places
+      where-at = one-placed notes sole (a .number) (a .places) (b .places) (p .places) (subst (λ (n : ℕ). Placed notes n (b .places)) (sym same) (q .places))
 
 -- the computed one is one
 mark-0 : (m : Bool) (A : Type 0) (n : ℕ) → n ≡ 0 → T m ↔ A → T m ↔ (((n ≡ 0) ⊎ (n ≡ 16)) × A)
@@ -68,17 +73,20 @@ mark-other m A n z h = elim (ℕ-discrete n 16) as (λ _. T (eqb n 16 && m) ↔ 
   | no e ↦ rw (ne-eqb n 16 e) (λ t. absurd t, λ x. ⊎-elim (λ q. z q) (λ q. e q) (x .0))
 ]
 
-pub computed : (ls : List Line) (ts : List Test) (R : List ℕ → Bool → Type 0) (bs old : List ℕ) (x : Result) (m : Bool) → Agree ls ts → T m ↔ ofTree bs (λ g. T (mismatched g))
-    → (firstOf ts ≡ 0 → R (x .cells) (x .ambiguous)) → Answers ls R bs old (outcome old m (firstOf ts) x .answer) (outcome old m (firstOf ts) x .buffer)
-computed ls ts R bs old x m a v h = go (firstOf ts) (first-topmost ls ts a) h (eqb (firstOf ts) 0) refl
+pub computed : (ls : List Line) (ts : List Test) (notes : Notes) (vs : Values) (R : List ℕ → Bool → Type 0) (bs old : List ℕ) (x : Result) (m : Bool)
+    → Agree ls ts → T m ↔ ofTree bs (λ g. T (mismatched g))
+    → ((n : ℕ) → Topmost ls n → Keeps n notes vs) → (firstOf ts ≡ 0 → R (x .cells) (x .ambiguous))
+    → Answers ls notes R bs old (outcome old m vs (firstOf ts) x .answer) (outcome old m vs (firstOf ts) x .buffer)
+computed ls ts notes vs R bs old x m a v p h = go (firstOf ts) (first-topmost ls ts a) h (eqb (firstOf ts) 0) refl
   where
-    go : (n : ℕ) → Topmost ls n → (n ≡ 0 → R (x .cells) (x .ambiguous)) → (b : Bool) → eqb n 0 ≡ b → Answers ls R bs old (outcome old m n x .answer) (outcome old m n x .buffer)
+    go : (n : ℕ) → Topmost ls n → (n ≡ 0 → R (x .cells) (x .ambiguous)) → (b : Bool) → eqb n 0 ≡ b → Answers ls notes R bs old (outcome old m vs n x .answer) (outcome old m vs n x .buffer)
     go n t k true e =
         rw (e, outcome) (record {
           number = t;
           answered = λ z. (x .cells, k z, refl, refl);
           refused = λ z. absurd (z (eqb-true n 0 e));
           version = mark-0 m (ofTree bs (λ g. T (mismatched g))) n (eqb-true n 0 e) v;
+          places = keeps-placed n notes vs (p n t);
         })
     go n t k false e =
         rw (e, outcome) (record {
@@ -86,16 +94,17 @@ computed ls ts R bs old x m a v h = go (firstOf ts) (first-topmost ls ts a) h (e
           answered = λ z. absurd (eqb-false n 0 e z);
           refused = λ z. (refl, refl, refl);
           version = mark-other m (ofTree bs (λ g. T (mismatched g))) n (eqb-false n 0 e) v;
+          places = keeps-placed n notes vs (p n t);
         })
 
 -- Checking.
 mismatch-known : (bs : List ℕ) → T (mismatch bs) ↔ ofTree bs (λ g. T (mismatched g))
 mismatch-known bs = tree-known bs mismatched (λ g. T (mismatched g)) (λ g. same-test (mismatched g))
 
-no-buffer : (m : Bool) (n : ℕ) → outcome [] m n (result [] false) .buffer ≡ []
-no-buffer m n = go (eqb n 0) refl
+no-buffer : (m : Bool) (vs : Values) (n : ℕ) → outcome [] m vs n (result [] false) .buffer ≡ []
+no-buffer m vs n = go (eqb n 0) refl
   where
-    go : (b : Bool) → eqb n 0 ≡ b → outcome [] m n (result [] false) .buffer ≡ []
+    go : (b : Bool) → eqb n 0 ≡ b → outcome [] m vs n (result [] false) .buffer ≡ []
     go true e = rw (e, outcome)
     go false e = rw (e, outcome)
 
@@ -103,16 +112,17 @@ pub check-answers : (bs : List ℕ) → Checks bs (checkOf bs)
 unfolding checkOf
 check-answers bs =
     let n = firstOf (grammarTests bs []) in
-    let w = computed (grammarLines bs []) (grammarTests bs []) (λ xs m. (xs ≡ []) × (m ≡ false)) bs [] (result [] false) (mismatch bs)
-    (grammar-agrees bs [] [] tt) (mismatch-known bs) (λ z. (refl, refl)) in
-    subst (λ (new : List ℕ). Checks' bs (outcome [] (mismatch bs) n (result [] false) .answer) new) (no-buffer (mismatch bs) n) w
+    let w = computed (grammarLines bs []) (grammarTests bs []) (checkNotes bs) (checkValues bs) (λ xs m. (xs ≡ []) × (m ≡ false)) bs [] (result [] false) (mismatch bs)
+    (grammar-agrees bs [] [] tt) (mismatch-known bs) (keeps-check bs) (λ z. (refl, refl)) in
+    subst (λ (new : List ℕ). Checks' bs (outcome [] (mismatch bs) (checkValues bs) n (result [] false) .answer) new) (no-buffer (mismatch bs) (checkValues bs) n) w
   where
     Checks' : List ℕ → Answer → List ℕ → Type 0
-    Checks' bs a new = Answers (grammarLines bs []) (λ xs m. (xs ≡ []) × (m ≡ false)) bs [] a new
+    Checks' bs a new = Answers (grammarLines bs []) (checkNotes bs) (λ xs m. (xs ≡ []) × (m ≡ false)) bs [] a new
 
 pub check-settled : (bs : List ℕ) (a : Answer) → Checks bs a → a ≡ checkOf bs
 check-settled bs a p =
-    one-answer (grammarLines bs []) (λ xs m. (xs ≡ []) × (m ≡ false)) bs [] (λ xs ys m n x y. (x .0 ∙ sym (y .0), x .1 ∙ sym (y .1))) a (checkOf bs) [] [] p (check-answers bs) .0
+    one-answer (grammarLines bs []) (checkNotes bs) (sole-check bs) (λ xs m. (xs ≡ []) × (m ≡ false)) bs []
+    (λ xs ys m n x y. (x .0 ∙ sym (y .0), x .1 ∙ sym (y .1))) a (checkOf bs) [] [] p (check-answers bs) .0
 
 -- no test passes
 abbrev Fail : List Test → Type 0
@@ -200,40 +210,42 @@ module _ (j : Job) (F : Shown) where
       there-result (p .0) (e .0) (c .0) (p .1) (e .1) (c .1)
 
   -- the lines of a call, and its tests
-  module _ (old : List ℕ) (ls : List Line) (ts : List Test) (k : T (numbered (grammarTests (j .grammar) (recordTests j ts)))) (a : Agree ls ts) where
+  module _ (old : List ℕ) (ls : List Line) (ts : List Test) (k : T (numbered (grammarTests (j .grammar) (recordTests j ts))))
+      (d : T (distinct (numbers (grammarLines (j .grammar) (recordLines j ls))))) (a : Agree ls ts) where
     lines : List Line
     lines = grammarLines (j .grammar) (recordLines j ls)
 
     made : Outcome
-    made = outcome old (mismatch (j .grammar)) (firstOf (grammarTests (j .grammar) (recordTests j ts))) (resultOf j (resultBy F))
+    made = outcome old (mismatch (j .grammar)) (jobValues j) (firstOf (grammarTests (j .grammar) (recordTests j ts))) (resultOf j (resultBy F))
 
-    call-answers : Answers lines (ResultOf j F) (j .grammar) old (made .answer) (made .buffer)
+    call-answers : Answers lines (jobNotes j) (ResultOf j F) (j .grammar) old (made .answer) (made .buffer)
     unfolding lines made
     call-answers =
-        computed (grammarLines (j .grammar) (recordLines j ls)) (grammarTests (j .grammar) (recordTests j ts)) (ResultOf j F) (j .grammar) old (resultOf j (resultBy F)) (mismatch (j .grammar))
-        (grammar-agrees (j .grammar) (recordLines j ls) (recordTests j ts) (record-agrees j ls ts a)) (mismatch-known (j .grammar))
+        computed (grammarLines (j .grammar) (recordLines j ls)) (grammarTests (j .grammar) (recordTests j ts)) (jobNotes j) (jobValues j)
+        (ResultOf j F) (j .grammar) old (resultOf j (resultBy F)) (mismatch (j .grammar))
+        (grammar-agrees (j .grammar) (recordLines j ls) (recordTests j ts) (record-agrees j ls ts a)) (mismatch-known (j .grammar)) (keeps-job j ls d)
         (λ z. there ts (none-pass (grammarTests (j .grammar) (recordTests j ts)) k z))
 
-    call-settled : (b : Answer) (new : List ℕ) → Answers lines (ResultOf j F) (j .grammar) old b new → (b ≡ made .answer) × (new ≡ made .buffer)
-    call-settled b new p = one-answer lines (ResultOf j F) (j .grammar) old one-result b (made .answer) new (made .buffer) p call-answers
+    call-settled : (b : Answer) (new : List ℕ) → Answers lines (jobNotes j) (ResultOf j F) (j .grammar) old b new → (b ≡ made .answer) × (new ≡ made .buffer)
+    call-settled b new p = one-answer lines (jobNotes j) (sole-job j) (ResultOf j F) (j .grammar) old one-result b (made .answer) new (made .buffer) p call-answers
 
 -- the computed answer is an answer, and the only one
 pub read-answers : (j : Job) (old : List ℕ) → Reads j old (readOf j old .answer) (readOf j old .buffer)
 unfolding readOf lines made
-read-answers j old = call-answers j asNumbers old (tooLong j asNumbers old ∷ []) (longTest asNumbers j old ∷ []) tt (refl, long-known j asNumbers old, tt)
+read-answers j old = call-answers j asNumbers old (tooLong j asNumbers old ∷ []) (longTest asNumbers j old ∷ []) tt tt (refl, long-known j asNumbers old, tt)
 
 pub read-settled : (j : Job) (old : List ℕ) (a : Answer) (new : List ℕ) → Reads j old a new → (a ≡ readOf j old .answer) × (new ≡ readOf j old .buffer)
 unfolding readOf lines made
-read-settled j old a new p = call-settled j asNumbers old (tooLong j asNumbers old ∷ []) (longTest asNumbers j old ∷ []) tt (refl, long-known j asNumbers old, tt) a new p
+read-settled j old a new p = call-settled j asNumbers old (tooLong j asNumbers old ∷ []) (longTest asNumbers j old ∷ []) tt tt (refl, long-known j asNumbers old, tt) a new p
 
 pub convert-answers : (j : Job) (old : List ℕ) → Converts j old (convertOf j old .answer) (convertOf j old .buffer)
 unfolding convertOf lines made
 convert-answers j old =
-    call-answers j asXml old (documentLines j (tooLong j asXml old ∷ [])) (documentTests j (longTest asXml j old ∷ [])) tt
+    call-answers j asXml old (documentLines j (tooLong j asXml old ∷ [])) (documentTests j (longTest asXml j old ∷ [])) tt tt
     (document-agrees j (tooLong j asXml old ∷ []) (longTest asXml j old ∷ []) (refl, long-known j asXml old, tt))
 
 pub convert-settled : (j : Job) (old : List ℕ) (a : Answer) (new : List ℕ) → Converts j old a new → (a ≡ convertOf j old .answer) × (new ≡ convertOf j old .buffer)
 unfolding convertOf lines made
 convert-settled j old a new p =
-    call-settled j asXml old (documentLines j (tooLong j asXml old ∷ [])) (documentTests j (longTest asXml j old ∷ [])) tt
+    call-settled j asXml old (documentLines j (tooLong j asXml old ∷ [])) (documentTests j (longTest asXml j old ∷ [])) tt tt
     (document-agrees j (tooLong j asXml old ∷ []) (longTest asXml j old ∷ []) (refl, long-known j asXml old, tt)) a new p

@@ -9,6 +9,7 @@ use lib.ListN.{length, drop}
 use Rattle.text.specs.Limits.{grammarBytes, mostSize, recordChars, grammarTable, readingNumbers}
 use Rattle.text.specs.Lists.{Text, all}
 use Rattle.text.specs.Utf8.{Utf8, unmarked, known}
+use Rattle.text.specs.Faults.{every, Breaks, afterMark}
 use Rattle.category.specs.Category.{categoryNumber}
 use Rattle.tree.specs.Tree.{Grammar}
 use Rattle.syntax.specs.Syntax.{Ixml}
@@ -126,30 +127,75 @@ ResultOf j F xs m = ofReading j (λ g r t p. (T m ↔ Second g r p) × (xs ≡ F
 abbrev pub tooLong : Job → Shown → List ℕ → Line
 tooLong j F old = line 23 ((xs : List ℕ) × (m : Bool) × ResultOf j F xs m × (length old < length xs))
 
--- "An answer holds the number, a length, an ambiguous mark and a version mark."
+-- the places that an answer carries: of a byte, of a character of the record, of one of the grammar
+pub record Places : Type 0 where
+  pub byte : ℕ
+  pub fault : ℕ
+  pub grammar : ℕ
+
+-- what the place beside a number is
+pub record Note : Type 1 where
+  pub number : ℕ
+  pub Says : ℕ → Type 0
+
+abbrev pub note : ℕ → (ℕ → Type 0) → Note
+note n P = record { number = n; Says = P }
+
+-- the place beside a number is as its note says; "every other answer carries 0 there"
+abbrev pub Noted : List Note → ℕ → ℕ → Type 0
+Noted [] n p = p ≡ 0
+Noted (x ∷ xs) n p = ((n ≡ x .number) × x .Says p) ⊎ ((n ≡ x .number → ⊥) × Noted xs n p)
+
+-- the notes of a call, for each of the three places
+pub record Notes : Type 1 where
+  pub bytes : List Note
+  pub faults : List Note
+  pub grammars : List Note
+
+pub record Placed (notes : Notes) (n : ℕ) (p : Places) : Type 0 where
+  pub byte : Noted (notes .bytes) n (p .byte)
+  pub fault : Noted (notes .faults) n (p .fault)
+  pub grammar : Noted (notes .grammars) n (p .grammar)
+
+-- "Answers 2, 3, 12 and 13 carry that byte place … For 2 and 12 the pattern is UTF-8, for 3 and 13 … it is" the alphabet
+abbrev pub grammarNotes : List ℕ → List Note → List Note
+grammarNotes bs xs = note 2 (Breaks every bs (afterMark bs)) ∷ note 3 (Breaks known bs (afterMark bs)) ∷ xs
+
+abbrev pub inputNotes : List ℕ → List Note → List Note
+inputNotes bs xs = note 12 (Breaks every bs 0) ∷ note 13 (Breaks known bs 0) ∷ xs
+
+abbrev pub checkNotes : List ℕ → Notes
+checkNotes bs = record { bytes = grammarNotes bs []; faults = []; grammars = [] }
+
+abbrev pub jobNotes : Job → Notes
+jobNotes j = record { bytes = grammarNotes (j .grammar) (inputNotes (j .input) []); faults = []; grammars = [] }
+
+-- "An answer holds the number, a length, an ambiguous mark and a version mark", and the places
 pub record Answer : Type 0 where
   pub number : ℕ
   pub length : ℕ
   pub ambiguous : Bool
   pub version : Bool
+  pub places : Places
 
 -- "Length is 0 unless the number is 0 … The ambiguous mark may be set only with 0 … The version mark is set, for 0 and 16, exactly
 -- when … A result fills the first bytes or numbers of its buffer; the rest, and on every refusal the whole buffer, is unchanged."
-pub record Answers (lines : List Line) (Result : List ℕ → Bool → Type 0) (bs : List ℕ) (old : List ℕ) (a : Answer) (new : List ℕ) : Type 0 where
+pub record Answers (lines : List Line) (notes : Notes) (Result : List ℕ → Bool → Type 0) (bs : List ℕ) (old : List ℕ) (a : Answer) (new : List ℕ) : Type 0 where
   pub number : Topmost lines (a .number)
   pub answered : a .number ≡ 0 → (xs : List ℕ) × Result xs (a .ambiguous) × (a .length ≡ length xs) × (new ≡ xs ++ drop (length xs) old)
   pub refused : (a .number ≡ 0 → ⊥) → (a .length ≡ 0) × (a .ambiguous ≡ false) × (new ≡ old)
   pub version : T (a .version) ↔ (((a .number ≡ 0) ⊎ (a .number ≡ 16)) × ofTree bs (λ g. T (mismatched g)))
+  pub places : Placed notes (a .number) (a .places)
 
 -- the four calls: "Checking gives 0 to 11 only, … reading gives 0 to 16, 29 and 23; converting gives all."
 abbrev pub Checks : List ℕ → Answer → Type 0
-Checks bs a = Answers (grammarLines bs []) (λ xs m. (xs ≡ []) × (m ≡ false)) bs [] a []
+Checks bs a = Answers (grammarLines bs []) (checkNotes bs) (λ xs m. (xs ≡ []) × (m ≡ false)) bs [] a []
 
 abbrev pub Reads : Job → List ℕ → Answer → List ℕ → Type 0
-Reads j old = Answers (grammarLines (j .grammar) (recordLines j (tooLong j asNumbers old ∷ []))) (ResultOf j asNumbers) (j .grammar) old
+Reads j old = Answers (grammarLines (j .grammar) (recordLines j (tooLong j asNumbers old ∷ []))) (jobNotes j) (ResultOf j asNumbers) (j .grammar) old
 
 abbrev pub Converts : Job → List ℕ → Answer → List ℕ → Type 0
-Converts j old = Answers (grammarLines (j .grammar) (recordLines j (documentLines j (tooLong j asXml old ∷ [])))) (ResultOf j asXml) (j .grammar) old
+Converts j old = Answers (grammarLines (j .grammar) (recordLines j (documentLines j (tooLong j asXml old ∷ [])))) (jobNotes j) (ResultOf j asXml) (j .grammar) old
 
 abbrev pub Categorizes : ℕ → ℕ → Type 0
 Categorizes code n = n ≡ categoryNumber code

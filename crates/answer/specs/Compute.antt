@@ -7,7 +7,8 @@ use lib.ListN.{length, drop}
 use Rattle.text.specs.Limits.{grammarBytes, mostSize, recordChars, grammarTable, readingNumbers}
 use Rattle.text.specs.Lists.{Text, all}
 use Rattle.text.specs.Utf8.{unmarked, known}
-use Rattle.text.specs.Decode.{Decoded, text, not-utf8, decode}
+use Rattle.text.specs.Decode.{Decoded, text, not-utf8, decode, breakOf}
+use Rattle.text.specs.Faults.{every, afterMark as afterBytes}
 use Rattle.tree.specs.Tree.{Grammar}
 use Rattle.syntax.specs.Parser.{Parsed, parsed, no-parse, parse}
 use Rattle.plain.specs.Static.{undefined, duplicate, beyond, banned, backwards, unclassed, mismatched}
@@ -16,7 +17,7 @@ use Rattle.derive.specs.Derive.{Row, root, leftParse}
 use Rattle.derive.specs.Pick.{Choice, found, no-choice, chosenOf}
 use Rattle.derive.specs.Another.{ambiguousOf}
 use Rattle.xml.specs.Document.{document, markOf, twice, misnamed, unwritable, isAttribute, notOne, namespaced}
-use Rattle.answer.specs.Answer.{Job, tableNeed, Shown, asNumbers, asXml, Answer}
+use Rattle.answer.specs.Answer.{Job, tableNeed, Shown, asNumbers, asXml, Places, Answer}
 
 -- a line's number, and a test that waits until it is asked
 pub record Test : Type 0 where
@@ -130,29 +131,64 @@ resultOf j f = resultTree (treeOf (j .grammar)) (λ g. resultText (decode (j .in
 abbrev pub resultBy : Shown → Grammar → Text → Row → Result
 resultBy F g r t = let m = ambiguousOf g r t in result (F m g r t (leftParse t)) m
 
--- an answer and its buffer, from the number and the result
+-- the place beside a number, computed when it is asked
+pub record Value : Type 0 where
+  pub number : ℕ
+  pub value : Unit {0} → ℕ
+
+abbrev pub value : ℕ → (Unit {0} → ℕ) → Value
+value n f = record { number = n; value = f }
+
+abbrev pub valueAt : List Value → ℕ → ℕ
+valueAt [] n = 0
+valueAt (v ∷ vs) n = elim (eqb n (v .number)) [ true ↦ v .value tt | false ↦ valueAt vs n ]
+
+pub record Values : Type 0 where
+  pub bytes : List Value
+  pub faults : List Value
+  pub grammars : List Value
+
+abbrev pub placesAt : Values → ℕ → Places
+placesAt v n = record { byte = valueAt (v .bytes) n; fault = valueAt (v .faults) n; grammar = valueAt (v .grammars) n }
+
+abbrev pub grammarValues : List ℕ → List Value → List Value
+grammarValues bs vs = value 2 (λ _. breakOf every bs (afterBytes bs)) ∷ value 3 (λ _. breakOf known bs (afterBytes bs)) ∷ vs
+
+abbrev pub inputValues : List ℕ → List Value → List Value
+inputValues bs vs = value 12 (λ _. breakOf every bs 0) ∷ value 13 (λ _. breakOf known bs 0) ∷ vs
+
+abbrev pub checkValues : List ℕ → Values
+checkValues bs = record { bytes = grammarValues bs []; faults = []; grammars = [] }
+
+abbrev pub jobValues : Job → Values
+jobValues j = record { bytes = grammarValues (j .grammar) (inputValues (j .input) []); faults = []; grammars = [] }
+
+-- an answer and its buffer, from the number, the result and the places
 pub record Outcome : Type 0 where
   pub answer : Answer
   pub buffer : List ℕ
 
-abbrev pub outcome : List ℕ → Bool → ℕ → Result → Outcome
-outcome old mismatch n x = elim (eqb n 0) [
-  | true ↦ record { answer = record { number = n; length = length (x .cells); ambiguous = x .ambiguous; version = mismatch }; buffer = x .cells ++ drop (length (x .cells)) old }
-  | false ↦ record { answer = record { number = n; length = 0; ambiguous = false; version = eqb n 16 && mismatch }; buffer = old }
+abbrev pub outcome : List ℕ → Bool → Values → ℕ → Result → Outcome
+outcome old mismatch v n x = elim (eqb n 0) [
+  | true ↦ record {
+    answer = record { number = n; length = length (x .cells); ambiguous = x .ambiguous; version = mismatch; places = placesAt v n };
+    buffer = x .cells ++ drop (length (x .cells)) old;
+  }
+  | false ↦ record { answer = record { number = n; length = 0; ambiguous = false; version = eqb n 16 && mismatch; places = placesAt v n }; buffer = old }
 ]
 
 abbrev pub mismatch : List ℕ → Bool
 mismatch bs = onTree (treeOf bs) mismatched
 
 unfoldable pub checkOf : List ℕ → Answer
-checkOf bs = outcome [] (mismatch bs) (firstOf (grammarTests bs [])) (result [] false) .answer
+checkOf bs = outcome [] (mismatch bs) (checkValues bs) (firstOf (grammarTests bs [])) (result [] false) .answer
 
 abbrev pub longTest : Shown → Job → List ℕ → Test
 longTest F j old = test 23 (λ _. onReading j (λ g r t. ltb (length old) (length (resultBy F g r t .cells))))
 
 -- a call, by the tests after 29 and the way its result is shown
 abbrev pub callOf : List Test → Shown → Job → List ℕ → Outcome
-callOf ts F j old = outcome old (mismatch (j .grammar)) (firstOf (grammarTests (j .grammar) (recordTests j ts))) (resultOf j (resultBy F))
+callOf ts F j old = outcome old (mismatch (j .grammar)) (jobValues j) (firstOf (grammarTests (j .grammar) (recordTests j ts))) (resultOf j (resultBy F))
 
 unfoldable pub readOf : Job → List ℕ → Outcome
 readOf j old = callOf (longTest asNumbers j old ∷ []) asNumbers j old

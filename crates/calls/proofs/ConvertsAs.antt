@@ -3,7 +3,7 @@ use mathlib.Core.Bool.{Bool, true, false, _&&_}
 use mathlib.Core.Path.{_≡_, refl, sym, ap, _∙_, subst}
 use mathlib.Core.Logic.{_⊎_, inl, inr, ⊎-elim}
 use mathlib.Core.List.{List, [], _∷_}
-use Prim.Native.Nat.{ℕ, _≤_}
+use Prim.Native.Nat.{ℕ, _≤_, _<_}
 use native.Mathlib.Omega.{arith}
 use lib.Dec.{eqb}
 use lib.ListN.{length, take, length-take}
@@ -18,7 +18,7 @@ use Rattle.xml.specs.Document.{Xml as Document, document, markOf, twice, misnam
 use Rattle.xml.specs.Bytes.{bytes}
 use Rattle.plain.specs.Static.{mismatched}
 use Rattle.answer.specs.Answer.{Job, Converts, asXml}
-use Rattle.answer.specs.Compute.{Outcome, Test, firstOf, documentTests, mismatch, longTest, convertOf}
+use Rattle.answer.specs.Compute.{value, placesAt, jobValues, Outcome, Test, firstOf, documentTests, mismatch, longTest, convertOf}
 use Rattle.answer.proofs.Settled.{convert-answers}
 use Rattle.job.specs.declared.LeftParse.{LeftParse}
 use Rattle.job.specs.declared.Refusal.{Refusal}
@@ -28,10 +28,16 @@ use Rattle.job.specs.Parses.{whyRefused, IsChosen, Parses}
 use Rattle.dynamic_errors.specs.Judgment.{topmost, judgmentOf}
 use Rattle.convert.specs.declared.Converted.{Converted}
 use Rattle.convert.specs.declared.Converted.the-variants.{Xml, Refused as Not-converted}
-use Rattle.convert.specs.Concluded.{Parsing, Ready, Written, NotWritten, Concludes}
+use Rattle.convert.specs.Concluded.{Parsing, Ready, Written, NotWritten, Concludes, convertedNumber}
 use Rattle.convert.proofs.Conclusions.{written-case, refused-case}
 use Rattle.calls.specs.declared.Answer.{Answer}
-use Rattle.calls.specs.Calls.{shown, whyConverted, refusalOf, ConvertedAs}
+use Rattle.text.specs.Stages.{plainly}
+use Rattle.text.specs.Utf8.{known}
+use Rattle.text.specs.Decode.{breakOf}
+use Rattle.text.specs.Faults.{every, afterMark}
+use Rattle.text.specs.declared.Diagnostic.{Diagnostic}
+use Rattle.answer.proofs.Noted.{value-skip}
+use Rattle.calls.specs.Calls.{done, shown, refusalOf, ConvertedAs}
 use Rattle.calls.proofs.Outcomes.{refusing, call-refused, call-answered, call-not-chosen, result-is, too-long, fitting, done-is}
 
 module _ (j : Job) (T new P : List ℕ) (f : LeftParse) (y : IsChosen j T new P f) (ts : List Test) where
@@ -133,10 +139,38 @@ module _ (j : Job) (old : List ℕ) where
         (subst (λ (a : Bool). Concludes (y .tree) (y .input .chars) (y .row) a (f .mismatch) old new′ v) (y .mark)
         (subst (λ (u : Text). Concludes (y .tree) u (y .row) (f .ambiguous) (f .mismatch) old new′ v) (y .input .stored) (h (y .tree) (y .row) (parsing j T new P f y))))
 
-    pub convert-refused : (k n : ℕ) (a : Answer) → v ≡ Not-converted k → n ≡ whyConverted v → a ≡ refusalOf (record { number = n; mismatch = f .mismatch }) → ConvertedAs j old a new′
+    -- 17 and on name no place
+    late : (k : ℕ) → ((k ≡ judgment) × (k ≡ 0 → ⊥)) ⊎ ((judgment ≡ 0) × (k ≡ 23) × (length old < length cells)) → 17 ≤ k
+    late k (inl p) = by (twice x) (misnamed x) (unwritable x) (isAttribute (markOf (y .tree) (root (y .tree)))) (notOne x) (namespaced x) (p .0) (p .1)
+      where
+        x : Document
+        x = document (y .tree) (y .input .chars) (y .row)
+
+        by : (t m u a b n : Bool) → k ≡ topmost t m u a b n → (k ≡ 0 → ⊥) → 17 ≤ k
+        by true m u a b n e z = omega arith
+        by false true u a b n e z = omega arith
+        by false false true a b n e z = omega arith
+        by false false false true b n e z = omega arith
+        by false false false false true n e z = omega arith
+        by false false false false false true e z = omega arith
+        by false false false false false false e z = absurd (z e)
+    late k (inr p) = omega (arith, p .1)
+
+    nowhere : (k : ℕ) → 17 ≤ k → record { byte = 0; fault = 0; grammar = 0 } ≡ placesAt (jobValues j) k
+    nowhere k l =
+        let two = value 2 (λ _. breakOf every (j .grammar) (afterMark (j .grammar))) in
+        let three = value 3 (λ _. breakOf known (j .grammar) (afterMark (j .grammar))) in
+        let twelve = value 12 (λ _. breakOf every (j .input) 0) in
+        let thirteen = value 13 (λ _. breakOf known (j .input) 0) in
+        let e = value-skip two (three ∷ twelve ∷ thirteen ∷ []) k (λ q. omega arith) ∙ value-skip three (twelve ∷ thirteen ∷ []) k (λ q. omega arith)
+        ∙ value-skip twelve (thirteen ∷ []) k (λ q. omega arith) ∙ value-skip thirteen [] k (λ q. omega arith) in
+        λ ι. record { byte = sym e ι; fault = 0; grammar = 0 }
+
+    pub convert-refused : (k n : ℕ) (d : Diagnostic) (a : Answer) → v ≡ Not-converted k → n ≡ convertedNumber v → d ≡ plainly n
+        → a ≡ refusalOf (record { why = d; mismatch = f .mismatch }) → ConvertedAs j old a new′
     unfolding convertOf
-    convert-refused k n a e i z =
-        let o : n ≡ k = i ∙ ap whyConverted e in
+    convert-refused k n d a e i p z =
+        let o : n ≡ k = i ∙ ap convertedNumber e in
         let u : NotWritten cells judgment old new′ k = refused-case concludes e in
         let some : k ≡ 0 → ⊥ = λ z. ⊎-elim (λ p. p .1 z) (λ p. (let l = p .1 in omega arith)) (u .why) in
         let at : firstOf tests ≡ k = ⊎-elim
@@ -144,14 +178,16 @@ module _ (j : Job) (old : List ℕ) where
         (λ p. passing j T new P f y last (p .0) ∙ too-long j T new P f y asXml old (p .2) ∙ sym (p .1))
         (u .why) in
         let m = ap (λ (b : Bool). eqb k 16 && b) (y .version) in
-        refused-as a (record { number = n; mismatch = f .mismatch }) new′ z (u .buffer)
-        (rw o (call-refused j old asXml tests (record { number = k; mismatch = f .mismatch }) (y .first tests ∙ at) some m))
+        let r : Refusal = record { why = plainly k; mismatch = f .mismatch } in
+        let q : d ≡ plainly k = p ∙ ap plainly o in
+        refused-as a r new′ (z ∙ ap (λ (x : Diagnostic). refusalOf (record { why = x; mismatch = f .mismatch })) q) (u .buffer)
+        (call-refused j old asXml tests r (y .first tests ∙ at) some m (nowhere k (late k (u .why))))
 
-    pub convert-done : (n : ℕ) → v ≡ Xml n → ConvertedAs j old (record { number = 0; length = n; ambiguous = f .ambiguous; version = f .mismatch }) new′
+    pub convert-done : (n : ℕ) → v ≡ Xml n → ConvertedAs j old (done n (f .ambiguous) (f .mismatch)) new′
     unfolding convertOf
     convert-done n e =
         let u : Written cells judgment old new′ n = written-case concludes e in
         let first = y .first tests ∙ passing j T new P f y last (u .allowed) ∙ fitting j T new P f y asXml old (u .fits) in
         let o = call-answered j old asXml tests (f .mismatch) _ first (y .version) (result-is j T new P f y asXml) in
         let b = done-is old new′ cells (f .mismatch) amb (f .ambiguous) n (u .buffer) (u .count) (y .mark) in
-        convert-as (record { number = 0; length = n; ambiguous = f .ambiguous; version = f .mismatch }) new′ (o ∙ b)
+        convert-as (done n (f .ambiguous) (f .mismatch)) new′ (o ∙ b)

@@ -7,9 +7,11 @@ use lib.Dec.{ltb, eqb}
 use lib.ListN.{length, drop}
 use borrow.Author.Tests.{ne-eqb, lt-ltb, le-ltb}
 use Rattle.answer.specs.Answer.{Job, Shown}
-use Rattle.answer.specs.Compute.{Test, firstOf, mismatch, Result, Outcome, outcome, resultOf, resultBy, longTest, callOf}
+use Rattle.answer.specs.Compute.{Values, placesAt, jobValues, Test, firstOf, mismatch, Result, Outcome, outcome, resultOf, resultBy, longTest, callOf}
 use Rattle.job.specs.declared.LeftParse.{LeftParse}
 use Rattle.job.specs.declared.Refusal.{Refusal}
+use Rattle.load.specs.Loaded.{placesOf}
+use Rattle.calls.specs.Calls.{shown, done}
 use Rattle.job.specs.declared.Parse.{Parse}
 use Rattle.job.specs.declared.Parse.the-variants.{Chosen, Refused}
 use Rattle.job.specs.Found.{firstTest}
@@ -17,34 +19,42 @@ use Rattle.job.specs.Parses.{whyRefused, IsChosen, Parses}
 
 -- a refusal, and an answer
 abbrev pub refusing : List ℕ → Refusal → Outcome
-refusing old r = record { answer = record { number = r .number; length = 0; ambiguous = false; version = eqb (r .number) 16 && r .mismatch }; buffer = old }
+refusing old r = record {
+  answer = record { number = r .why .number; length = 0; ambiguous = false; version = eqb (r .why .number) 16 && r .mismatch; places = placesOf (r .why .places) };
+  buffer = old;
+}
 
 abbrev pub answering : List ℕ → Bool → Result → Outcome
 answering old m x = record {
-  answer = record { number = 0; length = length (x .cells); ambiguous = x .ambiguous; version = m };
+  answer = record { number = 0; length = length (x .cells); ambiguous = x .ambiguous; version = m; places = record { byte = 0; fault = 0; grammar = 0 } };
   buffer = x .cells ++ drop (length (x .cells)) old;
 }
 
 -- the fields of an answer, as a call has them
 pub done-is : (old new bs : List ℕ) (v amb mark : Bool) (count : ℕ) → new ≡ bs ++ drop (length bs) old → count ≡ length bs → mark ≡ amb
-    → answering old v (record { cells = bs; ambiguous = amb }) ≡ record { answer = record { number = 0; length = count; ambiguous = mark; version = v }; buffer = new }
+    → answering old v (record { cells = bs; ambiguous = amb }) ≡ record { answer = shown (done count mark v); buffer = new }
 done-is old new bs v amb mark count e f g = rw (e, f, g)
 
-refused-outcome : (old : List ℕ) (m : Bool) (r : Refusal) (x : Result) → (r .number ≡ 0 → ⊥) → (eqb (r .number) 16 && r .mismatch) ≡ (eqb (r .number) 16 && m)
-    → outcome old m (r .number) x ≡ refusing old r
-refused-outcome old m r x z v = rw (ne-eqb (r .number) 0 z, outcome, v)
+refused-outcome : (old : List ℕ) (m : Bool) (vs : Values) (r : Refusal) (x : Result) → (r .why .number ≡ 0 → ⊥)
+    → (eqb (r .why .number) 16 && r .mismatch) ≡ (eqb (r .why .number) 16 && m) → placesOf (r .why .places) ≡ placesAt vs (r .why .number)
+    → outcome old m vs (r .why .number) x ≡ refusing old r
+refused-outcome old m vs r x z v p =
+    let n = r .why .number in
+    rw (ne-eqb n 0 z, outcome, v)
+    (λ ι. record { answer = record { number = n; length = 0; ambiguous = false; version = eqb n 16 && m; places = sym p ι }; buffer = old })
 
 module _ (j : Job) (old : List ℕ) (F : Shown) (ts : List Test) where
   -- the tests end with a refusal
-  pub call-refused : (r : Refusal) → firstTest j ts ≡ r .number → (r .number ≡ 0 → ⊥) → (eqb (r .number) 16 && r .mismatch) ≡ (eqb (r .number) 16 && mismatch (j .grammar))
-      → callOf ts F j old ≡ refusing old r
-  call-refused r e z v =
-      ap (λ (k : ℕ). outcome old (mismatch (j .grammar)) k (resultOf j (resultBy F))) e
-      ∙ refused-outcome old (mismatch (j .grammar)) r (resultOf j (resultBy F)) z v
+  pub call-refused : (r : Refusal) → firstTest j ts ≡ r .why .number → (r .why .number ≡ 0 → ⊥)
+      → (eqb (r .why .number) 16 && r .mismatch) ≡ (eqb (r .why .number) 16 && mismatch (j .grammar))
+      → placesOf (r .why .places) ≡ placesAt (jobValues j) (r .why .number) → callOf ts F j old ≡ refusing old r
+  call-refused r e z v p =
+      ap (λ (k : ℕ). outcome old (mismatch (j .grammar)) (jobValues j) k (resultOf j (resultBy F))) e
+      ∙ refused-outcome old (mismatch (j .grammar)) (jobValues j) r (resultOf j (resultBy F)) z v p
 
   pub call-answered : (m : Bool) (x : Result) → firstTest j ts ≡ 0 → m ≡ mismatch (j .grammar) → resultOf j (resultBy F) ≡ x → callOf ts F j old ≡ answering old m x
   call-answered m x e q f =
-      ap (λ (k : ℕ). outcome old (mismatch (j .grammar)) k (resultOf j (resultBy F))) e
+      ap (λ (k : ℕ). outcome old (mismatch (j .grammar)) (jobValues j) k (resultOf j (resultBy F))) e
       ∙ ap (answering old (mismatch (j .grammar))) f
       ∙ ap (λ (b : Bool). answering old b x) (sym q)
 
@@ -53,7 +63,7 @@ module _ (j : Job) (old : List ℕ) (F : Shown) (ts : List Test) where
   call-not-chosen T new P p k r q e w =
       let h : r ≡ k = e ∙ ap whyRefused q in
       let s = subst (Parses j T new P) q w in
-      rw h (call-refused k (s .is ts) (s .some) (s .version))
+      rw h (call-refused k (s .is ts) (s .some) (s .version) (s .places))
 
 pub is-chosen : (j : Job) (T new P : List ℕ) (p : Parse) (f : LeftParse) → p ≡ Chosen f → Parses j T new P p → IsChosen j T new P f
 is-chosen j T new P p f q w = subst (Parses j T new P) q w

@@ -15,7 +15,9 @@ use Rattle.job.specs.declared.Parse.{Parse}
 use Rattle.job.specs.declared.Parse.the-variants.{Refused}
 use Rattle.job.specs.Parses.{whyRefused, IsChosen, Parses}
 use Rattle.calls.specs.declared.Answer.{Answer}
-use Rattle.calls.specs.Calls.{shown, refusalOf, ReadAs}
+use Rattle.text.specs.Stages.{plainly}
+use Rattle.text.specs.declared.Diagnostic.{Diagnostic}
+use Rattle.calls.specs.Calls.{done, shown, refusalOf, ReadAs}
 use Rattle.calls.proofs.Outcomes.{refusing, call-refused, call-answered, call-not-chosen, result-is, too-long, fitting, done-is}
 
 module _ (j : Job) (old : List ℕ) where
@@ -37,14 +39,16 @@ module _ (j : Job) (old : List ℕ) where
   read-refused T new P p k r a q e w z = refused-as a r z (call-not-chosen j old asNumbers tests T new P p k r q e w)
 
   module _ (T new P : List ℕ) (f : LeftParse) (y : IsChosen j T new P f) where
-    pub read-long : (a : Answer) → a ≡ refusalOf (record { number = 23; mismatch = f .mismatch }) → length old < f .count → ReadAs j old a old
+    pub read-long : (d : Diagnostic) (a : Answer) → d ≡ plainly 23 → a ≡ refusalOf (record { why = d; mismatch = f .mismatch }) → length old < f .count → ReadAs j old a old
     unfolding readOf
-    read-long a z l =
+    read-long d a p z l =
         let e = y .first tests ∙ too-long j T new P f y asNumbers old (omega (arith, y .count)) in
-        refused-as a (record { number = 23; mismatch = f .mismatch }) z (call-refused j old asNumbers tests (record { number = 23; mismatch = f .mismatch }) e (λ e. omega arith) refl)
+        let r : Refusal = record { why = plainly 23; mismatch = f .mismatch } in
+        refused-as a r (z ∙ ap (λ (x : Diagnostic). refusalOf (record { why = x; mismatch = f .mismatch })) p)
+        (call-refused j old asNumbers tests r e (λ e. omega arith) refl refl)
 
     pub read-done : (new′ : List ℕ) → new′ ≡ take (f .count) P ++ drop (f .count) old → f .count ≤ length old
-        → ReadAs j old (record { number = 0; length = f .count; ambiguous = f .ambiguous; version = f .mismatch }) new′
+        → ReadAs j old (done (f .count) (f .ambiguous) (f .mismatch)) new′
     unfolding readOf
     read-done new′ e l =
         let h = y .first tests ∙ fitting j T new P f y asNumbers old (omega (arith, y .count)) in
@@ -53,4 +57,4 @@ module _ (j : Job) (old : List ℕ) where
         e ∙ ap (λ (q : List ℕ). q ++ drop (f .count) old) (y .list) ∙ ap (λ (n : ℕ). leftParse (y .row) ++ drop n old) (y .count) in
         let mark = ambiguousOf (y .tree) (y .input .chars) (y .row) in
         let b = done-is old new′ (leftParse (y .row)) (f .mismatch) mark (f .ambiguous) (f .count) cells (y .count) (y .mark) in
-        read-as (record { number = 0; length = f .count; ambiguous = f .ambiguous; version = f .mismatch }) new′ (o ∙ b)
+        read-as (done (f .count) (f .ambiguous) (f .mismatch)) new′ (o ∙ b)

@@ -1,5 +1,5 @@
 -- The calls' answers, as the definitions speak of them.
-use mathlib.Core.Bool.{false, _&&_}
+use mathlib.Core.Bool.{Bool, false, _&&_}
 use mathlib.Core.Path.{_≡_}
 use mathlib.Core.List.{List}
 use Prim.Native.Nat.{ℕ}
@@ -8,12 +8,20 @@ use Rattle.answer.specs.Answer as defined
 use Rattle.answer.specs.Answer.{Job, Checks, Reads, Converts}
 use Rattle.answer.specs.Compute.{checkOf, readOf, convertOf}
 use Rattle.job.specs.declared.Refusal.{Refusal}
-use Rattle.convert.specs.declared.Converted.{Converted}
-use Rattle.convert.specs.declared.Converted.the-variants.{Xml, Refused}
 use Rattle.calls.specs.declared.Answer.{Answer}
 
 abbrev pub shown : Answer → defined.Answer
-shown a = record { number = a .number; length = a .length; ambiguous = a .ambiguous; version = a .version }
+shown a = record {
+  number = a .number;
+  length = a .length;
+  ambiguous = a .ambiguous;
+  version = a .version;
+  places = record { byte = a .places .byte; fault = a .places .fault; grammar = a .places .grammar };
+}
+
+-- an answer with 0
+abbrev pub done : ℕ → Bool → Bool → Answer
+done n m v = record { number = 0; length = n; ambiguous = m; version = v; places = record { byte = 0; fault = 0; grammar = 0 } }
 
 -- the answer is the one that the definition of checking gives, of which there is exactly one: that it is the computed one follows
 -- (answer Settled: check-settled)
@@ -21,13 +29,15 @@ pub record Checked (bs : List ℕ) (a : Answer) : Type 0 where
   pub computed : shown a ≡ checkOf bs
   pub defines : Checks bs (shown a)
 
-abbrev pub whyConverted : Converted → ℕ
-whyConverted (Xml n) = 0
-whyConverted (Refused n) = n
-
 -- "The version mark is set, for 0 and 16, exactly when …"
 abbrev pub refusalOf : Refusal → Answer
-refusalOf r = record { number = r .number; length = 0; ambiguous = false; version = eqb (r .number) 16 && r .mismatch }
+refusalOf r = record {
+  number = r .why .number;
+  length = 0;
+  ambiguous = false;
+  version = eqb (r .why .number) 16 && r .mismatch;
+  places = record { byte = r .why .places .byte .0; fault = r .why .places .fault .0; grammar = r .why .places .grammar .0 };
+}
 
 -- answer and buffer are those that the definition of reading gives, of which there are exactly one each: that they are the computed ones
 -- follows (read-settled)

@@ -6,7 +6,8 @@ ghost use Prim.Native.Nat.{_≤_};
 ghost use lib.Dec.{eqb};
 ghost use lib.ListN.{length, take, drop};
 ghost use Rattle.answer.specs.Answer.{job, Categorizes};
-ghost use Rattle.calls.specs.Calls.{Checked, whyConverted, refusalOf, ReadAs, ConvertedAs};
+ghost use Rattle.convert.specs.Concluded.{convertedNumber};
+ghost use Rattle.calls.specs.Calls.{Checked, refusalOf, ReadAs, ConvertedAs};
 use convert::Converted;
 use job::Parse;
 use job::Refusal;
@@ -14,13 +15,22 @@ use load::Loaded;
 use text::limits;
 use text::refusals;
 
-// What a call answers: the number of the refusal, or 0; the length of the result; the two marks.
+// Where a job is at fault: a byte, a character of the record, a character of the grammar. 0 where the number names no place.
+#[repr(C)]
+pub struct Places {
+    pub byte: usize,
+    pub fault: usize,
+    pub grammar: usize,
+}
+
+// What a call answers: the number of the refusal, or 0; the length of the result; the two marks; the places.
 #[repr(C)]
 pub struct Answer {
     pub number: u32,
     pub length: usize,
     pub ambiguous: bool,
     pub version: bool,
+    pub places: Places,
 }
 
 // Checks a grammar.
@@ -31,18 +41,21 @@ pub extern "C" fn ixml_check(grammar: &[u8]) -> Answer
     let mut table = [0u32; limits::GRAMMAR_TABLE];
     let loaded = load::load_grammar(grammar, &mut table);
     let Loaded::Grammar(kept) = loaded else {
-        return Answer {
-            number: load::loaded_number(loaded),
-            length: 0,
-            ambiguous: false,
-            version: false,
-        };
+        return refuse(Refusal {
+            why: load::why_not_loaded(loaded),
+            mismatch: false,
+        });
     };
     Answer {
         number: refusals::ANSWERED,
         length: 0,
         ambiguous: false,
         version: kept.mismatch,
+        places: Places {
+            byte: 0,
+            fault: 0,
+            grammar: 0,
+        },
     }
 }
 
@@ -67,11 +80,21 @@ fn version_of(number: u32, mismatch: bool) -> bool
 fn refuse(refusal: Refusal) -> Answer
     ensures { λ r. ⌜ r ≡ refusalOf refusal ⌝ }
 {
+    let why = refusal.why;
+    let places = why.places;
+    let byte = places.byte;
+    let fault = places.fault;
+    let grammar = places.grammar;
     Answer {
-        number: refusal.number,
+        number: why.number,
         length: 0,
         ambiguous: false,
-        version: version_of(refusal.number, refusal.mismatch),
+        version: version_of(why.number, refusal.mismatch),
+        places: Places {
+            byte: byte.0,
+            fault: fault.0,
+            grammar: grammar.0,
+        },
     }
 }
 
@@ -116,7 +139,7 @@ pub extern "C" fn ixml_read(
     };
     if result.len() < found.count {
         return refuse(Refusal {
-            number: refusals::RESULT_TOO_LONG,
+            why: text::plain(refusals::RESULT_TOO_LONG),
             mismatch: found.mismatch,
         });
     }
@@ -126,11 +149,16 @@ pub extern "C" fn ixml_read(
         length: found.count,
         ambiguous: found.ambiguous,
         version: found.mismatch,
+        places: Places {
+            byte: 0,
+            fault: 0,
+            grammar: 0,
+        },
     }
 }
 
 fn why_converted(converted: Converted) -> u32
-    ensures { λ r. ⌜ r ≡ whyConverted converted ⌝ }
+    ensures { λ r. ⌜ r ≡ convertedNumber converted ⌝ }
 {
     match converted {
         Converted::Xml(_) => refusals::ANSWERED,
@@ -178,7 +206,7 @@ pub extern "C" fn ixml_convert(
     );
     let Converted::Xml(length) = converted else {
         return refuse(Refusal {
-            number: why_converted(converted),
+            why: text::plain(why_converted(converted)),
             mismatch: found.mismatch,
         });
     };
@@ -187,5 +215,10 @@ pub extern "C" fn ixml_convert(
         length,
         ambiguous: found.ambiguous,
         version: found.mismatch,
+        places: Places {
+            byte: 0,
+            fault: 0,
+            grammar: 0,
+        },
     }
 }

@@ -8,7 +8,7 @@ use lib.Dec.{T, eqb, eqb→eq}
 use lib.ListN.{length, drop}
 use Rattle.text.specs.Lists.{Text, chars, all, same}
 use Rattle.text.proofs.Tests.{and-left, and-right, same-is}
-use Rattle.answer.specs.Answer.{Job, Answer, Checks, Reads, Converts}
+use Rattle.answer.specs.Answer.{Places, Job, Answer, Checks, Reads, Converts}
 use Rattle.answer.specs.Compute.{Outcome, checkOf, readOf, convertOf}
 use Rattle.text.specs.Utf8 as utf8
 use Rattle.text.specs.Decode as decoding
@@ -35,8 +35,26 @@ bool-is true false h = absurd h
 bool-is false true h = absurd h
 bool-is false false h = refl
 
+same-places : Places → Places → Bool
+same-places p q = eqb (p .byte) (q .byte) && (eqb (p .fault) (q .fault) && eqb (p .grammar) (q .grammar))
+
+places-are : (p q : Places) → T (same-places p q) → p ≡ q
+unfolding same-places
+places-are p q h =
+    let b = eqb (p .byte) (q .byte) in
+    let f = eqb (p .fault) (q .fault) in
+    let g = eqb (p .grammar) (q .grammar) in
+    let h1 = and-right b (f && g) h in
+    λ ι. record {
+      byte = eqb→eq (p .byte) (q .byte) (and-left b (f && g) h) ι;
+      fault = eqb→eq (p .fault) (q .fault) (and-left f g h1) ι;
+      grammar = eqb→eq (p .grammar) (q .grammar) (and-right f g h1) ι;
+    }
+
 same-answer : Answer → Answer → Bool
-same-answer a b = eqb (a .number) (b .number) && (eqb (a .length) (b .length) && (same-bool (a .ambiguous) (b .ambiguous) && same-bool (a .version) (b .version)))
+same-answer a b =
+    eqb (a .number) (b .number) && (eqb (a .length) (b .length) && (same-bool (a .ambiguous) (b .ambiguous)
+    && (same-bool (a .version) (b .version) && same-places (a .places) (b .places))))
 
 answer-is : (a b : Answer) → T (same-answer a b) → a ≡ b
 unfolding same-answer
@@ -45,13 +63,16 @@ answer-is a b h =
     let l = eqb (a .length) (b .length) in
     let m = same-bool (a .ambiguous) (b .ambiguous) in
     let v = same-bool (a .version) (b .version) in
-    let h1 = and-right n (l && (m && v)) h in
-    let h2 = and-right l (m && v) h1 in
+    let p = same-places (a .places) (b .places) in
+    let h1 = and-right n (l && (m && (v && p))) h in
+    let h2 = and-right l (m && (v && p)) h1 in
+    let h3 = and-right m (v && p) h2 in
     λ ι. record {
-      number = eqb→eq (a .number) (b .number) (and-left n (l && (m && v)) h) ι;
-      length = eqb→eq (a .length) (b .length) (and-left l (m && v) h1) ι;
-      ambiguous = bool-is (a .ambiguous) (b .ambiguous) (and-left m v h2) ι;
-      version = bool-is (a .version) (b .version) (and-right m v h2) ι;
+      number = eqb→eq (a .number) (b .number) (and-left n (l && (m && (v && p))) h) ι;
+      length = eqb→eq (a .length) (b .length) (and-left l (m && (v && p)) h1) ι;
+      ambiguous = bool-is (a .ambiguous) (b .ambiguous) (and-left m (v && p) h2) ι;
+      version = bool-is (a .version) (b .version) (and-left v p h3) ι;
+      places = places-are (a .places) (b .places) (and-right v p h3) ι;
     }
 
 -- what is computed is what the table says
@@ -89,9 +110,9 @@ every [] t = every-none
 every (c ∷ cs) t = every-more (holds c (and-left (passes c) (all passes cs) t)) (every cs (and-right (passes c) (all passes cs) t))
 
 pub cases-hold : Every Holds table
-unfolding table buffer job answer filled passes leaves same-answer same-bool computing
+unfolding table buffer job answer filled passes leaves same-answer same-places same-bool computing
     utf8.utf8 utf8.utf8s utf8.unmarked utf8.alphabet utf8.known decoding.secondLow decoding.secondHigh decoding.restOf decoding.charOf decoding.decodeIn
-    decoding.decode category.categories category.classes category.isClass
+    decoding.decode decoding.breakIn decoding.breakOf category.categories category.classes category.isClass
     static.undefined static.duplicate static.beyond static.unassignable static.banned static.codeOf static.runsBack static.backwards static.noClass static.unclassed plain.size
     names.xmlChar names.nameStart names.nameChar names.xmlName document.twice document.misnamed document.unwritable document.isAttribute document.notOne document.namespaced bytes.escape bytes.bytes
     static.mismatched compute.treeOf checkOf readOf convertOf

@@ -45,7 +45,7 @@ unfoldable pub job : String → String → Job
 job g r = programJob (chars g) (chars r)
 
 unfoldable pub answer : ℕ → ℕ → Bool → Answer
-answer n k m = record { number = n; length = k; ambiguous = m; version = false }
+answer n k m = record { number = n; length = k; ambiguous = m; version = false; places = record { byte = 0; fault = 0; grammar = 0 } }
 
 unfoldable pub filled : List ℕ → List ℕ
 filled xs = xs ++ drop (length xs) buffer

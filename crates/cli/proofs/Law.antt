@@ -1,6 +1,6 @@
 -- What is written follows from what is seen of two files.
 use mathlib.Core.Bool.{Bool, true, false, not}
-use mathlib.Core.Logic.{inl, ⊎-elim}
+use mathlib.Core.Logic.{inl, inr, ⊎-elim}
 use mathlib.Core.Path.{_≡_, refl, sym, subst, _∙_}
 use mathlib.Core.List.{List, [], _∷_}
 use Prim.Native.Nat.{ℕ, _≤_, _<_}
@@ -12,7 +12,7 @@ use borrow.Author.Tests.{lt-ltb, le-ltb}
 use Rattle.text.specs.Limits.{grammarBytes, grammarTable, fileBytes, programBytes, programTable}
 use Rattle.text.specs.Lists.{Text, all}
 use Rattle.text.proofs.Tests.{split, and-left, and-right, clash}
-use Rattle.answer.specs.Answer.{Line, Topmost, Job, Answer, Converts, grammarLines, recordLines, documentLines, tooLong, asXml}
+use Rattle.answer.specs.Answer.{Note, Noted, Places, jobNotes, Line, Topmost, Job, Answer, Converts, grammarLines, recordLines, documentLines, tooLong, asXml}
 use Rattle.answer.specs.Compute.{convertOf}
 use Rattle.answer.specs.Program.{File, bytes, shows, programJob, Writes, no-grammar, no-record, long-record, job}
 use Rattle.answer.proofs.Settled.{convert-settled, convert-answers}
@@ -32,6 +32,17 @@ pub two-places : (j : Job) (old : List ℕ) (a : Answer) (new : List ℕ) → Co
 two-places j old a new c =
     let k = topmost-below 29 (a .number) (grammarLines (j .grammar) (recordLines j (documentLines j (tooLong j asXml old ∷ [])))) tt (c .number) in omega arith
 
+-- a number without a note has the place 0
+abbrev Apart : ℕ → List Note → Type 0
+Apart n [] = Unit {0}
+Apart n (x ∷ xs) = (n ≡ x .number → ⊥) × Apart n xs
+
+no-place : (xs ys : List Note) (n p : ℕ) → Apart n xs → Apart n ys → Noted xs n p → Noted ys n p
+no-place (x ∷ xs) ys n p a b (inl q) = absurd (a .0 (q .0))
+no-place (x ∷ xs) ys n p a b (inr q) = no-place xs ys n p (a .1) b (q .1)
+no-place [] [] n p a b q = q
+no-place [] (y ∷ ys) n p a b q = inr (b .0, no-place [] ys n p a (b .1) q)
+
 -- of a grammar over 4,096 bytes no more is asked than that
 pub long-grammar : (g h r old : List ℕ) (a : Answer) (new : List ℕ) → grammarBytes < length g → grammarBytes < length h
     → Converts (programJob g r) old a new → Converts (programJob h r) old a new
@@ -46,7 +57,15 @@ long-grammar g h r old a new k l c =
         λ x.
             ⊎-elim (λ z. absurd (omega (arith, e, z))) (λ z. absurd (omega (arith, e, z))) (x .0),
       );
+      places = record {
+        byte = no-place (jobNotes (programJob g r) .bytes) (jobNotes (programJob h r) .bytes) (a .number) (a .places .byte) (apart e) (apart e) (c .places .byte);
+        fault = c .places .fault;
+        grammar = c .places .grammar;
+      };
     }
+  where
+    apart : a .number ≡ 1 → (a .number ≡ 2 → ⊥) × ((a .number ≡ 3 → ⊥) × ((a .number ≡ 12 → ⊥) × ((a .number ≡ 13 → ⊥) × Unit {0})))
+    apart e = (λ z. omega (arith, e, z), (λ z. omega (arith, e, z), (λ z. omega (arith, e, z), (λ z. omega (arith, e, z), tt))))
 
 pub long-computed : (g h r old : List ℕ) → grammarBytes < length g → grammarBytes < length h → convertOf (programJob g r) old ≡ convertOf (programJob h r) old
 unfolding convertOf
@@ -107,18 +126,18 @@ one-text (job {g = g} {r = r} {new = m} {a = a} k c) (job {new = n} {a = b} l d)
     λ ι. shows ((p .0 ∙ sym (q .0)) ι) ((p .1 ∙ sym (q .1)) ι)
 
 -- an answer of converting, shown, where the program lends its tables and an empty buffer
-module _ {g r old xml new : List ℕ} {s t n l k : ℕ} {m v : Bool} where
+module _ {g r old xml new : List ℕ} {s t n l k : ℕ} {m v : Bool} {p : Places} where
   pub job-shown : s ≡ programTable → t ≡ grammarTable → old ≡ replicate programBytes 0
       → Converts (record { grammar = g; input = r; mainTable = s; secondTable = t }) old
-      (record { number = n; length = l; ambiguous = m; version = v }) xml → Shows n l v xml new k
+      (record { number = n; length = l; ambiguous = m; version = v; places = p }) xml → Shows n l v xml new k
       → Holds (jobText g r) new k
   job-shown es et eo c w =
-      let d : Converts (programJob g r) (replicate programBytes 0) (record { number = n; length = l; ambiguous = m; version = v }) xml = rw (es, et, eo) at c in
-      let p = convert-settled (programJob g r) (replicate programBytes 0) (record { number = n; length = l; ambiguous = m; version = v }) xml d in
+      let d : Converts (programJob g r) (replicate programBytes 0) (record { number = n; length = l; ambiguous = m; version = v; places = p }) xml = rw (es, et, eo) at c in
+      let u = convert-settled (programJob g r) (replicate programBytes 0) (record { number = n; length = l; ambiguous = m; version = v; places = p }) xml d in
       record {
         fits = w .fits;
         holds = w .holds (two-places (programJob g r) (replicate programBytes 0)
-            (record { number = n; length = l; ambiguous = m; version = v }) xml d) ∙ (λ ι. shows (p .0 ι) (p .1 ι));
+            (record { number = n; length = l; ambiguous = m; version = v; places = p }) xml d) ∙ (λ ι. shows (u .0 ι) (u .1 ι));
       }
 
 -- a negated test

@@ -49,9 +49,9 @@ longFile = chars "refused 14\n"
 abbrev pub bodyOf : ℕ → ℕ → Bool → List ℕ → Text
 bodyOf n l v new = pick (eqb n 0) (take l new) (pick (eqb n 16) (failDocument v) (refusal n))
 
--- the answer with these parts; the ambiguous mark plays no part in what is written of it
+-- the answer with these parts; the ambiguous mark and the places play no part in what is written of it
 abbrev pub answerOf : ℕ → ℕ → Bool → Answer
-answerOf n l v = record { number = n; length = l; ambiguous = false; version = v }
+answerOf n l v = record { number = n; length = l; ambiguous = false; version = v; places = record { byte = 0; fault = 0; grammar = 0 } }
 
 -- the first r bytes are what is written for an answer, whose number has at most two digits
 pub record Shows (n l : ℕ) (v : Bool) (xml new : List ℕ) (r : ℕ) : Type 0 where

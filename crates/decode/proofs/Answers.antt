@@ -6,7 +6,7 @@ use lib.ListN.{length, drop}
 use mathlib.Core.List.{List}
 use Rattle.text.specs.Lists.{Text, all}
 use Rattle.text.specs.Utf8.{known, Utf8}
-use Rattle.text.specs.Decode.{Decoded, text, not-utf8, decode}
+use Rattle.text.specs.Decode.{Decoded, text, not-utf8, decode, unmark}
 use Rattle.text.specs.Faults.{every, Breaks, afterMark}
 use Rattle.text.proofs.Decode.{decode-sound, decode-complete}
 use Rattle.decode.specs.declared.Decoding.{Decoding}
@@ -14,8 +14,8 @@ use Rattle.decode.specs.declared.Decoding.the-variants.{Of, CutShort, Ma
 use Rattle.text.specs.declared.CharPlace.{CharPlace}
 use Rattle.text.specs.declared.BytePlace.{BytePlace}
 use Rattle.decode.specs.Scan.{over}
-use Rattle.decode.specs.Whole.{Ends, of, cut-short, malformed, unknown, Decodes, unmark}
-use Rattle.decode.proofs.Marks.{after-mark}
+use Rattle.decode.specs.Whole.{Ends, of, cut-short, malformed, unknown, Decodes}
+use Rattle.text.proofs.Marks.{after-mark}
 use Rattle.decode.proofs.Whole.{not-broken, not-strange}
 
 pub record Known (d : Decoded) (n : ℕ) : Type 0 where

@@ -5,8 +5,7 @@ use mathlib.Core.List.{List}
 use Prim.Native.Nat.{ℕ}
 use lib.ListN.{length, drop}
 use Rattle.text.specs.Lists.{Text, all}
-use Rattle.text.specs.Utf8.{Utf8, unmarked, known}
-use Rattle.text.specs.Decode.{Decoded, text, not-utf8}
+use Rattle.text.specs.Utf8.{Utf8, known}
 use Rattle.text.specs.Faults.{every, Breaks, Cut}
 use Rattle.decode.specs.Scan.{over}
 use Rattle.text.specs.declared.CharPlace.{CharPlace}
@@ -25,8 +24,3 @@ pub data Ends (bs : List ℕ) (from : ℕ) : Decoding → Type 0 where
 pub record Decodes (bs : List ℕ) (from : ℕ) (old : List ℕ) (r : Decoding) (new : List ℕ) : Type 0 where
   pub answer : Ends bs from r
   pub stored : (cs : Text) → Utf8 (drop from bs) cs → new ≡ over cs old
-
--- a text without its byte order mark
-abbrev pub unmark : Decoded → Decoded
-unmark (text cs) = text (unmarked cs)
-unmark not-utf8 = not-utf8

@@ -7,7 +7,8 @@ use Prim.Native.Nat.{ℕ}
 use native.Mathlib.Omega.{arith}
 use lib.Dec.{eqb}
 use borrow.Author.Tests.{ne-eqb}
-use Rattle.text.specs.Stages.{numberOf}
+use Rattle.text.specs.Stages.{numberOf, diagnosticOf, plainly}
+use Rattle.text.specs.declared.Diagnostic.{Diagnostic}
 use Rattle.answer.specs.Answer.{Job}
 use Rattle.answer.specs.Compute.{mismatch}
 use Rattle.job.specs.declared.Start.{Start}
@@ -25,19 +26,25 @@ module _ (j : Job) (T new : List ℕ) where
   begun-at b s q w = subst (Begins j T new) q w
 
   -- a stage before 16 refuses
-  pub ended : (b : Begun) (k n : ℕ) → b ≡ Ended k → n ≡ numberOf (begunOf b) → Begins j T new b → NotChosen j (record { number = n; mismatch = false })
+  pub ended : (b : Begun) (k n : Diagnostic) → b ≡ Ended k → n ≡ diagnosticOf (begunOf b) → Begins j T new b → NotChosen j (record { why = n; mismatch = false })
   ended b k n q e w =
       let s = subst (Begins j T new) q w in
-      let h : n ≡ k = e ∙ ap (λ (x : Begun). numberOf (begunOf x)) q in
-      rw h (record { some = s .some; is = s .is; version = rw (ne-eqb k 16 (λ z. omega (arith, s .early))) })
+      let h : n ≡ k = e ∙ ap (λ (x : Begun). diagnosticOf (begunOf x)) q in
+      rw h (record { some = s .some; is = s .is; version = rw (ne-eqb (k .number) 16 (λ z. omega (arith, s .early))); places = s .places })
 
   module _ (s : Start) (w : Started j T new s) (T′ P : List ℕ) (r : Read) where
     -- there is no reading, or it is too long
-    pub not-chosen : (k n : ℕ) → r ≡ Not-read k → n ≡ numberOf (foundOf r) → Ends j T new s w T′ P r → NotChosen j (record { number = n; mismatch = s .passed .mismatch })
-    not-chosen k n q e x =
+    pub not-chosen : (k n : ℕ) (d : Diagnostic) → r ≡ Not-read k → n ≡ numberOf (foundOf r) → d ≡ plainly n → Ends j T new s w T′ P r
+        → NotChosen j (record { why = d; mismatch = s .passed .mismatch })
+    not-chosen k n d q e p x =
         let y = subst (Ends j T new s w T′ P) q x in
         let h : n ≡ k = e ∙ ap (λ (x : Read). numberOf (foundOf x)) q in
-        rw h (record { some = λ z. ⊎-elim (λ u. omega arith) (λ u. omega arith) (y .late); is = y .is; version = ap (λ (b : Bool). eqb k 16 && b) (w .grammar .version) })
+        rw (p, h) (record {
+          some = λ z. ⊎-elim (λ u. omega arith) (λ u. omega arith) (y .late);
+          is = y .is;
+          version = ap (λ (b : Bool). eqb k 16 && b) (w .grammar .version);
+          places = ⊎-elim (λ u. rw u) (λ u. rw u) (y .late);
+        })
 
     pub chosen : (f : Found) → r ≡ Reading f → Ends j T new s w T′ P r
         → IsChosen j T′ new P (record { root = f .root; count = f .count; chars = s .chars; ambiguous = f .ambiguous; mismatch = s .passed .mismatch })

@@ -1,19 +1,24 @@
 -- The first stages together.
-use mathlib.Core.Bool.{true, false, _||_}
-use mathlib.Core.Path.{_≡_, refl, ap, _∙_, subst}
-use mathlib.Core.List.{List, []}
+use mathlib.Core.Bool.{Bool, true, false, _||_}
+use mathlib.Core.Path.{_≡_, refl, sym, ap, _∙_, subst}
+use mathlib.Core.List.{List, [], _∷_}
 use Prim.Native.Nat.{ℕ, _≤_, _<_}
 use native.Mathlib.Omega.{arith}
-use lib.Dec.{ltb}
+use lib.Dec.{ltb, eqb}
 use lib.ListN.{length}
 use borrow.Author.Tests.{lt-ltb, le-ltb}
 use Rattle.text.specs.Limits.{grammarTable, recordChars}
-use Rattle.text.specs.Stages.{numberOf}
+use Rattle.text.specs.Stages.{diagnosticOf, plainly}
+use Rattle.text.specs.Utf8.{known}
+use Rattle.text.specs.Decode.{breakOf}
+use Rattle.text.specs.Faults.{every, afterMark}
+use Rattle.text.specs.declared.Diagnostic.{Diagnostic}
 use Rattle.text.specs.declared.CharPlace.{CharPlace}
 use Rattle.plain.specs.Plain.{size}
 use Rattle.answer.specs.Answer.{Job, tableNeed}
-use Rattle.answer.specs.Compute.{firstOf, grammarTests, recordTests}
-use Rattle.answer.proofs.Stages.{first-below, stage-15}
+use Rattle.answer.specs.Compute.{firstOf, grammarTests, recordTests, Value, value, valueAt, placesAt, checkValues, jobValues}
+use Rattle.answer.proofs.Noted.{value-skip}
+use Rattle.answer.proofs.Stages.{stage-15}
 use Rattle.load.specs.declared.Passed.{Passed}
 use Rattle.load.specs.declared.Loaded.{Loaded}
 use Rattle.load.specs.declared.Loaded.the-variants.{Grammar as Accepted, Refused as Turned-down}
@@ -24,18 +29,37 @@ use Rattle.job.specs.declared.Taken.the-variants.{Chars, Refused}
 use Rattle.job.specs.declared.Begun.the-variants.{At, Refused as Ended}
 use Rattle.job.specs.Stages.{takenOf, Got, Takes, Begins}
 
-fifteen-not : _≡_ {A = ℕ} 15 0 → ⊥
-fifteen-not e = omega arith
+-- the place of a value depends on those after it no more than they differ
+value-cong : (v : Value) (vs ws : List Value) (n : ℕ) → valueAt vs n ≡ valueAt ws n → valueAt (v ∷ vs) n ≡ valueAt (v ∷ ws) n
+value-cong v vs ws n h = go (eqb n (v .number))
+  where
+    go : (b : Bool) → _≡_ {A = ℕ} (elim b as (λ _. ℕ) [ true ↦ v .value tt | false ↦ valueAt vs n ]) (elim b as (λ _. ℕ) [ true ↦ v .value tt | false ↦ valueAt ws n ])
+    go true = refl
+    go false = h
 
 module _ (j : Job) (T new : List ℕ) where
-  pub ends-grammar : (d : Loaded) (k n : ℕ) → d ≡ Turned-down k → n ≡ numberOf (stageOf d) → Loads (j .grammar) T d → Begins j T new (Ended n)
+  -- the places of a grammar's refusal are the job's
+  same-places : (n : ℕ) → n ≤ 11 → placesAt (checkValues (j .grammar)) n ≡ placesAt (jobValues j) n
+  same-places n l =
+      let two = value 2 (λ _. breakOf every (j .grammar) (afterMark (j .grammar))) in
+      let three = value 3 (λ _. breakOf known (j .grammar) (afterMark (j .grammar))) in
+      let twelve = value 12 (λ _. breakOf every (j .input) 0) in
+      let thirteen = value 13 (λ _. breakOf known (j .input) 0) in
+      let none = value-skip twelve (thirteen ∷ []) n (λ q. omega arith) ∙ value-skip thirteen [] n (λ q. omega arith) in
+      let rest = value-cong three [] (twelve ∷ thirteen ∷ []) n (sym none) in
+      let e = value-cong two (three ∷ []) (three ∷ twelve ∷ thirteen ∷ []) n rest in
+      λ ι. record { byte = e ι; fault = 0; grammar = 0 }
+
+  pub ends-grammar : (d : Loaded) (k n : Diagnostic) → d ≡ Turned-down k → n ≡ diagnosticOf (stageOf d) → Loads (j .grammar) T d → Begins j T new (Ended n)
   ends-grammar d k n q e l =
-      let w : n ≡ k = e ∙ ap (λ (x : Loaded). numberOf (stageOf x)) q in
+      let w : n ≡ k = e ∙ ap (λ (x : Loaded). diagnosticOf (stageOf x)) q in
       let t : Turned (j .grammar) k = subst (Loads (j .grammar) T) q l in
-      rw w (record { some = t .some; early = early k (t .first []); is = λ ts. t .first (recordTests j ts) })
-    where
-      early : (k : ℕ) → firstOf (grammarTests (j .grammar) []) ≡ k → k ≤ 15
-      early k e = subst (λ (n : ℕ). n ≤ 15) e (first-below 15 (grammarTests (j .grammar) []) tt)
+      rw w (record {
+        some = t .some;
+        early = omega (arith, t .early);
+        is = λ ts. t .first (recordTests j ts);
+        places = t .places ∙ same-places (k .number) (t .early);
+      })
 
   module _ (d : Loaded) (p : Passed) (q : d ≡ Accepted p) (l : Loads (j .grammar) T d) where
     kept : Kept (j .grammar) T p
@@ -44,11 +68,11 @@ module _ (j : Job) (T new : List ℕ) where
     pub small : p .size ≤ 512
     small = omega (arith, kept .sized, kept .small)
 
-    pub ends-record : (x : Taken) (k n : ℕ) → x ≡ Refused k → n ≡ numberOf (takenOf x) → Takes (j .input) new x → Begins j T new (Ended n)
+    pub ends-record : (x : Taken) (k n : Diagnostic) → x ≡ Refused k → n ≡ diagnosticOf (takenOf x) → Takes (j .input) new x → Begins j T new (Ended n)
     ends-record x k n e f t =
-        let w : n ≡ k = f ∙ ap (λ (z : Taken). numberOf (takenOf z)) e in
+        let w : n ≡ k = f ∙ ap (λ (z : Taken). diagnosticOf (takenOf z)) e in
         let s = subst (Takes (j .input) new) e t j refl in
-        rw w (record { some = s .some; early = s .early; is = λ ts. kept .first (recordTests j ts) ∙ s .is ts })
+        rw w (record { some = s .some; early = s .early; is = λ ts. kept .first (recordTests j ts) ∙ s .is ts; places = s .places })
 
     module _ (x : Taken) (n : CharPlace) (e : x ≡ Chars n) (t : Takes (j .input) new x) where
       got : Got (j .input) new (n .0)
@@ -57,11 +81,12 @@ module _ (j : Job) (T new : List ℕ) where
       pub few : n .0 ≤ recordChars
       few = omega (arith, got .count, got .short)
 
-      refused : (ltb (j .mainTable) (tableNeed (size (kept .tree)) (length (got .chars))) || ltb (j .secondTable) grammarTable) ≡ true → Begins j T new (Ended 15)
+      refused : (ltb (j .mainTable) (tableNeed (size (kept .tree)) (length (got .chars))) || ltb (j .secondTable) grammarTable) ≡ true → Begins j T new (Ended (plainly 15))
       refused w =
           record {
-            some = fifteen-not;
+            some = λ e. omega arith;
             early = omega arith;
+            places = refl;
             is = λ ts. kept .first (recordTests j ts) ∙ stage-15 j ts (got .chars) (got .decoded) (got .within) (got .short) (kept .tree)
                 (kept .is) w;
           }
@@ -69,14 +94,14 @@ module _ (j : Job) (T new : List ℕ) where
       need-is : (k : ℕ) → k ≡ tableNeed (p .size) (n .0) → k ≡ tableNeed (size (kept .tree)) (length (got .chars))
       need-is k f = f ∙ ap (λ (s : ℕ). tableNeed s (n .0)) (kept .sized) ∙ ap (tableNeed (size (kept .tree))) (got .count)
 
-      pub ends-main : (k : ℕ) → k ≡ tableNeed (p .size) (n .0) → j .mainTable < k → Begins j T new (Ended 15)
+      pub ends-main : (k : ℕ) → k ≡ tableNeed (p .size) (n .0) → j .mainTable < k → Begins j T new (Ended (plainly 15))
       ends-main k f h = refused (rw (lt-ltb (j .mainTable) (tableNeed (size (kept .tree)) (length (got .chars))) (omega (arith, need-is k f))))
 
       module _ (k : ℕ) (f : k ≡ tableNeed (p .size) (n .0)) (h : k ≤ j .mainTable) where
         main-enough : ltb (j .mainTable) (tableNeed (size (kept .tree)) (length (got .chars))) ≡ false
         main-enough = le-ltb (j .mainTable) (tableNeed (size (kept .tree)) (length (got .chars))) (omega (arith, need-is k f))
 
-        pub ends-second : j .secondTable < 16384 → Begins j T new (Ended 15)
+        pub ends-second : j .secondTable < 16384 → Begins j T new (Ended (plainly 15))
         ends-second i = refused (rw (main-enough, lt-ltb (j .secondTable) grammarTable i))
 
         pub begun : 16384 ≤ j .secondTable → Begins j T new (At (record { passed = p; chars = n }))

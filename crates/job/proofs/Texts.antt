@@ -1,4 +1,5 @@
 -- The characters of a record: what the decoder's answer says of the tests.
+use mathlib.Core.Bool.{Bool}
 use mathlib.Core.Path.{_≡_, refl, sym, ap, _∙_}
 use mathlib.Core.Logic.{⊎-elim}
 use mathlib.Core.List.{List, [], _∷_, _++_}
@@ -10,37 +11,56 @@ use Rattle.text.specs.Limits.{recordChars}
 use denote.Enum.Declared.{tagOf}
 use types.Run.{OneOf}
 use Rattle.text.specs.Lists.{Text}
-use Rattle.text.specs.Decode.{text, decode}
+use Rattle.text.specs.Decode.{text, decode, breakOf}
 use Rattle.answer.proofs.Stages.{stage-12, stage-13, stage-14}
 use Rattle.decode.specs.declared.Decoding.{Decoding}
 use Rattle.decode.specs.declared.Decoding.the-variants.{Of, CutShort, Malformed, Unknown}
 use Rattle.text.specs.declared.CharPlace.{CharPlace}
 use Rattle.decode.proofs.Decoding.{the-type}
 use Rattle.decode.specs.Scan.{over}
-use Rattle.decode.specs.Whole.{Decodes}
+use Rattle.decode.specs.Whole.{Ends as Stops, cut-short, malformed, unknown, Decodes}
+use Rattle.text.specs.Faults.{every, Breaks}
+use Rattle.text.specs.Utf8.{known as alphabet}
+use Rattle.text.specs.Stages.{atByte, plainly}
+use Rattle.text.specs.declared.BytePlace.{BytePlace}
+use Rattle.text.specs.declared.Diagnostic.{Diagnostic}
+use Rattle.text.proofs.Faults.{break-of}
+use Rattle.load.specs.Loaded.{placesOf}
+use Rattle.answer.specs.Answer.{Job}
 use Rattle.decode.proofs.Answers.{Known, Tells, tells-of, tells-cut, tells-malformed, tells-unknown, told}
 use Rattle.job.specs.declared.Taken.the-variants.{Chars, Refused}
 use Rattle.job.specs.Stages.{whyText, Got, Takes}
 
 -- an answer that is no text has a refusal
-some-refusal : (d : Decoding) → OneOf (1 ∷ 2 ∷ 3 ∷ []) (tagOf the-type d) → whyText d ≡ 0 → ⊥
+some-refusal : (d : Decoding) → OneOf (1 ∷ 2 ∷ 3 ∷ []) (tagOf the-type d) → whyText d .number ≡ 0 → ⊥
 some-refusal (Of n) h e = ⊎-elim (λ q. omega arith) (λ k. ⊎-elim (λ q. omega arith) (λ q. omega arith) k) h
 some-refusal (CutShort p) h e = omega arith
 some-refusal (Malformed p) h e = omega arith
 some-refusal (Unknown p) h e = omega arith
 
-fourteen-not : _≡_ {A = ℕ} 14 0 → ⊥
-fourteen-not e = omega arith
-
 module _ (bs old new : List ℕ) (r : Decoding) (w : Decodes bs 0 old r new) where
-  pub not-taken : OneOf (1 ∷ 2 ∷ 3 ∷ []) (tagOf the-type r) → (n : ℕ) → n ≡ whyText r → Takes bs new (Refused n)
-  not-taken h n e = rw e (go (told bs 0 w .tells) (some-refusal r h))
+  pub not-taken : OneOf (1 ∷ 2 ∷ 3 ∷ []) (tagOf the-type r) → (n : Diagnostic) → n ≡ whyText r → Takes bs new (Refused n)
+  not-taken h n e = rw e (go (w .answer) (told bs 0 w .tells) (some-refusal r h))
     where
-      go : {d : Decoding} → Tells (decode bs) d → (whyText d ≡ 0 → ⊥) → Takes bs new (Refused (whyText d))
-      go (tells-of x) z = absurd (z refl)
-      go (tells-cut x) z = λ j q. record { some = z; early = omega arith; is = λ ts. stage-12 j ts (ap decode q ∙ x) }
-      go (tells-malformed x) z = λ j q. record { some = z; early = omega arith; is = λ ts. stage-12 j ts (ap decode q ∙ x) }
-      go (tells-unknown x) z = λ j q. record { some = z; early = omega arith; is = λ ts. stage-13 j ts (x .chars) (ap decode q ∙ x .is) (x .outside) }
+      at : (f : ℕ → Bool) (n : ℕ) (p : BytePlace) → Breaks f bs 0 (p .0) → (j : Job) → j .input ≡ bs
+          → placesOf (atByte n p .places) ≡ record { byte = breakOf f (j .input) 0; fault = 0; grammar = 0 }
+      at f n p b j q =
+          let e : breakOf f (j .input) 0 ≡ p .0 = ap (λ (x : List ℕ). breakOf f x 0) q ∙ break-of f bs 0 (p .0) b in
+          λ ι. record { byte = sym e ι; fault = 0; grammar = 0 }
+
+      go : {d : Decoding} → Stops bs 0 d → Tells (decode bs) d → (whyText d .number ≡ 0 → ⊥) → Takes bs new (Refused (whyText d))
+      go a (tells-of x) z = absurd (z refl)
+      go (cut-short {p = p} b c) (tells-cut x) z =
+          λ j q. record { some = z; early = omega arith; is = λ ts. stage-12 j ts (ap decode q ∙ x); places = at every 12 p b j q }
+      go (malformed {p = p} b c) (tells-malformed x) z =
+          λ j q. record { some = z; early = omega arith; is = λ ts. stage-12 j ts (ap decode q ∙ x); places = at every 12 p b j q }
+      go (unknown {p = p} cs v b) (tells-unknown x) z =
+          λ j q. record {
+            some = z;
+            early = omega arith;
+            is = λ ts. stage-13 j ts (x .chars) (ap decode q ∙ x .is) (x .outside);
+            places = at alphabet 13 p b j q;
+          }
 
   module _ (k : CharPlace) (e : r ≡ Of k) where
     known : Known (decode bs) (k .0)
@@ -52,8 +72,14 @@ module _ (bs old new : List ℕ) (r : Decoding) (w : Decodes bs 0 old r new) whe
         go (tells-malformed x) q = absurd (let z : _≡_ {A = ℕ} 0 1 = cc in omega arith)
         go (tells-unknown x) q = absurd (let z : _≡_ {A = ℕ} 0 1 = cc in omega arith)
 
-    pub too-many : recordChars < k .0 → Takes bs new (Refused 14)
-    too-many h = λ j q. record { some = fourteen-not; early = omega arith; is = λ ts. stage-14 j ts (known .chars) (ap decode q ∙ known .is) (known .within) (let c = known .count in omega arith) }
+    pub too-many : (n : Diagnostic) → n ≡ plainly 14 → recordChars < k .0 → Takes bs new (Refused n)
+    too-many n u h =
+        rw u (λ j q. record {
+          some = λ e. omega arith;
+          early = omega arith;
+          is = λ ts. stage-14 j ts (known .chars) (ap decode q ∙ known .is) (known .within) (let c = known .count in omega arith);
+          places = refl;
+        })
 
     pub taken : k .0 ≤ recordChars → length old ≡ recordChars → Takes bs new (Chars k)
     taken h l =

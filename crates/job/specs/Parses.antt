@@ -6,7 +6,7 @@ use Prim.Native.Nat.{ℕ, _≤_}
 use lib.Dec.{eqb}
 use lib.ListN.{length, take}
 use Rattle.text.specs.Limits.{grammarTable, recordChars, readingNumbers}
-use Rattle.text.specs.Stages.{StageAnswer, answered, refused, Settles}
+use Rattle.text.specs.Stages.{StageAnswer, answered, refused, Settles, plainly}
 use Rattle.tree.specs.Tree.{Grammar}
 use Rattle.tree.specs.Tokens.{grammarTokens}
 use Rattle.syntax.specs.Parser.{parsed}
@@ -15,7 +15,8 @@ use Rattle.derive.specs.Pick.{found, chosenOf}
 use Rattle.derive.specs.Another.{ambiguousOf}
 use Rattle.items.specs.Items.{Items, Reads}
 use Rattle.answer.specs.Answer.{Job}
-use Rattle.answer.specs.Compute.{Test, firstOf, treeOf, mismatch}
+use Rattle.answer.specs.Compute.{Test, firstOf, treeOf, mismatch, placesAt, jobValues}
+use Rattle.load.specs.Loaded.{placesOf}
 use Rattle.job.specs.declared.LeftParse.{LeftParse}
 use Rattle.job.specs.declared.Refusal.{Refusal}
 use Rattle.job.specs.declared.Parse.{Parse}
@@ -25,7 +26,7 @@ use Rattle.job.specs.Found.{firstTest}
 
 -- the refusal, or none
 abbrev pub whyRefused : Parse → Refusal
-whyRefused (Chosen p) = record { number = 0; mismatch = false }
+whyRefused (Chosen p) = record { why = plainly 0; mismatch = false }
 whyRefused (Refused r) = r
 
 -- the lengths of the lent buffers
@@ -52,9 +53,10 @@ pub record IsChosen (j : Job) (T new P : List ℕ) (p : LeftParse) : Type 0 wher
 
 -- a refusal, with what 16 alone says of the version
 pub record NotChosen (j : Job) (r : Refusal) : Type 0 where
-  pub some : r .number ≡ 0 → ⊥
-  pub is : (ts : List Test) → firstTest j ts ≡ r .number
-  pub version : (eqb (r .number) 16 && r .mismatch) ≡ (eqb (r .number) 16 && mismatch (j .grammar))
+  pub some : r .why .number ≡ 0 → ⊥
+  pub is : (ts : List Test) → firstTest j ts ≡ r .why .number
+  pub version : (eqb (r .why .number) 16 && r .mismatch) ≡ (eqb (r .why .number) 16 && mismatch (j .grammar))
+  pub places : placesOf (r .why .places) ≡ placesAt (jobValues j) (r .why .number)
 
 -- document 01's number and values for each case
 abbrev pub parseOf : Parse → StageAnswer LeftParse Refusal

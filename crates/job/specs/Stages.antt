@@ -7,15 +7,16 @@ use lib.Dec.{ltb}
 use lib.ListN.{length, take}
 use Rattle.text.specs.Limits.{recordChars, grammarTable}
 use Rattle.text.specs.Lists.{Text, all}
-use Rattle.text.specs.Stages.{StageAnswer, answered, refused, Settles}
+use Rattle.text.specs.Stages.{StageAnswer, answered, refused, Settles, atByte, plainly}
+use Rattle.text.specs.declared.Diagnostic.{Diagnostic}
 use Rattle.text.specs.Utf8.{known}
 use Rattle.text.specs.Decode.{text, decode}
 use Rattle.plain.specs.Plain.{size}
 use Rattle.answer.specs.Answer.{Job, tableNeed}
-use Rattle.answer.specs.Compute.{Test, firstOf, grammarTests, recordTests}
+use Rattle.answer.specs.Compute.{Test, firstOf, grammarTests, recordTests, placesAt, jobValues}
 use Rattle.decode.specs.declared.Decoding.{Decoding}
 use Rattle.decode.specs.declared.Decoding.the-variants.{Of, CutShort, Malformed, Unknown}
-use Rattle.load.specs.Loaded.{Kept}
+use Rattle.load.specs.Loaded.{Kept, placesOf}
 use Rattle.job.specs.declared.Taken.{Taken}
 use Rattle.job.specs.declared.Taken.the-variants.{Chars, Refused}
 use Rattle.job.specs.declared.Start.{Start}
@@ -23,13 +24,13 @@ use Rattle.job.specs.declared.Begun.{Begun}
 use Rattle.job.specs.declared.Begun.the-variants.{At, Refused as Ended}
 
 -- document 01's number for each case
-abbrev pub whyText : Decoding → ℕ
-whyText (Of n) = 0
-whyText (CutShort p) = 12
-whyText (Malformed p) = 12
-whyText (Unknown p) = 13
+abbrev pub whyText : Decoding → Diagnostic
+whyText (Of n) = plainly 0
+whyText (CutShort p) = atByte 12 p
+whyText (Malformed p) = atByte 12 p
+whyText (Unknown p) = atByte 13 p
 
--- the n characters of some bytes stand in a buffer, none above the alphabet, and not too many
+-- the n characters of some bytes stand in a buffer, all of the alphabet, and not too many
 pub record Got (bs new : List ℕ) (n : ℕ) : Type 0 where
   pub chars : Text
   pub decoded : decode bs ≡ text chars
@@ -38,19 +39,20 @@ pub record Got (bs new : List ℕ) (n : ℕ) : Type 0 where
   pub count : n ≡ length chars
   pub stored : take n new ≡ chars
 
--- refused with n, by a stage before 16
-pub record Stopped (first : List Test → ℕ) (n : ℕ) : Type 0 where
-  pub some : n ≡ 0 → ⊥
-  pub early : n ≤ 15
-  pub is : (ts : List Test) → first ts ≡ n
+-- refused by a stage before 16, with the places that go with the number
+pub record Stopped (first : List Test → ℕ) (j : Job) (d : Diagnostic) : Type 0 where
+  pub some : d .number ≡ 0 → ⊥
+  pub early : d .number ≤ 15
+  pub is : (ts : List Test) → first ts ≡ d .number
+  pub places : placesOf (d .places) ≡ placesAt (jobValues j) (d .number)
 
 -- document 01's number and values for each case
-abbrev pub takenOf : Taken → StageAnswer ℕ ℕ
+abbrev pub takenOf : Taken → StageAnswer ℕ Diagnostic
 takenOf (Chars n) = answered (n .0)
-takenOf (Refused n) = refused n
+takenOf (Refused d) = refused d
 
 abbrev pub Takes : List ℕ → List ℕ → Taken → Type 0
-Takes bs new r = Settles (Got bs new) (λ n. (j : Job) → j .input ≡ bs → Stopped (λ ts. firstOf (recordTests j ts)) n) (takenOf r)
+Takes bs new r = Settles (Got bs new) (λ d. (j : Job) → j .input ≡ bs → Stopped (λ ts. firstOf (recordTests j ts)) j d) (takenOf r)
 
 -- none of 1 to 15 applies: the table has the grammar's tokens, the buffer the record's characters
 pub record Started (j : Job) (T new : List ℕ) (s : Start) : Type 0 where
@@ -59,9 +61,9 @@ pub record Started (j : Job) (T new : List ℕ) (s : Start) : Type 0 where
   pub enough : (ltb (j .mainTable) (tableNeed (size (grammar .tree)) (length (input .chars))) || ltb (j .secondTable) grammarTable) ≡ false
 
 -- document 01's number and values for each case
-abbrev pub begunOf : Begun → StageAnswer Start ℕ
+abbrev pub begunOf : Begun → StageAnswer Start Diagnostic
 begunOf (At s) = answered s
-begunOf (Ended n) = refused n
+begunOf (Ended d) = refused d
 
 abbrev pub Begins : Job → List ℕ → List ℕ → Begun → Type 0
-Begins j T new r = Settles (Started j T new) (Stopped (λ ts. firstOf (grammarTests (j .grammar) (recordTests j ts)))) (begunOf r)
+Begins j T new r = Settles (Started j T new) (Stopped (λ ts. firstOf (grammarTests (j .grammar) (recordTests j ts))) j) (begunOf r)

@@ -5,7 +5,7 @@ ghost use lib.ListN.{length};
 ghost use Rattle.text.specs.Limits.{grammarTable, recordChars, mostSize};
 ghost use Rattle.answer.specs.Answer.{Job, tableNeed};
 ghost use Rattle.answer.specs.Answer.{job};
-ghost use Rattle.text.specs.Stages.{numberOf};
+ghost use Rattle.text.specs.Stages.{numberOf, diagnosticOf};
 ghost use Rattle.reading.specs.Answer.{stageOf as walkedOf};
 ghost use Rattle.job.specs.Stages.{whyText, takenOf, begunOf, Takes, Started, Begins};
 ghost use Rattle.job.specs.Found.{foundOf, Readable, Ends};
@@ -15,23 +15,24 @@ use load::Loaded;
 use load::Passed;
 use reading::Walked;
 use text::CharPlace;
+use text::Diagnostic;
 use text::limits;
 use text::refusals;
 
 // Where the record's characters end.
 pub enum Taken {
     Chars(CharPlace),
-    Refused(u32),
+    Refused(Diagnostic),
 }
 
-fn why_text(decoded: Decoding) -> u32
+fn why_text(decoded: Decoding) -> Diagnostic
     ensures { λ r. ⌜ r ≡ whyText decoded ⌝ }
 {
     match decoded {
-        Decoding::Of(_) => refusals::ANSWERED,
-        Decoding::CutShort(_) => refusals::RECORD_NOT_UTF8,
-        Decoding::Malformed(_) => refusals::RECORD_NOT_UTF8,
-        Decoding::Unknown(_) => refusals::RECORD_CHARACTER,
+        Decoding::Of(_) => text::plain(refusals::ANSWERED),
+        Decoding::CutShort(p) => text::at_byte(refusals::RECORD_NOT_UTF8, p),
+        Decoding::Malformed(p) => text::at_byte(refusals::RECORD_NOT_UTF8, p),
+        Decoding::Unknown(p) => text::at_byte(refusals::RECORD_CHARACTER, p),
     }
 }
 
@@ -45,7 +46,7 @@ fn take_record(record: &[u8], text: &mut [u32]) -> Taken
         return Taken::Refused(why_text(decoded));
     };
     if limits::RECORD_CHARACTERS < end.0 {
-        return Taken::Refused(refusals::RECORD_TOO_LONG);
+        return Taken::Refused(text::plain(refusals::RECORD_TOO_LONG));
     }
     Taken::Chars(end)
 }
@@ -66,15 +67,15 @@ pub struct Start {
 
 pub enum Begun {
     At(Start),
-    Refused(u32),
+    Refused(Diagnostic),
 }
 
-fn why_taken(taken: Taken) -> u32
-    ensures { λ r. ⌜ r ≡ numberOf (takenOf taken) ⌝ }
+fn why_taken(taken: Taken) -> Diagnostic
+    ensures { λ r. ⌜ r ≡ diagnosticOf (takenOf taken) ⌝ }
 {
     match taken {
-        Taken::Chars(_) => refusals::ANSWERED,
-        Taken::Refused(number) => number,
+        Taken::Chars(_) => text::plain(refusals::ANSWERED),
+        Taken::Refused(diagnostic) => diagnostic,
     }
 }
 
@@ -92,17 +93,17 @@ fn begin(
 {
     let loaded = load::load_grammar(grammar, table);
     let Loaded::Grammar(passed) = loaded else {
-        return Begun::Refused(load::loaded_number(loaded));
+        return Begun::Refused(load::why_not_loaded(loaded));
     };
     let taken = take_record(record, text);
     let Taken::Chars(chars) = taken else {
         return Begun::Refused(why_taken(taken));
     };
     if main < need(text::wide(passed.size), chars.0) {
-        return Begun::Refused(refusals::TABLE_TOO_SHORT);
+        return Begun::Refused(text::plain(refusals::TABLE_TOO_SHORT));
     }
     if second < limits::GRAMMAR_TABLE {
-        return Begun::Refused(refusals::TABLE_TOO_SHORT);
+        return Begun::Refused(text::plain(refusals::TABLE_TOO_SHORT));
     }
     Begun::At(Start { passed, chars })
 }
@@ -156,12 +157,12 @@ fn read_record(
     })
 }
 
-fn why_begun(begun: Begun) -> u32
-    ensures { λ r. ⌜ r ≡ numberOf (begunOf begun) ⌝ }
+fn why_begun(begun: Begun) -> Diagnostic
+    ensures { λ r. ⌜ r ≡ diagnosticOf (begunOf begun) ⌝ }
 {
     match begun {
-        Begun::At(_) => refusals::ANSWERED,
-        Begun::Refused(number) => number,
+        Begun::At(_) => text::plain(refusals::ANSWERED),
+        Begun::Refused(diagnostic) => diagnostic,
     }
 }
 
@@ -184,9 +185,9 @@ pub struct LeftParse {
     pub mismatch: bool,
 }
 
-// The number of a refusal, and whether the grammar's version is another one, as far as that is known.
+// A refusal, and whether the grammar's version is another one, as far as that is known.
 pub struct Refusal {
-    pub number: u32,
+    pub why: Diagnostic,
     pub mismatch: bool,
 }
 
@@ -200,7 +201,7 @@ pub fn why_refused(parsed: Parse) -> Refusal
 {
     match parsed {
         Parse::Chosen(_) => Refusal {
-            number: 0,
+            why: text::plain(refusals::ANSWERED),
             mismatch: false,
         },
         Parse::Refused(refusal) => refusal,
@@ -224,7 +225,7 @@ pub fn parse_record(
     let begun = begin(grammar, record, main.len(), second, table, text);
     let Begun::At(start) = begun else {
         return Parse::Refused(Refusal {
-            number: why_begun(begun),
+            why: why_begun(begun),
             mismatch: false,
         });
     };
@@ -233,7 +234,7 @@ pub fn parse_record(
     let read = read_record(table, start, text, main, parse);
     let Read::Reading(found) = read else {
         return Parse::Refused(Refusal {
-            number: why_read(read),
+            why: text::plain(why_read(read)),
             mismatch,
         });
     };

@@ -40,7 +40,7 @@ fn copy_run(text: &[u32], p: CharPlace, out: &mut [u32], at: Cell) -> Run
     Run(from, to)
 }
 
-// The characters of a name, copied behind the two cells of its token's head.
+// The characters of a name, copied after the two cells of its token's head.
 fn name_run(text: &[u32], p: CharPlace, out: &mut [u32], at: Cell) -> Step
     requires { ⌜ Room (now text) (p .0) (now out) (at .0) ⌝ }
     ensures { λ r. ⌜ After-run (now (text .entry)) (p .0) (now (out .entry)) (at .0) r (now (out .exit)) ⌝ }

@@ -5,19 +5,26 @@ use mathlib.Core.Logic.{⊎-elim}
 use mathlib.Core.List.{List, [], _∷_, _++_}
 use Prim.Native.Nat.{ℕ, zero, suc, _+_, _≤_, _<_}
 use native.Mathlib.Omega.{arith}
-use lib.Dec.{eqb}
+use lib.Dec.{eqb, ltb}
 use lib.ListN.{length, take, drop, length-append}
 use lib.Seq.{take-all, take-at}
 use Rattle.text.specs.Limits.{grammarBytes, grammarTable, mostSize}
 use Rattle.text.specs.Lists.{Text, all, pick}
 use Rattle.text.specs.Stages.{StageAnswer, Settles}
 use Rattle.text.specs.Utf8.{Utf8, utf8, utf8s, unmarked, known}
-use Rattle.text.specs.Decode.{Decoded, text, not-utf8, decode}
-use Rattle.text.specs.Faults.{afterMark}
+use Rattle.text.specs.Decode.{Decoded, text, not-utf8, decode, unmark, breakOf}
+use Rattle.text.specs.Faults.{every, Breaks, afterMark}
+use Rattle.text.specs.declared.BytePlace.{BytePlace}
+use Rattle.text.specs.declared.Diagnostic.{Diagnostic}
+use Rattle.text.specs.Stages.{atByte, plainly}
+use Rattle.text.proofs.Faults.{break-of}
 use Rattle.text.proofs.Decode.{some-bytes, decode-sound}
 use Rattle.tree.specs.Tree.{Grammar}
 use Rattle.syntax.specs.Parser.{Parsed, parsed, no-parse, parse}
-use Rattle.answer.specs.Compute.{Test, firstOf, treeOf, grammarTests, mismatch}
+use Rattle.plain.specs.Static.{undefined, duplicate, beyond, banned, backwards, unclassed}
+use Rattle.plain.specs.Plain.{size}
+use Rattle.answer.specs.Compute.{Test, test, firstOf, treeOf, grammarTests, mismatch, value, placesAt, checkValues}
+use Rattle.answer.proofs.Noted.{value-skip}
 use Rattle.answer.proofs.Stages.{stage-1, stage-2, stage-3, stage-4, stage-static, tree-is, mismatch-is}
 use Rattle.decode.specs.declared.Decoding.{Decoding}
 use Rattle.decode.specs.declared.Decoding.the-variants.{Of, CutShort, Malformed, Unknown}
@@ -26,12 +33,12 @@ use denote.Enum.Declared.{tagOf}
 use types.Run.{OneOf}
 use Rattle.decode.proofs.Decoding.{the-type}
 use Rattle.decode.specs.Scan.{over}
-use Rattle.decode.specs.Whole.{Decodes, unmark}
+use Rattle.decode.specs.Whole.{Ends, cut-short, malformed, unknown, Decodes}
 use Rattle.decode.proofs.Answers.{Tells, tells-of, tells-cut, tells-malformed, tells-unknown, Told, told-grammar}
 use Rattle.load.specs.declared.Passed.{Passed}
 use Rattle.load.specs.declared.Loaded.{Loaded}
-use Rattle.load.specs.Checked.{stageOf}
-use Rattle.load.specs.Loaded.{Roomy, Reads, reads-none, reads-refused, reads-grammar, Turned, Kept, Loads, whyOf}
+use Rattle.load.specs.Checked.{Refuses, stageOf}
+use Rattle.load.specs.Loaded.{Roomy, Reads, reads-none, reads-refused, reads-grammar, Turned, Kept, Loads, whyOf, placesOf}
 
 -- no more characters than bytes
 count-le : (cs : Text) → length cs ≤ length (utf8s cs)
@@ -112,34 +119,69 @@ module _ (bs old new : List ℕ) (r : Decoding) (w : Decodes bs (afterMark bs) o
       go (tells-malformed x) q = absurd (let z : _≡_ {A = ℕ} 0 1 = cc in omega arith)
       go (tells-unknown x) q = absurd (let z : _≡_ {A = ℕ} 0 1 = cc in omega arith)
 
-  -- a text that is not decoded is refused
-  pub turned : length bs ≤ 4096 → (whyOf r ≡ 0 → ⊥) → Turned bs (whyOf r)
-  turned l h = go (told .tells) h
+  -- a text that is not decoded is refused, with the place of its break
+  pub turned : length bs ≤ 4096 → (whyOf r .number ≡ 0 → ⊥) → Turned bs (whyOf r)
+  turned l h = go (w .answer) (told .tells) h
     where
-      go : {d : Decoding} → Tells (unmark (decode bs)) d → (whyOf d ≡ 0 → ⊥) → Turned bs (whyOf d)
-      go (tells-of x) z = absurd (z refl)
-      go (tells-cut x) z = record { some = z; first = λ ts. stage-2 bs ts l (no-text bs x) }
-      go (tells-malformed x) z = record { some = z; first = λ ts. stage-2 bs ts l (no-text bs x) }
-      go (tells-unknown x) z =
+      at : {f : ℕ → Bool} (p : BytePlace) → Breaks f bs (afterMark bs) (p .0) → placesOf (atByte 2 p .places) ≡ record { byte = breakOf f bs (afterMark bs); fault = 0; grammar = 0 }
+      at {f = f} p b = let e = break-of f bs (afterMark bs) (p .0) b in λ ι. record { byte = sym e ι; fault = 0; grammar = 0 }
+
+      two : (p : BytePlace) → Breaks every bs (afterMark bs) (p .0) → unmark (decode bs) ≡ not-utf8 → Turned bs (atByte 2 p)
+      two p b x = record { some = λ e. omega arith; early = omega arith; first = λ ts. stage-2 bs ts l (no-text bs x); places = at p b }
+
+      go : {d : Decoding} → Ends bs (afterMark bs) d → Tells (unmark (decode bs)) d → (whyOf d .number ≡ 0 → ⊥) → Turned bs (whyOf d)
+      go a (tells-of x) z = absurd (z refl)
+      go (cut-short {p = p} b c) (tells-cut x) z = two p b x
+      go (malformed {p = p} b c) (tells-malformed x) z = two p b x
+      go (unknown {p = p} cs v b) (tells-unknown x) z =
           let u = unmarked-text bs (x .chars) (x .is) in
-          record { some = z; first = λ ts. stage-3 bs ts l (u .chars) (u .decoded) (ap (all known) (sym (u .is)) ∙ x .outside) }
+          record {
+            some = z;
+            early = omega arith;
+            first = λ ts. stage-3 bs ts l (u .chars) (u .decoded) (ap (all known) (sym (u .is)) ∙ x .outside);
+            places = at p b;
+          }
 
-one-not : _≡_ {A = ℕ} 1 0 → ⊥
-one-not e = omega arith
+pub too-long : (bs : List ℕ) → 4096 < length bs → Turned bs (plainly 1)
+too-long bs l = record { some = λ e. omega arith; early = omega arith; first = λ ts. stage-1 bs ts l; places = refl }
 
-four-not : _≡_ {A = ℕ} 4 0 → ⊥
-four-not e = omega arith
+-- the numbers of the static rules and the size
+between-of : (g : Grammar) (n : ℕ) → Refuses g n → (4 ≤ n) × (n ≤ 11)
+between-of g n r = by (undefined g) (duplicate g) (beyond g) (banned g) (backwards g) (unclassed g) (ltb mostSize (size g)) (r .first [])
+  where
+    by : (a b c d e f s : Bool) → firstOf (test 5 (λ _. a) ∷ test 6 (λ _. b) ∷ test 7 (λ _. c) ∷ test 8 (λ _. d) ∷ test 9 (λ _. e) ∷ test 10 (λ _. f) ∷ test 11 (λ _. s) ∷ []) ≡ n → (4 ≤ n) × (n ≤ 11)
+    by true b c d e f s q = (omega arith, omega arith)
+    by false true c d e f s q = (omega arith, omega arith)
+    by false false true d e f s q = (omega arith, omega arith)
+    by false false false true e f s q = (omega arith, omega arith)
+    by false false false false true f s q = (omega arith, omega arith)
+    by false false false false false true s q = (omega arith, omega arith)
+    by false false false false false false true q = (omega arith, omega arith)
+    by false false false false false false false q = absurd (r .some (sym q))
 
-pub too-long : (bs : List ℕ) → 4096 < length bs → Turned bs 1
-too-long bs l = record { some = one-not; first = λ ts. stage-1 bs ts l }
+-- a refusal from 4 on
+plain-turned : (bs : List ℕ) (d : Diagnostic) → d ≡ plainly (d .number) → (d .number ≡ 0 → ⊥) → 4 ≤ d .number → d .number ≤ 11
+    → ((ts : List Test) → firstOf (grammarTests bs ts) ≡ d .number) → Turned bs d
+plain-turned bs d e z l h f = record { some = z; early = h; first = f; places = ap (λ (x : Diagnostic). placesOf (x .places)) e ∙ sym (none (d .number) l) }
+  where
+    none : (n : ℕ) → 4 ≤ n → placesAt (checkValues bs) n ≡ record { byte = 0; fault = 0; grammar = 0 }
+    none n l =
+        let two = value 2 (λ _. breakOf every bs (afterMark bs)) in
+        let three = value 3 (λ _. breakOf known bs (afterMark bs)) in
+        let e = value-skip two (three ∷ []) n (λ q. omega arith) ∙ value-skip three [] n (λ q. omega arith) in
+        λ ι. record { byte = e ι; fault = 0; grammar = 0 }
 
 pub loaded : (bs new T : List ℕ) (n : ℕ) → length bs ≤ 4096 → Got bs new n → (r : Loaded) → Reads (take n new) T (stageOf r) → Loads bs T r
 loaded bs new T n l d r h = go (stageOf r) (subst (λ (s : Text). Reads s T (stageOf r)) (d .stored) h)
   where
-    go : (a : StageAnswer Passed ℕ) → Reads (unmarked (d .chars)) T a → Settles (Kept bs T) (Turned bs) a
-    go _ (reads-none e) = record { some = four-not; first = λ ts. stage-4 bs ts l (d .chars) (d .decoded) (d .within) e }
-    go _ (reads-refused f) =
-        record { some = f .refuses .some; first = λ ts. stage-static bs ts l (d .chars) (d .decoded) (d .within) (f .tree) (f .parse) ∙ f .refuses .first ts }
+    go : (a : StageAnswer Passed Diagnostic) → Reads (unmarked (d .chars)) T a → Settles (Kept bs T) (Turned bs) a
+    go _ (reads-none e) =
+        plain-turned bs (plainly 4) refl (λ z. omega arith) (omega arith) (omega arith) (λ ts. stage-4 bs ts l (d .chars) (d .decoded) (d .within) e)
+    go _ (reads-refused {d = k} f) =
+        let x = f .holds in
+        let b = between-of (x .tree) (k .number) (x .refuses) in
+        plain-turned bs k (f .nowhere) (x .refuses .some) (b .0) (b .1)
+        (λ ts. stage-static bs ts l (d .chars) (d .decoded) (d .within) (x .tree) (x .parse) ∙ x .refuses .first ts)
     go _ (reads-grammar x) =
         let g = x .tree in
         let q = x .passes in
@@ -160,7 +202,7 @@ pub roomy : (bs new T : List ℕ) (n : ℕ) → Got bs new n → length T ≡ gr
 roomy bs new T n d t = let s = ap length (d .stored) in let c = d .count in let f = d .few in record { chars = omega arith; table = t }
 
 -- an answer that is no text has a refusal
-pub some-refusal : (d : Decoding) → OneOf (1 ∷ 2 ∷ 3 ∷ []) (tagOf the-type d) → whyOf d ≡ 0 → ⊥
+pub some-refusal : (d : Decoding) → OneOf (1 ∷ 2 ∷ 3 ∷ []) (tagOf the-type d) → whyOf d .number ≡ 0 → ⊥
 some-refusal (Of n) h e = ⊎-elim (λ q. omega arith) (λ k. ⊎-elim (λ q. omega arith) (λ q. omega arith) k) h
 some-refusal (CutShort p) h e = omega arith
 some-refusal (Malformed p) h e = omega arith

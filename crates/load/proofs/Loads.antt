@@ -7,7 +7,8 @@ use native.Mathlib.Omega.{arith}
 use lib.ListN.{length, take}
 use Rattle.text.specs.Limits.{grammarBytes, grammarTable}
 use Rattle.text.specs.Lists.{Text}
-use Rattle.text.specs.Stages.{refused}
+use Rattle.text.specs.Stages.{refused, plainly, Plain}
+use Rattle.text.specs.declared.Diagnostic.{Diagnostic}
 use Rattle.tree.specs.Tree.{Grammar}
 use Rattle.syntax.specs.Parser.{Parsed, parsed, no-parse, parse}
 use Rattle.syntax.proofs.Sound.{sound}
@@ -21,10 +22,14 @@ use Rattle.load.specs.declared.Loaded.the-variants.{Grammar as Accepted,
 use Rattle.load.specs.Checked.{Stands, Standing, TreeChecked, Passes, stageOf}
 use Rattle.load.specs.Loaded.{Roomy, Reads, reads-none, reads-refused, reads-grammar}
 
+-- a refusal that names no place
+pub plain-is : (Q : ℕ → Type 0) (n : ℕ) (d : Diagnostic) → d ≡ plainly n → Q n → Plain Q d
+plain-is Q n d e h = subst (Plain Q) (sym e) (record { holds = h; nowhere = refl })
+
 pub readable : (s : Text) (T : List ℕ) → Roomy s T → Readable s T
 readable s T r = let a = r .chars in let b = r .table in record { room = omega arith; few = omega arith }
 
-pub no-tree : (s : Text) (T : List ℕ) (x : Reading) → x ≡ NoGrammar → Read-as s x T → Reads s T (refused 4)
+pub no-tree : (s : Text) (T : List ℕ) (x : Reading) → x ≡ NoGrammar → Read-as s x T → Reads s T (refused (plainly 4))
 no-tree s T x e h = reads-none (subst (λ (y : Reading). Read-as s y T) e h .none)
 
 held : (s : Text) (T : List ℕ) (x : Reading) (b : Cell) → x ≡ A-grammar b → Read-as s x T → Held s T (b .0)
@@ -52,6 +57,7 @@ checked s T x b e h l (Accepted p) j =
       inside = omega arith;
       passes = subst (λ (n : ℕ). Passes (w .tree) n p) (sym t) q;
     })
-checked s T x b e h l (Refused n) j =
+checked s T x b e h l (Refused d) j =
     let w = held s T x b e h in
-    reads-refused (record { tree = w .tree; parse = w .same; refuses = j (w .tree) (stands s T (b .0) w) })
+    let k = j (w .tree) (stands s T (b .0) w) in
+    reads-refused {d = d} (record { holds = record { tree = w .tree; parse = w .same; refuses = k .holds }; nowhere = k .nowhere })

@@ -7,7 +7,8 @@ use lib.Dec.{ltb}
 use lib.ListN.{length, take}
 use Rattle.text.specs.Limits.{mostSize, grammarTable}
 use Rattle.text.specs.Lists.{Text}
-use Rattle.text.specs.Stages.{StageAnswer, answered, refused, Settles}
+use Rattle.text.specs.Stages.{StageAnswer, answered, refused, Settles, Plain}
+use Rattle.text.specs.declared.Diagnostic.{Diagnostic}
 use Rattle.tree.specs.Tree.{Grammar}
 use Rattle.tree.specs.Tokens.{encode, grammarTokens}
 use Rattle.syntax.specs.Syntax.{Ixml}
@@ -56,9 +57,9 @@ pub record Passes (g : Grammar) (end : ℕ) (p : Passed) : Type 0 where
   pub first : (ts : List Test) → firstOf (treeTests g ts) ≡ firstOf ts
 
 -- document 01's number and values for each case
-abbrev pub stageOf : Loaded → StageAnswer Passed ℕ
+abbrev pub stageOf : Loaded → StageAnswer Passed Diagnostic
 stageOf (Accepted p) = answered p
-stageOf (Refused n) = refused n
+stageOf (Refused d) = refused d
 
 abbrev pub TreeChecked : List ℕ → ℕ → Loaded → Type 0
-TreeChecked T end r = (g : Grammar) → Stands T end g → Settles (Passes g end) (Refuses g) (stageOf r)
+TreeChecked T end r = (g : Grammar) → Stands T end g → Settles (Passes g end) (Plain (Refuses g)) (stageOf r)

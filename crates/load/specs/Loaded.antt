@@ -6,12 +6,15 @@ use Prim.Native.Nat.{ℕ, _*_, _≤_}
 use lib.ListN.{length}
 use Rattle.text.specs.Limits.{grammarBytes, grammarTable, mostSize}
 use Rattle.text.specs.Lists.{Text}
-use Rattle.text.specs.Stages.{StageAnswer, answered, refused, Settles}
+use Rattle.text.specs.Stages.{StageAnswer, answered, refused, Settles, atByte, plainly, Plain}
+use Rattle.text.specs.declared.Places.{Places}
+use Rattle.text.specs.declared.Diagnostic.{Diagnostic}
 use Rattle.tree.specs.Tree.{Grammar}
 use Rattle.syntax.specs.Parser.{Parsed, parsed, no-parse, parse}
 use Rattle.plain.specs.Plain.{size}
 use Rattle.plain.specs.Static.{mismatched}
-use Rattle.answer.specs.Compute.{Test, firstOf, treeOf, grammarTests, mismatch}
+use Rattle.answer.specs.Answer.{Places as Answered}
+use Rattle.answer.specs.Compute.{Test, firstOf, treeOf, grammarTests, mismatch, placesAt, checkValues}
 use Rattle.static_errors.specs.Held.{staticOf}
 use Rattle.decode.specs.declared.Decoding.{Decoding}
 use Rattle.decode.specs.declared.Decoding.the-variants.{Of, CutShort, Malformed, Unknown}
@@ -39,15 +42,21 @@ pub record Fails (s : Text) (n : ℕ) : Type 0 where
   pub refuses : Refuses tree n
 
 -- of characters: 4 without a tree
-pub data Reads (s : Text) (T : List ℕ) : StageAnswer Passed ℕ → Type 0 where
-  reads-none : parse s ≡ no-parse → Reads s T (refused 4)
-  reads-refused : {n : ℕ} → Fails s n → Reads s T (refused n)
+pub data Reads (s : Text) (T : List ℕ) : StageAnswer Passed Diagnostic → Type 0 where
+  reads-none : parse s ≡ no-parse → Reads s T (refused (plainly 4))
+  reads-refused : {d : Diagnostic} → Plain (Fails s) d → Reads s T (refused d)
   reads-grammar : {p : Passed} → Parses s T p → Reads s T (answered p)
 
+-- the places of a refusal, as an answer carries them
+abbrev pub placesOf : Places → Answered
+placesOf p = record { byte = p .byte .0; fault = p .fault .0; grammar = p .grammar .0 }
+
 -- of bytes
-pub record Turned (bs : List ℕ) (n : ℕ) : Type 0 where
-  pub some : n ≡ 0 → ⊥
-  pub first : (ts : List Test) → firstOf (grammarTests bs ts) ≡ n
+pub record Turned (bs : List ℕ) (d : Diagnostic) : Type 0 where
+  pub some : d .number ≡ 0 → ⊥
+  pub early : d .number ≤ 11
+  pub first : (ts : List Test) → firstOf (grammarTests bs ts) ≡ d .number
+  pub places : placesOf (d .places) ≡ placesAt (checkValues bs) (d .number)
 
 pub record Kept (bs T : List ℕ) (p : Passed) : Type 0 where
   pub tree : Grammar
@@ -64,8 +73,8 @@ abbrev pub Loads : List ℕ → List ℕ → Loaded → Type 0
 Loads bs T r = Settles (Kept bs T) (Turned bs) (stageOf r)
 
 -- 2 and 3 are the refusals of a text that is not decoded
-abbrev pub whyOf : Decoding → ℕ
-whyOf (Of n) = 0
-whyOf (CutShort p) = 2
-whyOf (Malformed p) = 2
-whyOf (Unknown p) = 3
+abbrev pub whyOf : Decoding → Diagnostic
+whyOf (Of n) = plainly 0
+whyOf (CutShort p) = atByte 2 p
+whyOf (Malformed p) = atByte 2 p
+whyOf (Unknown p) = atByte 3 p

@@ -2,12 +2,13 @@
 use decode::Decoding;
 use reader::Reading;
 use static_errors::Ruling;
+use text::Diagnostic;
 use text::limits;
 use text::refusals;
 ghost use mathlib.Core.Path.{_≡_};
 ghost use lib.ListN.{length};
 ghost use Rattle.static_errors.specs.Held.{ruleNumber};
-ghost use Rattle.text.specs.Stages.{numberOf};
+ghost use Rattle.text.specs.Stages.{diagnosticOf};
 ghost use Rattle.load.specs.Checked.{stageOf, Standing, TreeChecked};
 ghost use Rattle.load.specs.Loaded.{Roomy, Reads, Loads, whyOf};
 ghost use Rattle.text.specs.Limits.{grammarTable};
@@ -23,16 +24,16 @@ pub struct Passed {
 
 pub enum Loaded {
     Grammar(Passed),
-    Refused(u32),
+    Refused(Diagnostic),
 }
 
-// The number of what is loaded: 0, or the refusal's.
-pub fn loaded_number(loaded: Loaded) -> u32
-    ensures { λ r. ⌜ r ≡ numberOf (stageOf loaded) ⌝ }
+// Why nothing is loaded.
+pub fn why_not_loaded(loaded: Loaded) -> Diagnostic
+    ensures { λ r. ⌜ r ≡ diagnosticOf (stageOf loaded) ⌝ }
 {
     match loaded {
-        Loaded::Grammar(_) => refusals::ANSWERED,
-        Loaded::Refused(number) => number,
+        Loaded::Grammar(_) => text::plain(refusals::ANSWERED),
+        Loaded::Refused(diagnostic) => diagnostic,
     }
 }
 
@@ -58,11 +59,11 @@ pub fn check_tree(table: &[u32], end: usize) -> Loaded
 {
     let ruling = static_errors::static_refusal(table, end);
     let Ruling::Kept = ruling else {
-        return Loaded::Refused(why_broken(ruling));
+        return Loaded::Refused(text::plain(why_broken(ruling)));
     };
     let size = measure::grammar_size(table, end);
     if LARGEST < size {
-        return Loaded::Refused(refusals::GRAMMAR_TOO_LARGE);
+        return Loaded::Refused(text::plain(refusals::GRAMMAR_TOO_LARGE));
     }
     let mismatch = static_errors::version_mismatch(table, end);
     Loaded::Grammar(Passed {
@@ -79,20 +80,20 @@ pub fn read_text(text: &[u32], table: &mut [u32]) -> Loaded
 {
     let read = reader::read_grammar(text, table);
     let Reading::Grammar(end) = read else {
-        return Loaded::Refused(refusals::NOT_IXML);
+        return Loaded::Refused(text::plain(refusals::NOT_IXML));
     };
     check_tree(table, end.0)
 }
 
 // The refusal of a text that is not decoded.
-fn why(decoded: Decoding) -> u32
+fn why(decoded: Decoding) -> Diagnostic
     ensures { λ r. ⌜ r ≡ whyOf decoded ⌝ }
 {
     match decoded {
-        Decoding::Of(_) => refusals::ANSWERED,
-        Decoding::CutShort(_) => refusals::GRAMMAR_NOT_UTF8,
-        Decoding::Malformed(_) => refusals::GRAMMAR_NOT_UTF8,
-        Decoding::Unknown(_) => refusals::GRAMMAR_CHARACTER,
+        Decoding::Of(_) => text::plain(refusals::ANSWERED),
+        Decoding::CutShort(p) => text::at_byte(refusals::GRAMMAR_NOT_UTF8, p),
+        Decoding::Malformed(p) => text::at_byte(refusals::GRAMMAR_NOT_UTF8, p),
+        Decoding::Unknown(p) => text::at_byte(refusals::GRAMMAR_CHARACTER, p),
     }
 }
 
@@ -102,7 +103,7 @@ pub fn load_grammar(grammar: &[u8], table: &mut [u32]) -> Loaded
     ensures { λ r. ⌜ Loads (now (grammar .entry)) (now (table .exit)) r ⌝ }
 {
     if limits::GRAMMAR_BYTES < grammar.len() {
-        return Loaded::Refused(refusals::GRAMMAR_TOO_LONG);
+        return Loaded::Refused(text::plain(refusals::GRAMMAR_TOO_LONG));
     }
     let mut text = [0u32; limits::GRAMMAR_BYTES];
     let decoded = decode::decode_grammar(grammar, &mut text);

@@ -3,12 +3,12 @@ use mathlib.Core.Bool.{Bool, true, false, _&&_}
 use mathlib.Core.Path.{_≡_, refl, sym, ap, ap₂, subst, _∙_}
 use mathlib.Core.Logic.{_⊎_, inl, inr, ⊎-elim}
 use mathlib.Core.List.{List, [], _∷_, _++_, append-assoc}
-use Prim.Native.Nat.{ℕ, zero, suc, _+_, _<_}
+use Prim.Native.Nat.{ℕ, zero, suc, _+_, _<_, _≤_}
 use native.Mathlib.Omega.{arith}
 use lib.ListN.{length, drop, length-append}
-use Rattle.text.specs.Lists.{Text, all}
+use Rattle.text.specs.Lists.{Text, pick, all}
 use Rattle.text.specs.Utf8.{Scalar, utf8, utf8s, All, none, more, Utf8}
-use Rattle.text.specs.Decode.{Taken, got, cut, bad, charOf}
+use Rattle.text.specs.Decode.{Taken, got, cut, bad, charOf, onward, breakIn, breakOf}
 use Rattle.text.specs.Faults.{Fits, Breaks}
 use Rattle.text.proofs.Tests.{clash}
 use Rattle.text.proofs.Step.{step-complete, step-sound, nothing-cut, nothing-bad}
@@ -161,3 +161,43 @@ module _ (f : ℕ → Bool) where
         place = from + length (utf8s (b .before));
         breaks = record { before = b .before; rest = b .rest; fits = b .fits; spelt = b .spelt; counts = refl; some = b .some; stops = b .stops };
       })) (within (suc (length (drop from bs))) (drop from bs) (omega arith))
+
+  -- and the computed place is that of the break
+  stops-here : (rest : List ℕ) (q : ℕ) (k : ℕ → List ℕ → ℕ) → Stops rest → (o : Taken) → charOf rest ≡ o → onward f q k o ≡ q
+  stops-here rest q k n (got c m t) e = go (f c) refl
+    where
+      go : (b : Bool) → f c ≡ b → pick b (k (q + m) t) q ≡ q
+      go true p = let w = step-sound rest c m t e in absurd (n c t (record { scalar = w .scalar; passes = p }) (w .spelt))
+      go false p = refl
+  stops-here rest q k n cut e = refl
+  stops-here rest q k n bad e = refl
+
+  break-in : (m : ℕ) (cs : Text) (rest : List ℕ) (q : ℕ) → All (Fits f) cs → Stops rest → length cs ≤ m → breakIn m f q (utf8s cs ++ rest) ≡ q + length (utf8s cs)
+  unfolding breakIn utf8s
+  break-in zero [] rest q none n l = omega arith
+  break-in (suc m) [] rest q none n l = stops-here rest q (breakIn m f) n (charOf rest) refl ∙ omega arith
+  break-in zero (c ∷ cs) rest q ps n l = absurd (omega arith)
+  break-in (suc m) (c ∷ cs) rest q (more p ps) n l =
+      let a = append-assoc (utf8 c) (utf8s cs) rest in
+      let w = break-in m cs rest (q + length (utf8 c)) ps n (omega arith) in
+      let d = length-append (utf8 c) (utf8s cs) in
+      rw (a, step-complete c (utf8s cs ++ rest) (p .scalar), p .passes) (w ∙ omega arith)
+
+  few-chars : (cs : Text) → length cs ≤ length (utf8s cs)
+  unfolding utf8s
+  few-chars [] = omega arith
+  few-chars (c ∷ cs) = let h = few-chars cs in let b = some-bytes c in let a = length-append (utf8 c) (utf8s cs) in omega arith
+
+  pub break-of : (bs : List ℕ) (from p : ℕ) → Breaks f bs from p → breakOf f bs from ≡ p
+  unfolding breakOf
+  break-of bs from p x =
+      let cs = x .before in
+      let a = length-append (utf8s cs) (x .rest) in
+      let l : length cs ≤ length (drop from bs) = omega (arith, few-chars cs, a, ap length (x .spelt)) in
+      let w = break-in (length (drop from bs)) cs (x .rest) from (x .fits) (x .stops) l in
+      ap (breakIn (length (drop from bs)) f from) (x .spelt) ∙ w ∙ sym (x .counts)
+
+  -- where not all fits
+  pub break-there : (bs : List ℕ) (from : ℕ) → (Whole (drop from bs) → ⊥) → Breaks f bs from (breakOf f bs from)
+  break-there bs from n =
+      ⊎-elim (λ w. absurd (n w)) (λ b. subst (Breaks f bs from) (sym (break-of bs from (b .place) (b .breaks))) (b .breaks)) (whole-or-broken bs from)

@@ -3,8 +3,9 @@ use mathlib.Core.Bool.{Bool}
 use mathlib.Core.List.{List, [], _∷_}
 use Prim.Native.Nat.{ℕ, zero, suc, _+_, _*_, _-_}
 use lib.Dec.{ltb, eqb}
-use lib.ListN.{length}
+use lib.ListN.{length, drop}
 use Rattle.text.specs.Lists.{Text, pick}
+use Rattle.text.specs.Utf8.{unmarked}
 
 -- one character: its code point, how many bytes it took and what follows; or the bytes end inside it; or it is malformed
 pub data Taken : Type 0 where
@@ -55,3 +56,21 @@ decodeIn (suc f) (b ∷ bs) = after (decodeIn f) (charOf (b ∷ bs))
 
 unfoldable pub decode : List ℕ → Decoded
 decode bs = decodeIn (suc (length bs)) bs
+
+-- a text without its byte order mark
+abbrev pub unmark : Decoded → Decoded
+unmark (text cs) = text (unmarked cs)
+unmark not-utf8 = not-utf8
+
+-- the byte place of the first character that fails the test, by steps from the place p on
+abbrev pub onward : (ℕ → Bool) → ℕ → (ℕ → List ℕ → ℕ) → Taken → ℕ
+onward f p k (got c n t) = pick (f c) (k (p + n) t) p
+onward f p k cut = p
+onward f p k bad = p
+
+unfoldable pub breakIn : ℕ → (ℕ → Bool) → ℕ → List ℕ → ℕ
+breakIn zero f p bs = p
+breakIn (suc m) f p bs = onward f p (breakIn m f) (charOf bs)
+
+unfoldable pub breakOf : (ℕ → Bool) → List ℕ → ℕ → ℕ
+breakOf f bs from = breakIn (length (drop from bs)) f from (drop from bs)

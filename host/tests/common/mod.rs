@@ -12,7 +12,7 @@ use std::time::Duration;
 use std::{fmt, thread};
 
 use ixml::limits::{main_table, GRAMMAR_TABLE, RECORD_CHARACTERS};
-use ixml::Answer;
+use ixml::{Answer, Places};
 use ixml_yardstick::gen::{Random, Style};
 use ixml_yardstick::{gen, statics, syntax};
 use lent::Lent;
@@ -58,6 +58,11 @@ pub fn yardstick(answer: ixml_yardstick::Answer) -> Answer {
         length: answer.length,
         ambiguous: answer.ambiguous,
         version: answer.version,
+        places: Places {
+            byte: answer.places.byte,
+            fault: answer.places.fault,
+            grammar: answer.places.grammar,
+        },
     }
 }
 

@@ -15,11 +15,16 @@ enum-known-loaded c = search needs
 enum-told : tie.Need-enum-told
 enum-told c = search needs
 
-loaded-number-requires : tie.Need-loaded-number-requires
-loaded-number-requires c κs = search needs
+why-not-loaded-requires : tie.Need-why-not-loaded-requires
+why-not-loaded-requires c κs = search needs
+
+refuse-requires : tie.Need-refuse-requires
+refuse-requires c κs = search needs
 
 returns : tie.Need-returns
-returns c = refuses _ _ _ _ _ (c .before .enum-told .given .1) (c .loaded-number .ensures) (c .before .before .before .before .load-grammar .ensures)
+returns c =
+    let at-why = c .before in
+    refuses _ _ _ _ _ _ (at-why .before .enum-told .given .1) (at-why .why-not-loaded .ensures) (at-why .before .before .before .before .load-grammar .ensures) (c .refuse .ensures)
 
 returns-2 : tie.Need-returns-2
 returns-2 c = accepts _ _ _ _ (c .before .loaded .given .1) (c .before .before .before .before .load-grammar .ensures)
@@ -32,6 +37,7 @@ ixml-check-spec =
     load-grammar-requires
     enum-known-loaded
     enum-told
-    loaded-number-requires
+    why-not-loaded-requires
+    refuse-requires
     returns
     returns-2)

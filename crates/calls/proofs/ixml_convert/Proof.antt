@@ -1,3 +1,4 @@
+use native.Mathlib.Omega.{arith}
 use Rattle.job.proofs.Texts.{got-in, got-part}
 use Rattle.calls.proofs.Outcomes.{is-chosen}
 use Rattle.calls.proofs.ConvertsAs.{convert-not-chosen, numbers-in, numbers-part, convertible, convert-refused, convert-done}
@@ -80,24 +81,33 @@ enum-told-2 c = search needs
 why-converted-requires : tie.Need-why-converted-requires
 why-converted-requires c κs = search needs
 
+plain-requires : tie.Need-plain-requires
+plain-requires c κs = search needs
+
 refuse-requires-2 : tie.Need-refuse-requires-2
 refuse-requires-2 c κs = search needs
 
 same-length-2 : tie.Need-same-length-2
-same-length-2 c = search needs
+same-length-2 c =
+    let at-why = c .before .before in
+    let parse-record = at-why .before .before .before .before .before .before .before .before .before .before .before .before .before .before
+    .before .before .before .before .parse-record in
+    omega (arith, parse-record .kept .1 .1 .0)
 
 same-length-3 : tie.Need-same-length-3
 same-length-3 c = search needs
 
 returns-2 : tie.Need-returns-2
 returns-2 c =
-    let enum-told2 = c .before .before .enum-told2 in
-    let convert = c .before .before .before .before .before .before .convert in
-    let parsed = c .before .before .before .before .before .before .before .before .before .before .before .before .parsed in
-    let parse-record = c .before .before .before .before .before .before .before .before .before .before .before .before .before .before .before
+    let at-plain = c .before in
+    let at-why = at-plain .before in
+    let enum-told2 = at-why .before .enum-told2 in
+    let convert = at-why .before .before .before .before .before .convert in
+    let parsed = at-why .before .before .before .before .before .before .before .before .before .before .before .parsed in
+    let parse-record = at-why .before .before .before .before .before .before .before .before .before .before .before .before .before .before
     .before .before .before .before .parse-record in
     let y = is-chosen _ _ _ _ _ _ (parsed .given .1) (parse-record .ensures) in
-    convert-refused _ _ _ _ _ _ y _ _ (convert .ensures) _ _ _ (enum-told2 .given .1) (c .before .why-converted .ensures) (c .refuse2 .ensures)
+    convert-refused _ _ _ _ _ _ y _ _ (convert .ensures) _ _ _ _ (enum-told2 .given .1) (at-why .why-converted .ensures) (at-plain .plain .ensures) (c .refuse2 .ensures)
 
 same-length-4 : tie.Need-same-length-4
 same-length-4 c = search needs
@@ -137,6 +147,7 @@ ixml-convert-spec =
     enum-known-converted
     enum-told-2
     why-converted-requires
+    plain-requires
     refuse-requires-2
     same-length-2
     same-length-3

@@ -38,6 +38,9 @@ returns c =
     let parse-record = c .before .before .before .before .before .before .before .before .before .parse-record in
     read-refused _ _ _ _ _ _ _ _ _ (enum-told .given .1) (c .before .why-refused .ensures) (parse-record .ensures) (c .refuse .ensures)
 
+plain-requires : tie.Need-plain-requires
+plain-requires c κs = search needs
+
 refuse-requires-2 : tie.Need-refuse-requires-2
 refuse-requires-2 c κs = search needs
 
@@ -46,10 +49,11 @@ same-length-2 c = search needs
 
 returns-2 : tie.Need-returns-2
 returns-2 c =
-    let parsed = c .before .before .before .before .parsed in
-    let parse-record = c .before .before .before .before .before .before .before .before .before .before .before .parse-record in
+    let at-if = c .before .before in
+    let parsed = at-if .before .before .before .parsed in
+    let parse-record = at-if .before .before .before .before .before .before .before .before .before .before .parse-record in
     let y = is-chosen _ _ _ _ _ _ (parsed .given .1) (parse-record .ensures) in
-    read-long _ _ _ _ _ _ y _ (c .refuse2 .ensures) (c .before .if1 .taken)
+    read-long _ _ _ _ _ _ y _ _ (c .before .plain .ensures) (c .refuse2 .ensures) (at-if .if1 .taken)
 
 slice-aggregate-copy : tie.Need-slice-aggregate-copy
 slice-aggregate-copy c = search needs
@@ -92,6 +96,7 @@ ixml-read-spec =
     refuse-requires
     same-length
     returns
+    plain-requires
     refuse-requires-2
     same-length-2
     returns-2

@@ -1,6 +1,6 @@
 use native.Mathlib.Omega.{arith}
 use denote.Ref.{now}
-use Rattle.decode.proofs.Marks.{mark-within}
+use Rattle.text.proofs.Marks.{mark-within}
 use borrow.Author.Needs.{needs}
 use Rattle.decode.proofs.decode_grammar.Statement.{statement}
 use Rattle.decode.proofs.decode_grammar.Tie as tie

@@ -1,5 +1,5 @@
 use denote.Ref.{now}
-use Rattle.decode.proofs.Marks as law
+use Rattle.text.proofs.Marks as law
 use borrow.Author.Needs.{needs}
 use Rattle.decode.proofs.marked.Statement.{statement}
 use Rattle.decode.proofs.marked.Tie as tie

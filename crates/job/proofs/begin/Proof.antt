@@ -15,8 +15,8 @@ enum-known-loaded c = search needs
 enum-told : tie.Need-enum-told
 enum-told c = search needs
 
-loaded-number-requires : tie.Need-loaded-number-requires
-loaded-number-requires c κs = search needs
+why-not-loaded-requires : tie.Need-why-not-loaded-requires
+why-not-loaded-requires c κs = search needs
 
 same-length : tie.Need-same-length
 same-length c = search needs
@@ -26,7 +26,7 @@ returns c =
     let load-grammar = c .before .before .before .before .before .load-grammar in
     let args = c .before .before .before .before .before .before .before .before .before .before .before .args in
     ends-grammar (job (args .grammar .now) (args .record .now) (args .main) (args .second)) (load-grammar .last .1 .0) (args .text .now) _ _ _
-    (c .before .enum-told .given .1) (c .loaded-number .ensures) (load-grammar .ensures)
+    (c .before .enum-told .given .1) (c .why-not-loaded .ensures) (load-grammar .ensures)
 
 take-record-requires : tie.Need-take-record-requires
 take-record-requires c κs = search needs
@@ -77,6 +77,9 @@ need-requires c κs =
           (loaded .given .1) (load-grammar .ensures) _ _ (taken .given .1) (take-record .ensures),
     )
 
+plain-requires : tie.Need-plain-requires
+plain-requires c κs = search needs
+
 same-length-4 : tie.Need-same-length-4
 same-length-4 c = search needs
 
@@ -85,17 +88,21 @@ same-length-5 c = search needs
 
 returns-3 : tie.Need-returns-3
 returns-3 c =
-    let wide = c .before .before .wide in
-    let taken = c .before .before .before .before .taken in
-    let take-record = c .before .before .before .before .before .before .before .before .take-record in
-    let loaded = c .before .before .before .before .before .before .before .before .before .before .before .loaded in
-    let load-grammar = c .before .before .before .before .before .before .before .before .before .before .before .before .before .before .before
+    let d = c .before in
+    let wide = d .before .before .wide in
+    let taken = d .before .before .before .before .taken in
+    let take-record = d .before .before .before .before .before .before .before .before .take-record in
+    let loaded = d .before .before .before .before .before .before .before .before .before .before .before .loaded in
+    let load-grammar = d .before .before .before .before .before .before .before .before .before .before .before .before .before .before .before
     .load-grammar in
-    let args = c .before .before .before .before .before .before .before .before .before .before .before .before .before .before .before .before
+    let args = d .before .before .before .before .before .before .before .before .before .before .before .before .before .before .before .before
     .before .before .before .before .before .args in
-    ends-main (job (args .grammar .now) (args .record .now) (args .main) (args .second)) (load-grammar .last .1 .0) (take-record .last .1 .0) _ _
-    (loaded .given .1) (load-grammar .ensures) _ _ (taken .given .1) (take-record .ensures) _ (c .before .need .ensures ∙ rw (wide .ensures))
-    (c .if1 .taken)
+    rw (c .plain .ensures) (ends-main (job (args .grammar .now) (args .record .now) (args .main) (args .second)) (load-grammar .last .1 .0) (take-record .last .1 .0) _ _
+    (loaded .given .1) (load-grammar .ensures) _ _ (taken .given .1) (take-record .ensures) _ (d .before .need .ensures ∙ rw (wide .ensures))
+    (d .if1 .taken))
+
+plain-requires-2 : tie.Need-plain-requires-2
+plain-requires-2 c κs = search needs
 
 same-length-6 : tie.Need-same-length-6
 same-length-6 c = search needs
@@ -105,18 +112,19 @@ same-length-7 c = search needs
 
 returns-4 : tie.Need-returns-4
 returns-4 c =
-    let need = c .before .before .need in
-    let wide = c .before .before .before .wide in
-    let taken = c .before .before .before .before .before .taken in
-    let take-record = c .before .before .before .before .before .before .before .before .before .take-record in
-    let loaded = c .before .before .before .before .before .before .before .before .before .before .before .before .loaded in
-    let load-grammar = c .before .before .before .before .before .before .before .before .before .before .before .before .before .before .before
+    let d = c .before in
+    let need = d .before .before .need in
+    let wide = d .before .before .before .wide in
+    let taken = d .before .before .before .before .before .taken in
+    let take-record = d .before .before .before .before .before .before .before .before .before .take-record in
+    let loaded = d .before .before .before .before .before .before .before .before .before .before .before .before .loaded in
+    let load-grammar = d .before .before .before .before .before .before .before .before .before .before .before .before .before .before .before
     .before .load-grammar in
-    let args = c .before .before .before .before .before .before .before .before .before .before .before .before .before .before .before .before
+    let args = d .before .before .before .before .before .before .before .before .before .before .before .before .before .before .before .before
     .before .before .before .before .before .before .args in
-    ends-second (job (args .grammar .now) (args .record .now) (args .main) (args .second)) (load-grammar .last .1 .0) (take-record .last .1 .0) _
+    rw (c .plain2 .ensures) (ends-second (job (args .grammar .now) (args .record .now) (args .main) (args .second)) (load-grammar .last .1 .0) (take-record .last .1 .0) _
     _ (loaded .given .1) (load-grammar .ensures) _ _ (taken .given .1) (take-record .ensures) _ (need .ensures ∙ rw (wide .ensures))
-    (omega (arith, c .before .if1 .left)) (c .if2 .taken)
+    (omega (arith, d .before .if1 .left)) (d .if2 .taken))
 
 same-length-8 : tie.Need-same-length-8
 same-length-8 c = search needs
@@ -146,7 +154,7 @@ begin-spec =
     load-grammar-requires
     enum-known-loaded
     enum-told
-    loaded-number-requires
+    why-not-loaded-requires
     same-length
     returns
     take-record-requires
@@ -158,9 +166,11 @@ begin-spec =
     returns-2
     wide-requires
     need-requires
+    plain-requires
     same-length-4
     same-length-5
     returns-3
+    plain-requires-2
     same-length-6
     same-length-7
     returns-4

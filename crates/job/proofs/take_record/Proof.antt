@@ -1,7 +1,5 @@
 use native.Mathlib.Omega.{arith}
 use Rattle.job.proofs.Texts.{not-taken, too-many, taken}
-use native.Mathlib.Omega.{arith}
-use Rattle.job.proofs.Texts.{not-taken, too-many, taken}
 use borrow.Author.Needs.{needs}
 use Rattle.job.proofs.take_record.Statement.{statement}
 use Rattle.job.proofs.take_record.Tie as tie
@@ -21,11 +19,17 @@ same-length c = search needs
 returns : tie.Need-returns
 returns c = not-taken _ _ _ _ (c .before .before .before .before .decode-text .ensures) (c .before .match .keys2) _ (c .why-text .ensures)
 
+plain-requires : tie.Need-plain-requires
+plain-requires c κs = search needs
+
 same-length-2 : tie.Need-same-length-2
 same-length-2 c = search needs
 
 returns-2 : tie.Need-returns-2
-returns-2 c = too-many _ _ _ _ (c .before .before .before .before .before .before .before .decode-text .ensures) _ (c .before .before .before .decoded .given .1) (c .if1 .taken)
+returns-2 c =
+    let at-if = c .before in
+    too-many _ _ _ _ (at-if .before .before .before .before .before .before .before .decode-text .ensures) _ (at-if .before .before .before .decoded .given .1)
+    _ (c .plain .ensures) (at-if .if1 .taken)
 
 same-length-3 : tie.Need-same-length-3
 same-length-3 c = search needs
@@ -44,6 +48,7 @@ take-record-spec =
     why-text-requires
     same-length
     returns
+    plain-requires
     same-length-2
     returns-2
     same-length-3

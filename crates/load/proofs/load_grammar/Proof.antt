@@ -7,8 +7,13 @@ use borrow.Author.Needs.{needs}
 use Rattle.load.proofs.load_grammar.Statement.{statement}
 use Rattle.load.proofs.load_grammar.Tie as tie
 
+plain-requires : tie.Need-plain-requires
+plain-requires c κs = search needs
+
 returns : tie.Need-returns
-returns c = too-long (c .before .before .before .args .grammar .now) (search needs)
+returns c =
+    let start = c .before .before .before .before in
+    subst (Turned (start .args .grammar .now)) (sym (c .plain .ensures)) (too-long (start .args .grammar .now) (search needs))
 
 slice-aggregate-decode-grammar : tie.Need-slice-aggregate-decode-grammar
 slice-aggregate-decode-grammar c = search needs
@@ -27,7 +32,7 @@ returns-2 c =
     let at-decode-grammar = c .before .before .before in
     let at-if1 = at-decode-grammar .before .before in
     let start = at-if1 .before .before .before in
-    subst (λ (n : ℕ). Turned (start .args .grammar .now) n) (sym (c .why .ensures))
+    subst (Turned (start .args .grammar .now)) (sym (c .why .ensures))
     (turned (start .args .grammar .now) _ (at-decode-grammar .decode-grammar .last .1 .0) (at-decode-grammar .decode-grammar .result)
     (at-decode-grammar .decode-grammar .ensures) (omega (arith, at-if1 .if1 .left))
     (some-refusal (at-decode-grammar .decode-grammar .result) (c .before .match .keys2)))
@@ -85,6 +90,7 @@ pub load-grammar-spec : {M : Type 1} → statement M
 load-grammar-spec =
     tie.close
     (tie.spec
+    plain-requires
     returns
     slice-aggregate-decode-grammar
     decode-grammar-requires

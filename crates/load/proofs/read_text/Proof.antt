@@ -12,14 +12,18 @@ enum-known-read c = search needs
 enum-told : tie.Need-enum-told
 enum-told c = search needs
 
+plain-requires : tie.Need-plain-requires
+plain-requires c κs = search needs
+
 same-length : tie.Need-same-length
 same-length c = search needs
 
 returns : tie.Need-returns
 returns c =
-    let at-read-grammar = c .before .before .before .before in
+    let at-read-grammar = c .before .before .before .before .before in
     let start = at-read-grammar .before .before .before .before in
-    no-tree (start .args .text .now) (at-read-grammar .read-grammar .last .1 .0) (at-read-grammar .read-grammar .result) (c .enum-told .given .1) (at-read-grammar .read-grammar .ensures)
+    rw (c .plain .ensures)
+    (no-tree (start .args .text .now) (at-read-grammar .read-grammar .last .1 .0) (at-read-grammar .read-grammar .result) (c .before .enum-told .given .1) (at-read-grammar .read-grammar .ensures))
 
 check-tree-requires : tie.Need-check-tree-requires
 check-tree-requires c κs =
@@ -46,6 +50,7 @@ read-text-spec =
     read-grammar-requires
     enum-known-read
     enum-told
+    plain-requires
     same-length
     returns
     check-tree-requires

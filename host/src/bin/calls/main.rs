@@ -4,7 +4,7 @@
 //! `tests/vectors/README.md` names, and may have more; a line of standard output
 //! has what it answers, in eight columns, and a ninth with the word `touched` if
 //! the call changed a cell that is not its result's. The last three of the eight
-//! are places, which no answer has yet. A line for the category call is answered
+//! are the places. A line for the category call is answered
 //! by the category's letters alone.
 
 mod lent;
@@ -142,11 +142,14 @@ impl Job {
         };
         touched |= main_table.guards_touched() || grammar_table.guards_touched();
         format!(
-            "{}\t{}\t{}\t{}\t{result}\t0\t0\t0{}",
+            "{}\t{}\t{}\t{}\t{result}\t{}\t{}\t{}{}",
             answer.number,
             answer.length,
             u8::from(answer.ambiguous),
             u8::from(answer.version),
+            answer.places.byte,
+            answer.places.fault,
+            answer.places.grammar,
             if touched { "\ttouched" } else { "" },
         )
     }

@@ -8,14 +8,13 @@ use native.Mathlib.Decide.{ℕ-discrete}
 use lib.Dec.{eqb, eqb→eq}
 use lib.ListN.{length, getD, drop}
 use borrow.Author.Tests.{eq-eqb, ne-eqb}
-use Rattle.text.specs.Lists.{pick}
-use Rattle.text.specs.Utf8.{unmarked}
-use Rattle.text.specs.Decode.{Decoded, text, not-utf8, push, decode}
+use Rattle.text.specs.Lists.{Text, pick}
+use Rattle.text.specs.Utf8.{Utf8, unmarked}
+use Rattle.text.specs.Decode.{Decoded, text, not-utf8, push, decode, unmark}
 use Rattle.text.specs.Faults.{marked, afterMark}
 use Rattle.text.proofs.Tests.{clash, isT}
 use Rattle.text.proofs.Table.{and-left, and-right}
-use Rattle.text.proofs.Decode.{decode-mark, mark-bytes}
-use Rattle.decode.specs.Whole.{unmark}
+use Rattle.text.proofs.Decode.{decode-mark, mark-bytes, nothing-text, decode-complete, decode-sound}
 
 pub mark-short : (bs : List ℕ) → length bs < 3 → false ≡ marked bs
 mark-short [] h = refl
@@ -94,3 +93,13 @@ mark-within bs = go (marked bs) refl
     go : (b : Bool) → b ≡ marked bs → pick b 3 0 ≤ length bs
     go true e = mark-fits bs e
     go false e = omega arith
+
+unmark-text : (d : Decoded) (cs : Text) → unmark d ≡ text cs → (ds : Text) × (d ≡ text ds) × (cs ≡ unmarked ds)
+unmark-text (text ds) cs e = (ds, refl, cc)
+unmark-text not-utf8 cs e = absurd (nothing-text cs e)
+
+-- what is UTF-8 after the mark is so with it
+pub marked-text : (bs : List ℕ) (cs : Text) → Utf8 (drop (afterMark bs) bs) cs → (ds : Text) × Utf8 bs ds × (cs ≡ unmarked ds)
+marked-text bs cs u =
+    let w = unmark-text (decode bs) cs (sym (after-mark bs) ∙ decode-complete (drop (afterMark bs) bs) cs u) in
+    (w .0, decode-sound bs (w .0) (w .1), w .2)
