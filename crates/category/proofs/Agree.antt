@@ -10,8 +10,9 @@ use lib.ListN.{length, getD}
 use borrow.Author.Tests.{le-leb}
 use Rattle.text.specs.Lists.{Text, chars, pick, any, all, same, begins, Span, inside}
 use Rattle.text.specs.Utf8.{alphabet, known, width, placeIn}
+use Rattle.text.specs.Ranks.{codeAt}
 use Rattle.text.proofs.Tests.{look as look-test, isT, T-true, notT, T-false, and-left, and-right, or-case, or-left, or-right, same-is}
-use Rattle.text.proofs.Spans.{codeAt, above-from, below-to, placed, counted, every-known}
+use Rattle.text.proofs.Spans.{above-from, below-to, placed, counted, every-known}
 use Rattle.text.proofs.Table.{at, below, below-at}
 use Rattle.category.specs.Category.{Row, takes, ranges, look, categories, classes, categoryOf, inClass, place, categoryNumber}
 
@@ -54,7 +55,7 @@ table =
 right : ℕ → ℕ → Bool
 right k x = eqb x (categoryNumber (codeAt alphabet k))
 
-by-place : (k : ℕ) → k < 498 → getD table k 0 ≡ categoryNumber (codeAt alphabet k)
+pub by-place : (k : ℕ) → k < 498 → getD table k 0 ≡ categoryNumber (codeAt alphabet k)
 unfolding table right categoryNumber place categories categoryOf look ranges codeAt alphabet width
 by-place k h = eqb→eq (getD table k 0) (categoryNumber (codeAt alphabet k)) (at right table tt k h)
 
@@ -133,11 +134,11 @@ spans =
 holds : Text → Text → Bool
 holds k cat = pick (same k (chars "LC")) (any (same cat) (chars "Lu" ∷ chars "Ll" ∷ chars "Lt" ∷ [])) (begins k cat)
 
-agree : Bool → Bool → Bool
+unfoldable pub agree : Bool → Bool → Bool
 agree true b = b
 agree false b = not b
 
-agree-is : (a b : Bool) → T (agree a b) → a ≡ b
+pub agree-is : (a b : Bool) → T (agree a b) → a ≡ b
 unfolding agree
 agree-is true true h = refl
 agree-is true false h = absurd h

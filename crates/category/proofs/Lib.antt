@@ -1,2 +1,4 @@
 pub mod Agree
 pub mod Classes
+pub mod Known
+pub mod Marks

@@ -1,9 +1,10 @@
 -- Categories of code points, and classes.
 use mathlib.Core.Bool.{Bool, true, false, _&&_}
 use mathlib.Core.List.{List, [], _∷_, _++_}
-use Prim.Native.Nat.{ℕ, _+_, _%_}
+use mathlib.Core.Path.{_≡_}
+use Prim.Native.Nat.{ℕ, _+_, _%_, _≤_}
 use Prim.Native.String.{String}
-use lib.Dec.{eqb}
+use lib.Dec.{leb, ltb, eqb}
 use Rattle.text.specs.Lists.{Text, chars, pick, any, same, begins, among, Span, span, inside}
 
 -- the thirty two-letter Unicode categories; the place in this list is a category's number
@@ -107,3 +108,8 @@ place (x ∷ xs) k = elim (same k x) [ true ↦ 0 | false ↦ place xs k + 1 ]
 
 unfoldable pub categoryNumber : ℕ → ℕ
 categoryNumber c = place categories (categoryOf c)
+
+-- the class's code points are those of the categories from `first` on, before `past`
+pub record SpanOf (class : Text) (first past : ℕ) : Type 0 where
+  pub inside : past ≤ 30
+  pub is : (c : ℕ) → inClass class c ≡ (leb first (categoryNumber c) && ltb (categoryNumber c) past)

@@ -1,1 +1,2 @@
 pub mod Category
+pub mod Marks

@@ -174,3 +174,45 @@ pub const CLASS_AT: [u8; SLOTS] = [
     0,
     0,
 ];
+
+// Whether some known code point is of a class.
+pub const KNOWN_CLASS: [bool; CLASSES] = [
+    true, // Lu
+    true, // Ll
+    false, // Lt
+    false, // Lm
+    true, // Lo
+    true, // Mn
+    false, // Mc
+    false, // Me
+    true, // Nd
+    false, // Nl
+    true, // No
+    true, // Pc
+    true, // Pd
+    true, // Ps
+    true, // Pe
+    true, // Pi
+    true, // Pf
+    true, // Po
+    true, // Sm
+    true, // Sc
+    true, // Sk
+    true, // So
+    true, // Zs
+    false, // Zl
+    false, // Zp
+    true, // Cc
+    true, // Cf
+    false, // Cs
+    false, // Co
+    false, // Cn
+    true, // L
+    true, // M
+    true, // N
+    true, // P
+    true, // S
+    true, // Z
+    true, // C
+    true, // LC
+];

@@ -1,13 +1,13 @@
 -- What the engine is given of a grammar and a record: four numbers for each dot position, and where terminals fit.
 use mathlib.Core.Bool.{Bool, true, false}
 use mathlib.Core.Path.{_≡_}
-use mathlib.Core.List.{List, [], _∷_}
+use mathlib.Core.List.{List, [], _∷_, List·Memᴰ as In}
 use Prim.Native.Nat.{ℕ, suc, _+_, _*_, _<_, _≤_}
 use lib.ListN.{length, getD, drop}
 use Rattle.text.specs.Limits.{mostSize, recordChars}
 use Rattle.text.specs.Lists.{Text}
 use Rattle.tree.specs.Tree.{Terminal, Symbol, terminal, Grammar}
-use Rattle.plain.specs.Plain.{alts, fits, width}
+use Rattle.plain.specs.Plain.{alts, fits, width, ruled}
 use Rattle.derive.specs.Derive.{alternative, root}
 
 -- The numbers of the dot position p. Kind: 0 the end of an alternative, 1 before a terminal, 2 before a symbol with alternatives.
@@ -42,13 +42,20 @@ afterDot dots p = getD dots p []
 abbrev pub headOf : Grammar → List Symbol → ℕ → Symbol
 headOf g heads e = getD heads e (root g)
 
--- what stands at a position
-pub data Stands (c f : List ℕ) (g : Grammar) (r : Text) (dots : List (List Symbol)) (heads : List Symbol) (p : ℕ) : Type 0 where
-  at-end : nextKind c p ≡ 0 → afterDot dots p ≡ [] → Stands c f g r dots heads p
+-- what stands at a position, where At says what is known of a terminal at one
+pub data On (At : ℕ → Terminal → Type 0) (c : List ℕ) (g : Grammar) (dots : List (List Symbol)) (heads : List Symbol) (p : ℕ) : Type 0 where
+  at-end : nextKind c p ≡ 0 → afterDot dots p ≡ [] → On At c g dots heads p
   at-terminal : (x : Terminal) → nextKind c p ≡ 1 → p + 1 < length dots → afterDot dots p ≡ terminal x ∷ afterDot dots (p + 1) → goesAt c p ≡ width x
-      → ((i : ℕ) → i ≤ length r → fitsAt f p i ≡ flag (fits x (drop i r))) → Stands c f g r dots heads p
+      → At p x → On At c g dots heads p
   at-symbol : (s : Symbol) → nextKind c p ≡ 2 → p + 1 < length dots → afterDot dots p ≡ s ∷ afterDot dots (p + 1) → ((x : Terminal) → s ≡ terminal x → ⊥)
-      → ruleAt c p < length dots → alts g (headOf g heads (ruleAt c p)) ≡ alts g s → Stands c f g r dots heads p
+      → ruleAt c p < length dots → alts g (headOf g heads (ruleAt c p)) ≡ alts g s → On At c g dots heads p
+
+-- f tells where a terminal fits the record
+abbrev pub Fitting : List ℕ → Text → ℕ → Terminal → Type 0
+Fitting f r p x = (i : ℕ) → i ≤ length r → fitsAt f p i ≡ flag (fits x (drop i r))
+
+abbrev pub Stands : List ℕ → List ℕ → Grammar → Text → List (List Symbol) → List Symbol → ℕ → Type 0
+Stands c f g r dots heads p = On (Fitting f r) c g dots heads p
 
 -- the alternatives of the rule e from the position q on, in order
 pub data Chain (c : List ℕ) (dots : List (List Symbol)) (e : ℕ) : ℕ → List (List Symbol) → Type 0 where
@@ -65,6 +72,33 @@ pub record Owned (c : List ℕ) (g : Grammar) (dots : List (List Symbol)) (heads
   pub last : nextKind c e ≡ 0
   pub first : ℕ
   pub chain : Chain c dots e first (alts g (headOf g heads e))
+
+-- the rule of a symbol: the end that names it, and its alternatives
+pub record RuleOf (c : List ℕ) (g : Grammar) (dots : List (List Symbol)) (heads : List Symbol) (s : Symbol) (e : ℕ) : Type 0 where
+  pub inside : e < length dots
+  pub ends : nextKind c e ≡ 0
+  pub last : goesAt c e ≡ 0
+  pub head : headOf g heads e ≡ s
+  pub first : ℕ
+  pub chain : Chain c dots e first (alts g s)
+
+-- c is the code of the rules of the grammar g; the root's rule is named top and begins at first
+pub record Ruled (At : ℕ → Terminal → Type 0) (c : List ℕ) (g : Grammar) (size top first : ℕ) : Type 0 where
+  pub dots : List (List Symbol)
+  pub heads : List Symbol
+  pub count : length dots ≡ size
+  pub stands : (p : ℕ) → p < size → On At c g dots heads p
+  pub owned : (p e : ℕ) → p < size → ownerAt c p ≡ e + 1 → Owned c g dots heads p e
+  -- inside an alternative none begins
+  pub inner : (p : ℕ) → p + 1 < size → (nextKind c p ≡ 0 → ⊥) → ownerAt c (p + 1) ≡ 0
+  -- every rule that a symbol or the root names, from its first position on
+  pub chains : (p : ℕ) → p < size → nextKind c p ≡ 2 → Chain c dots (ruleAt c p) (goesAt c p) (alts g (headOf g heads (ruleAt c p)))
+  pub root-chain : Chain c dots top first (alts g (root g))
+  pub root-head : alts g (headOf g heads top) ≡ alts g (root g)
+  pub root-inside : top < size
+  -- the symbols that have a rule, and the ends that name one
+  pub every : (s : Symbol) → In s (ruled g) → (e : ℕ) × RuleOf c g dots heads s e
+  pub only : (e : ℕ) → e < size → nextKind c e ≡ 0 → goesAt c e ≡ 0 → In (headOf g heads e) (ruled g)
 
 -- c and f are the code of the grammar g on the record r; the root's rule is named top and begins at first
 pub record Coded (c f : List ℕ) (g : Grammar) (r : Text) (size top first : ℕ) : Type 0 where

@@ -3,3 +3,4 @@ pub mod Bytes
 pub mod Cuts
 pub mod Scans
 pub mod Whole
+pub mod Refusals

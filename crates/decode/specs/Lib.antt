@@ -1,3 +1,4 @@
 pub mod Sequence
 pub mod Scan
 pub mod Whole
+pub mod Refused

@@ -7,12 +7,14 @@ ghost use lib.ListN.{length, set};
 ghost use Rattle.text.specs.Faults.{marked as begun, afterMark};
 ghost use Rattle.decode.specs.Scan.{testOf, Scans};
 ghost use Rattle.decode.specs.Whole.{Decodes};
+ghost use Rattle.decode.specs.Refused.{whyOf};
 use crate::sequence::NEVER;
 use crate::sequence::follows;
 use crate::sequence::lead_of;
 use crate::sequence::with_byte;
 pub use text::BytePlace;
 pub use text::CharPlace;
+use text::Diagnostic;
 
 // What the characters of a text must be: scalar values, or characters of the alphabet.
 enum Pattern {
@@ -156,4 +158,16 @@ pub fn decode_grammar(bytes: &[u8], out: &mut [u32]) -> Decoding
     ensures { λ r. ⌜ Decodes (now (bytes .entry)) (afterMark (now (bytes .entry))) (now (out .entry)) r (now (out .exit)) ⌝ }
 {
     decode_from(bytes, after_mark(bytes), out)
+}
+
+// The refusal of a text that is not decoded, by the numbers for what is not UTF-8 and for a character outside the alphabet.
+pub fn why_refused(decoded: Decoding, malformed: u32, outside: u32) -> Diagnostic
+    ensures { λ r. ⌜ r ≡ whyOf malformed outside decoded ⌝ }
+{
+    match decoded {
+        Decoding::Of(_) => text::plain(text::refusals::ANSWERED),
+        Decoding::CutShort(p) => text::at_byte(malformed, p),
+        Decoding::Malformed(p) => text::at_byte(malformed, p),
+        Decoding::Unknown(p) => text::at_byte(outside, p),
+    }
 }

@@ -21,10 +21,10 @@ use Rattle.derive.proofs.Levels.{node-can, both-can, complete, complete
 use Rattle.derive.proofs.Symbols.{in-concat, Inside, alternative-of, root-inside}
 
 -- a number that stays at most b does not rise for ever
-record Still (f : ℕ → ℕ) (b : ℕ) : Type 0 where
-  k : ℕ
-  early : k ≤ b
-  flat : f (suc k) ≤ f k
+pub record Still (f : ℕ → ℕ) (b : ℕ) : Type 0 where
+  pub k : ℕ
+  pub early : k ≤ b
+  pub flat : f (suc k) ≤ f k
 
 climbs : (f : ℕ → ℕ) (b : ℕ) → Still f b ⊎ (suc b ≤ f (suc b))
 climbs f zero = elim (decLe (f 1) (f 0)) as (λ _. Still f 0 ⊎ (1 ≤ f 1)) [ yes q ↦ inl (record { k = 0; early = omega arith; flat = q }) | no q ↦ inr (omega arith) ]
@@ -36,10 +36,10 @@ climbs f (suc b) = elim (climbs f b) as (λ _. Still f (suc b) ⊎ (suc (suc b) 
   ])
 ]
 
-still : (f : ℕ → ℕ) (b : ℕ) → ((k : ℕ) → f k ≤ b) → Still f b
+pub still : (f : ℕ → ℕ) (b : ℕ) → ((k : ℕ) → f k ≤ b) → Still f b
 still f b h = elim (climbs f b) as (λ _. Still f b) [ inl w ↦ w | inr w ↦ absurd (omega (arith, h (suc b))) ]
 
-abbrev num : Bool → ℕ
+abbrev pub num : Bool → ℕ
 num true = 1
 num false = 0
 
@@ -55,11 +55,11 @@ num-same false false h t = t
 
 module _ {A : Type 0} where
   -- how many elements pass
-  abbrev count : (A → Bool) → List A → ℕ
+  abbrev pub count : (A → Bool) → List A → ℕ
   count p [] = 0
   count p (x ∷ xs) = num (p x) + count p xs
 
-  count-le : (p : A → Bool) (xs : List A) → count p xs ≤ length xs
+  pub count-le : (p : A → Bool) (xs : List A) → count p xs ≤ length xs
   count-le p [] = omega arith
   count-le p (x ∷ xs) = omega (arith, count-le p xs, num-mono (p x) true (λ _. tt))
 
@@ -68,7 +68,7 @@ module _ {A : Type 0} where
   count-mono p q h (x ∷ xs) = omega (arith, count-mono p q h xs, num-mono (p x) (q x) (h x))
 
   -- as many: the same ones
-  count-same : (p q : A → Bool) → ((x : A) → T (p x) → T (q x)) → (xs : List A) → count q xs ≤ count p xs → {x : A} → In x xs → T (q x) → T (p x)
+  pub count-same : (p q : A → Bool) → ((x : A) → T (p x) → T (q x)) → (xs : List A) → count q xs ≤ count p xs → {x : A} → In x xs → T (q x) → T (p x)
   count-same p q h (y ∷ ys) l (in-head e) t = subst (λ (z : A). T (p z)) (sym e) (num-same (p y) (q y) (omega (arith, count-mono p q h ys)) (subst (λ (z : A). T (q z)) e t))
   count-same p q h (y ∷ ys) l (in-tail m) t = count-same p q h ys (omega (arith, num-mono (p y) (q y) (h y))) m t
 

@@ -13,3 +13,4 @@ pub mod Ambiguous
 pub mod Examples
 pub mod Twice
 pub mod Parts
+pub mod Productive

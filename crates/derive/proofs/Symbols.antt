@@ -1,5 +1,5 @@
 -- The symbols of the plain rules are closed under alternatives.
-use mathlib.Core.Path.{_≡_, refl, sym, subst}
+use mathlib.Core.Path.{_≡_, refl, sym, ap, subst}
 use mathlib.Core.Bool.{true, false}
 use mathlib.Core.Logic.{inl, inr}
 use mathlib.Core.List.{List, [], _∷_, _++_, List·Memᴰ as In, List·Memᴰ·head as in-head, List·Memᴰ·tail as in-tail}
@@ -7,9 +7,9 @@ use mathlib.Core.List.{List·Memᴰ·append-cases as in-cases, Memᴰ·append-le
 use Prim.Native.Nat.{ℕ, zero, suc}
 use lib.ListN.{getD}
 use Rattle.text.specs.Lists.{Text, pick, same, concatMap}
-use Rattle.tree.specs.Tree.{Symbol, terminal, nonterminal, group, option, repeat0, repeat1, repeat0sep, repeat1sep, rest, Alternative, nil, cons, Body, one, also, Rule, Grammar, rules}
-use Rattle.plain.specs.Written.{within, withinAlternative, withinBody, written}
-use Rattle.plain.specs.Plain.{symbols, alternatives, ruleFor, alts}
+use Rattle.tree.specs.Tree.{unmarked, Terminal, Symbol, terminal, nonterminal, group, option, repeat0, repeat1, repeat0sep, repeat1sep, rest, Alternative, nil, cons, Body, one, also, Rule, Grammar, rules}
+use Rattle.plain.specs.Written.{within, withinAlternative, withinBody, written, terminalsIn}
+use Rattle.plain.specs.Plain.{symbols, alternatives, ruleFor, alts, makes, ruled}
 use Rattle.derive.specs.Derive.{root, alternative}
 use Rattle.derive.specs.Bound.{family, symbolsOf}
 
@@ -79,6 +79,19 @@ self (repeat1 f) = in-head refl
 self (repeat0sep f sep) = in-head refl
 self (repeat1sep f sep) = in-head refl
 self (rest f sep) = in-head refl
+
+-- the terminal of a symbol is that symbol
+pub the-terminal : (s : Symbol) (x : Terminal) → In x (terminalsIn s) → terminal x ≡ s
+the-terminal (terminal y) x (in-head q) = ap terminal q
+the-terminal (terminal y) x (in-tail m) = elim m [ ]
+the-terminal (nonterminal n t) x m = elim m [ ]
+the-terminal (group b) x m = elim m [ ]
+the-terminal (option f) x m = elim m [ ]
+the-terminal (repeat0 f) x m = elim m [ ]
+the-terminal (repeat1 f) x m = elim m [ ]
+the-terminal (repeat0sep f sep) x m = elim m [ ]
+the-terminal (repeat1sep f sep) x m = elim m [ ]
+the-terminal (rest f sep) x m = elim m [ ]
 
 module _ (g : Grammar) where
   -- the symbols are the plain rules' own
@@ -175,3 +188,13 @@ module _ (g : Grammar) where
 
   pub root-inside : Inside (root g ∷ [])
   root-inside = (in-head refl, tt)
+
+  -- nor do those of a symbol that has a rule hold others
+  ruled-inside : {s : Symbol} → In s (ruled g) → InsideAll (alts g s)
+  ruled-inside {s} h = elim (in-cases (concatMap (λ r. nonterminal unmarked (r .name) ∷ []) (rules g)) h) as (λ _. InsideAll (alts g s)) [
+    | inl k ↦ (let w = from-concat (λ (r : Rule). nonterminal unmarked (r .name) ∷ []) (rules g) k in kept-get (nonterminal unmarked (w .x .name) ∷ []) (named (w .x .name), tt) (w .holds))
+    | inr k ↦ (let w = from-concat makes (written g) k in kept-get (family (w .x)) (family-kept (w .x) (w .place)) (in-tail (w .holds)))
+  ]
+
+  pub ruled-of : {s : Symbol} → In s (ruled g) → (a : ℕ) → Inside (alternative g s a)
+  ruled-of {s} h a = inside-get (alts g s) (ruled-inside h) a

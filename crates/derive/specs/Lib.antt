@@ -4,3 +4,5 @@ pub mod Level
 pub mod Bound
 pub mod Pick
 pub mod Another
+pub mod Productive
+pub mod Yield

@@ -14,7 +14,7 @@ use Rattle.tree.specs.Tree.{Symbol, terminal, nonterminal, group, option, repea
 use Rattle.tree.specs.Tokens.{Token, include, exclude, set-end, open-group, close-group, next-alternative, to-option, to-repeat0, to-repeat1, to-repeat0sep, to-repeat1sep, encode, numbers}
 use Rattle.tree.specs.Tokens.{memberToken, memberTokens, terminalTokens, symbolTokens, alternativeTokens, bodyTokens}
 use Rattle.plain.specs.Written.{heads, terminals, namesIn, terminalsIn, within, withinAlternative, withinBody, kind, made}
-use Rattle.plain.specs.Plain.{symbols, alternatives, alts}
+use Rattle.plain.specs.Plain.{symbols, alternatives, alts, makes}
 use Rattle.tokens.specs.Proper.{Proper, ProperAlternative, ProperBody}
 use Rattle.tokens.specs.Lengths.{firstNumber}
 use Rattle.measure.specs.Costs.{cost, costs, costOf, repeatCostOf}
@@ -32,6 +32,7 @@ use Rattle.items.proofs.Reps.{act-as, one-length, two-length}
 use Rattle.items.proofs.Blocks.{Rows, r-last, r-more, r-item, Blocks, b-none, b-rule, sound-then}
 use Rattle.items.proofs.Runs.{Trace, t-done, t-step, trace-append, sound-block, at-left, at-right, Ok, Run, shorter, run-none}
 use Rattle.items.proofs.Runs.{run-then, run-quiet, run-block, reads-final, means-made, among-later}
+use Rattle.items.proofs.Adds.{Adds, adds-none}
 
 -- the name has no rule
 abbrev pub Bad : Grammar → Text → Bool
@@ -73,6 +74,7 @@ pub record Sym (g : Grammar) (K : List ℕ) (s : Symbol) (at : ℕ) (a : Abs) (S
   pub stack : after .stack ≡ a .stack ++ nums e
   pub depth : after .depth ≡ a .depth + 1
   pub cost : after .items + after .depth ≡ a .items + a .depth + costs (symbolTokens s)
+  pub adds : Adds S starts (concatMap makes (within s))
   pub means : (F : List ℕ) (T : Starts) → Final g K (after .list) starts F T → (p : ℕ) → Placed F g T p (e .sort) (e .target) (e .token) → Stands F g T p s
 
 -- a row of symbols leaves a row of entries
@@ -86,6 +88,7 @@ pub record Alt (g : Grammar) (K : List ℕ) (x : Alternative) (at : ℕ) (a : Ab
   pub depth : after .depth ≡ a .depth + count
   pub wide : length entries ≡ 3 * count
   pub cost : after .items + after .depth ≡ a .items + a .depth + costs (alternativeTokens x)
+  pub adds : Adds S starts (concatMap makes (withinAlternative x))
   pub rows : (F : List ℕ) (T : Starts) → Final g K (after .list) starts F T → (tail : List ℕ) (ts : List (List Symbol))
       → Rows F g T tail ([] ∷ ts) → Rows F g T (entries ++ tail) (symbols x ∷ ts)
 
@@ -99,6 +102,7 @@ pub record Bod (g : Grammar) (K : List ℕ) (x : Body) (at : ℕ) (a : Abs) (S :
   pub depth : after .depth ≡ a .depth + count
   pub wide : length entries ≡ 3 * count
   pub cost : after .items + after .depth ≡ a .items + a .depth + costs (bodyTokens x)
+  pub adds : Adds S starts (concatMap makes (withinBody x))
   pub rows : (F : List ℕ) (T : Starts) → Final g K (after .list) starts F T → Rows F g T (entries ++ nums (entry 6 0 0)) (alternatives x)
 
 pub ok-pushed : {K : List ℕ} {a : Abs} (e : Entry) (b : ℕ) → Ok K a → a .depth + 1 ≤ 512 → b ≤ 512 → Ok K (pushed a e b)
@@ -170,6 +174,7 @@ module _ {g : Grammar} {K : List ℕ} where
     stack = refl;
     depth = refl;
     cost = omega (arith, terminal-costs x);
+    adds = adds-none S;
     means = λ F T f p v. let k = v .kept (λ e. omega arith) in st-terminal (k .0) (subst (λ (q : ℕ). Reads F q (terminalTokens x)) (sym (k .2)) (reads-final w F T f)) i;
   }
 
@@ -184,6 +189,7 @@ module _ {g : Grammar} {K : List ℕ} where
     stack = refl;
     depth = refl;
     cost = omega (arith, name-cost m n);
+    adds = adds-none S;
     means = λ F T f p v. v .named refl m n (reads-final w F T f) (not-false (any (same n) (heads g)) (or-false (Bad g n) false (known .0) .0));
   }
 

@@ -1,6 +1,7 @@
 -- Where rules begin, with the names; the table after names were linked takes the scanned items over.
 use mathlib.Core.Bool.{Bool, true, false, _||_}
-use mathlib.Core.List.{List, [], _∷_, _++_, append-nil}
+use mathlib.Core.List.{List, [], _∷_, _++_, append-nil, List·Memᴰ as In}
+use mathlib.Core.List.{List·Memᴰ·append-cases as in-cases, Memᴰ·append-left as in-left, Memᴰ·append-right as in-right}
 use mathlib.Core.Logic.{_⊎_, inl, inr, ⊎-elim}
 use mathlib.Core.Path.{_≡_, refl, sym, ap, ap₂, _∙_, subst}
 use Prim.Native.Nat.{ℕ, zero, suc, _+_, _*_, _-_, _<_, _≤_}
@@ -13,9 +14,9 @@ use Rattle.text.specs.Lists.{Text, pick, any, same, repeats, concatMap}
 use Rattle.text.proofs.Tests.{isT, same-is, clash}
 use Rattle.tree.specs.Tree.{Mark, unmarked, included, attribute, deleted, Symbol, nonterminal, Rule, Grammar, rules}
 use Rattle.tree.specs.Tokens.{name, rule-head, markNumber, counted}
-use Rattle.plain.specs.Written.{heads}
+use Rattle.plain.specs.Written.{written, heads}
 use Rattle.plain.specs.Static.{duplicate}
-use Rattle.plain.specs.Plain.{alts, alternatives, ruleFor, weight, size, ruleMark, over}
+use Rattle.plain.specs.Plain.{alts, alternatives, ruleFor, makes, ruled, weight, size, ruleMark, over}
 use Rattle.items.specs.declared.State.{State}
 use Rattle.items.specs.Items.{kindAt, targetAt, tokenAt, Reads, markKind, Starts, Among, st-name, Alternatives, Items}
 use Rattle.items.specs.Machine.{kindBy}
@@ -27,6 +28,7 @@ use Rattle.items.proofs.Links.{beside-first}
 use Rattle.items.proofs.Blocks.{cover-later}
 use Rattle.items.proofs.RuleNames.{firstFor, nameStarts, among-left, among-right, among-split, same-refl, name-among, Named}
 use Rattle.items.proofs.RuleNames.{among-named, named-body, kind-marks, Told}
+use Rattle.items.proofs.Adds.{unmarkedNames, names-every, names-only}
 use Rattle.items.proofs.RuleNames.{token-told, Row, two-suc, two-suc', head-told}
 
 module _ (T : List ℕ) (size : length T ≡ 16384) (K : List ℕ) (k : take 12288 T ≡ K) (n : Text) where
@@ -290,6 +292,18 @@ module _ {g : Grammar} {K T : List ℕ} {s : State} (w : Scanned g K T s) where
             (subst (λ (z : ℕ). RuleBegins z (nonterminal unmarked (v .called)) (rules g) (w .firsts)) (v .place)
             (first-begins (w .listed) (v .called) (v .known)))
 
+    start-every : (y : Symbol) → In y (ruled g) → (x : ℕ) × Among x y (allStarts g (w .starts) (w .firsts))
+    start-every y m =
+        let ns = nameStarts (firstFor (rules g) (w .firsts)) (rules g) in
+        ⊎-elim (λ a. let k = names-every (firstFor (rules g) (w .firsts)) (rules g) y a in (k .0, among-right (k .0) y (w .starts) ns (k .1)))
+        (λ b. let k = w .every y b in (k .0, among-left (k .0) y (w .starts) ns (k .1))) (in-cases (unmarkedNames (rules g)) m)
+
+    start-only : (x : ℕ) (y : Symbol) → Among x y (allStarts g (w .starts) (w .firsts)) → In y (ruled g)
+    start-only x y m =
+        ⊎-elim (λ a. in-right (unmarkedNames (rules g)) (w .only x y a))
+        (λ b. in-left (concatMap makes (written g)) (names-only (firstFor (rules g) (w .firsts)) (rules g) x y b))
+        (among-split x y (w .starts) (nameStarts (firstFor (rules g) (w .firsts)) (rules g)) m)
+
     pub scanned-built : (root : ℕ) → root ≡ getD F 13825 0 → Built F g root
     scanned-built root e = record {
       items = scanned-items root e;
@@ -297,6 +311,8 @@ module _ {g : Grammar} {K T : List ℕ} {s : State} (w : Scanned g K T s) where
         covered = λ d p h. scanned-covered d p (omega (arith, w .count));
         apart = λ x y s m q. rule-clean x s m .1 y q (omega arith);
         single = λ x y z m n. scanned-whole .single x y z (start-begins x y m) (start-begins x z n);
+        every = start-every;
+        only = start-only;
       };
     }
 

@@ -3,6 +3,7 @@ pub mod Reps
 pub mod Uses
 pub mod Blocks
 pub mod Runs
+pub mod Adds
 pub mod Entries
 pub mod Repetitions
 pub mod Trees
@@ -12,4 +13,3 @@ pub mod Names
 pub mod Links
 pub mod RuleNames
 pub mod Finals
-pub mod Terminals

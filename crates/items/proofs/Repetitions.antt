@@ -14,7 +14,7 @@ use Rattle.tree.specs.Tree.{Symbol, terminal, nonterminal, group, option, repea
 use Rattle.tree.specs.Tokens.{Token, include, exclude, set-end, open-group, close-group, next-alternative, to-option, to-repeat0, to-repeat1, to-repeat0sep, to-repeat1sep, encode, numbers}
 use Rattle.tree.specs.Tokens.{memberToken, memberTokens, terminalTokens, symbolTokens, alternativeTokens, bodyTokens}
 use Rattle.plain.specs.Written.{heads, terminals, namesIn, terminalsIn, within, withinAlternative, withinBody, kind, made}
-use Rattle.plain.specs.Plain.{symbols, alternatives, alts}
+use Rattle.plain.specs.Plain.{symbols, alternatives, alts, makes}
 use Rattle.tokens.specs.Proper.{Proper, ProperAlternative, ProperBody}
 use Rattle.tokens.specs.Lengths.{firstNumber}
 use Rattle.measure.specs.Costs.{cost, costs, costOf, repeatCostOf}
@@ -32,6 +32,7 @@ use Rattle.items.proofs.Reps.{act-as, one-length, two-length}
 use Rattle.items.proofs.Blocks.{Rows, r-last, r-more, r-item, Blocks, b-none, b-rule, sound-then}
 use Rattle.items.proofs.Runs.{Trace, t-done, t-step, trace-append, sound-block, at-left, at-right, Ok, Run, shorter, run-none}
 use Rattle.items.proofs.Runs.{run-then, run-quiet, run-block, reads-final, means-made, among-later}
+use Rattle.items.proofs.Adds.{Adds, symbolsBack, adds-made, adds-both}
 use Rattle.items.proofs.Entries.{KnownAll, known-append, in-first, Sym}
 use Rattle.items.proofs.Entries.{Alt, Bod, ok-pushed, push-run, terminal-sym, name-sym, afterOne}
 use Rattle.items.proofs.Entries.{afterTwo, three-more}
@@ -39,12 +40,13 @@ use Rattle.items.proofs.Entries.{afterTwo, three-more}
 module _ {g : Grammar} {K : List ℕ} where
   -- an operator of one operand; B n are the rules that it makes, from item n on
   one-sym : (s f : Symbol) (t : Token) (k : ℕ) (B : ℕ → Starts) → symbolTokens s ≡ symbolTokens f ++ t ∷ [] → kind s ≡ made
+      → within s ≡ s ∷ within f → ((n : ℕ) → symbolsBack (B n) ≡ makes s)
       → actionOf (firstNumber t) ≡ Operator k → k < 37 → cost t ≡ oneCount k → {at : ℕ} {a : Abs} {S : Starts} → Ok K a → Sym g K f at a S
       → a .items + a .depth + costs (symbolTokens s) ≤ 512 → ((n : ℕ) → Among (n + oneFirst k) s (B n))
       → ((F : List ℕ) (T : Starts) (n : ℕ) (e : Entry) → ((x : ℕ) (u : Symbol) → Among x u (B n) → Among x u T)
       → ((p : ℕ) → Placed F g T p (e .sort) (e .target) (e .token) → Stands F g T p f) → Blocks F g T n (oneBlock k e n) (B n))
       → Sym g K s at a S
-  one-sym s f t k B q d y l ct {at} {a} {S} o r h first bl =
+  one-sym s f t k B q d v mk y l ct {at} {a} {S} o r h first bl =
       let b = r .after in
       let tc : costs (symbolTokens s) ≡ costs (symbolTokens f) + oneCount k = ap costs q ∙ costs-append (symbolTokens f) (t ∷ [])
       ∙ (let z : costs (symbolTokens f) + (cost t + 0) ≡ costs (symbolTokens f) + oneCount k = omega arith in z) in
@@ -85,6 +87,8 @@ module _ {g : Grammar} {K : List ℕ} where
         stack = refl;
         depth = refl;
         cost = omega (arith, r .cost, r .depth);
+        adds = subst (λ (us : List Symbol). Adds S (B (r .after .items) ++ r .starts) (concatMap makes us)) (sym v)
+            (adds-made (B (r .after .items)) (within f) s (mk (r .after .items)) (r .adds));
         means =
             λ F T w p v. means-made F g T (r .after .items + oneFirst k) s d
             (w .sub (r .after .items + oneFirst k) s (in-first (B (r .after .items)) (r .starts) (r .after .items + oneFirst k) s
@@ -93,14 +97,15 @@ module _ {g : Grammar} {K : List ℕ} where
 
   -- an operator of two operands
   two-sym : (s f sep : Symbol) (t : Token) (k : ℕ) (B : ℕ → Starts) → symbolTokens s ≡ symbolTokens f ++ (symbolTokens sep ++ t ∷ [])
-      → kind s ≡ made → actionOf (firstNumber t) ≡ Operator k → 37 ≤ k → cost t + 1 ≡ twoCount k → {at : ℕ} {a : Abs} {S : Starts} → Ok K a
+      → kind s ≡ made → within s ≡ s ∷ (within f ++ within sep) → ((n : ℕ) → symbolsBack (B n) ≡ makes s)
+      → actionOf (firstNumber t) ≡ Operator k → 37 ≤ k → cost t + 1 ≡ twoCount k → {at : ℕ} {a : Abs} {S : Starts} → Ok K a
       → (r : Sym g K f at a S) → (r' : Sym g K sep (at + length (encode (symbolTokens f))) (r .after) (r .starts))
       → a .items + a .depth + costs (symbolTokens s) ≤ 512 → ((n : ℕ) → Among (n + twoFirst k) s (B n))
       → ((F : List ℕ) (T : Starts) (n : ℕ) (e e' : Entry) → ((x : ℕ) (u : Symbol) → Among x u (B n) → Among x u T)
       → ((p : ℕ) → Placed F g T p (e .sort) (e .target) (e .token) → Stands F g T p f)
       → ((p : ℕ) → Placed F g T p (e' .sort) (e' .target) (e' .token) → Stands F g T p sep) → Blocks F g T n (twoBlock k e e' n) (B n))
       → Sym g K s at a S
-  two-sym s f sep t k B q d y l ct {at} {a} {S} o r r' h first bl =
+  two-sym s f sep t k B q d v mk y l ct {at} {a} {S} o r r' h first bl =
       let tc : costs (symbolTokens s) + 1 ≡ costs (symbolTokens f) + costs (symbolTokens sep) + twoCount k = ap (λ (n : ℕ). n + 1)
       (ap costs q ∙ costs-append (symbolTokens f) (symbolTokens sep ++ t ∷ []))
       ∙ (let z : costs (symbolTokens f) + costs (symbolTokens sep ++ t ∷ []) + 1 ≡ costs (symbolTokens f) + costs (symbolTokens sep) +
@@ -148,6 +153,9 @@ module _ {g : Grammar} {K : List ℕ} where
         stack = refl;
         depth = refl;
         cost = omega (arith, r .cost, r .depth, r' .cost, r' .depth);
+        adds = subst (λ (us : List Symbol). Adds S (B (r' .after .items) ++ r' .starts) (concatMap makes us)) (sym v)
+            (adds-made (B (r' .after .items)) (within f ++ within sep) s (mk (r' .after .items))
+            (adds-both (within f) (within sep) (r' .run .later) (r .adds) (r' .adds)));
         means =
             λ F T w p v. means-made F g T (r' .after .items + twoFirst k) s d
             (w .sub (r' .after .items + twoFirst k) s (in-first (B (r' .after .items)) (r' .starts) (r' .after .items + twoFirst k) s
@@ -157,19 +165,19 @@ module _ {g : Grammar} {K : List ℕ} where
   pub option-sym : (f : Symbol) {at : ℕ} {a : Abs} {S : Starts} → Ok K a → Sym g K f at a S → a .items + a .depth + costs (symbolTokens (option f)) ≤ 512 → Sym g K (option f) at a S
   unfolding actionOf lateActionOf costOf repeatCostOf oneCount oneFirst oneBlock
   option-sym f o r h =
-      one-sym (option f) f to-option 34 (λ n. (n, option f) ∷ []) refl refl refl (omega arith) refl o r h (λ n. inl (omega arith, refl))
+      one-sym (option f) f to-option 34 (λ n. (n, option f) ∷ []) refl refl refl (λ n. refl) refl (omega arith) refl o r h (λ n. inl (omega arith, refl))
       (λ F T n e sub m. b-rule {s = option f} (r-item m (r-more r-last)) b-none)
 
   pub star-sym : (f : Symbol) {at : ℕ} {a : Abs} {S : Starts} → Ok K a → Sym g K f at a S → a .items + a .depth + costs (symbolTokens (repeat0 f)) ≤ 512 → Sym g K (repeat0 f) at a S
   unfolding actionOf lateActionOf costOf repeatCostOf oneCount oneFirst oneBlock
   star-sym f o r h =
-      one-sym (repeat0 f) f to-repeat0 35 (λ n. (n, repeat0 f) ∷ []) refl refl refl (omega arith) refl o r h (λ n. inl (omega arith, refl))
+      one-sym (repeat0 f) f to-repeat0 35 (λ n. (n, repeat0 f) ∷ []) refl refl refl (λ n. refl) refl (omega arith) refl o r h (λ n. inl (omega arith, refl))
       (λ F T n e sub m. b-rule {s = repeat0 f} (r-item m
       (r-item (means-made F g T n (repeat0 f) refl (sub n (repeat0 f) (inl (refl, refl)))) (r-more r-last))) b-none)
 
   pub plus-sym : (f : Symbol) {at : ℕ} {a : Abs} {S : Starts} → Ok K a → Sym g K f at a S → a .items + a .depth + costs (symbolTokens (repeat1 f)) ≤ 512 → Sym g K (repeat1 f) at a S
   unfolding actionOf lateActionOf costOf repeatCostOf oneCount oneFirst oneBlock
-  plus-sym f o r h = one-sym (repeat1 f) f to-repeat1 36 (λ n. (n, repeat0 f) ∷ (n + 4, repeat1 f) ∷ []) refl refl refl (omega arith) refl o r h (λ n. inr (inl (refl, refl)))
+  plus-sym f o r h = one-sym (repeat1 f) f to-repeat1 36 (λ n. (n, repeat0 f) ∷ (n + 4, repeat1 f) ∷ []) refl refl refl (λ n. refl) refl (omega arith) refl o r h (λ n. inr (inl (refl, refl)))
       (λ F T n e sub m.
       let self = means-made F g T n (repeat0 f) refl (sub n (repeat0 f) (inl (refl, refl))) in
       b-rule {s = repeat0 f} {xs = starBlock e n} {ys = onceBlock e n} (r-item m (r-item self (r-more r-last)))
@@ -180,7 +188,7 @@ module _ {g : Grammar} {K : List ℕ} where
       → a .items + a .depth + costs (symbolTokens (repeat1sep f sep)) ≤ 512 → Sym g K (repeat1sep f sep) at a S
   unfolding actionOf lateActionOf costOf repeatCostOf twoCount twoFirst twoBlock
   list-sym f sep o r r' h =
-      two-sym (repeat1sep f sep) f sep to-repeat1sep 38 (λ n. (n, rest f sep) ∷ (n + 5, repeat1sep f sep) ∷ []) refl refl refl (omega arith)
+      two-sym (repeat1sep f sep) f sep to-repeat1sep 38 (λ n. (n, rest f sep) ∷ (n + 5, repeat1sep f sep) ∷ []) refl refl refl (λ n. refl) refl (omega arith)
       refl o r r' h (λ n. inr (inl (refl, refl)))
       (λ F T n e e' sub m m'.
       let self = means-made F g T n (rest f sep) refl (sub n (rest f sep) (inl (refl, refl))) in
@@ -193,7 +201,7 @@ module _ {g : Grammar} {K : List ℕ} where
   unfolding actionOf lateActionOf costOf repeatCostOf twoCount twoFirst twoBlock
   maybe-sym f sep o r r' h =
       two-sym (repeat0sep f sep) f sep to-repeat0sep 37
-      (λ n. (n, rest f sep) ∷ (n + 5, repeat1sep f sep) ∷ (n + 5 + 3, repeat0sep f sep) ∷ []) refl refl refl (omega arith) refl o r r' h
+      (λ n. (n, rest f sep) ∷ (n + 5, repeat1sep f sep) ∷ (n + 5 + 3, repeat0sep f sep) ∷ []) refl refl refl (λ n. refl) refl (omega arith) refl o r r' h
       (λ n. inr (inr (inl (omega arith, refl))))
       (λ F T n e e' sub m m'.
       let self = means-made F g T n (rest f sep) refl (sub n (rest f sep) (inl (refl, refl))) in

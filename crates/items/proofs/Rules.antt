@@ -12,7 +12,7 @@ use Rattle.tree.specs.Tree.{Mark, unmarked, Symbol, nonterminal, Body, Rule, Pr
 use Rattle.tree.specs.Tokens.{Token, rule-head, rule-end, version-is, encode, numbers, bodyTokens, ruleTokens, prologTokens, grammarTokens}
 use Rattle.plain.specs.Written.{withinBody, written}
 use Rattle.plain.specs.Static.{undefined}
-use Rattle.plain.specs.Plain.{alternatives, alts, weight, size}
+use Rattle.plain.specs.Plain.{alternatives, alts, makes, weight, size}
 use Rattle.tokens.specs.Proper.{ProperBody, ProperRules}
 use Rattle.tokens.specs.Lengths.{firstNumber}
 use Rattle.measure.specs.Costs.{cost, costs, costOf, repeatCostOf}
@@ -28,6 +28,7 @@ use Rattle.items.proofs.Reps.{act-as}
 use Rattle.items.proofs.Blocks.{Rows, rows-alternatives, rows-length, placed-append, Under, Sound, sound-none, sound-then, alternatives-last}
 use Rattle.items.proofs.Uses.{rule-spelt}
 use Rattle.items.proofs.Runs.{Trace, t-done, t-step, trace-append, at-left, at-right, Ok, Run, shorter}
+use Rattle.items.proofs.Adds.{Adds, writtenIn, adds-none, adds-rule, adds-rules}
 use Rattle.items.proofs.Entries.{KnownAll, known-append, Bod, three-more, ok-pushed, skip-run}
 use Rattle.items.proofs.Repetitions.{opened}
 use Rattle.items.proofs.Trees.{body-run, at-head}
@@ -50,6 +51,7 @@ pub record Ruled (g : Grammar) (K : List ℕ) (us : List Token) (rs : List Rule)
   pub listed : Listed K table rs firsts
   pub later : (x : ℕ) (s : Symbol) → Among x s S → Among x s starts
   pub cost : after .items + after .depth ≡ a .items + a .depth + costs us
+  pub adds : Adds S starts (concatMap makes (writtenIn rs))
   pub sound : (F : List ℕ) (T : Starts) → Final g K (after .list) starts F T → Sound F g T (a .items) (after .items) S starts rs firsts × Bodies F g T (after .items) rs firsts
 
 head-action : (m : Mark) (n : Text) → actionOf (firstNumber (rule-head m n)) ≡ Open
@@ -184,6 +186,7 @@ module _ {g : Grammar} {K : List ℕ} where
         listed = l-rule (at-left (rule-head (r .mark) (r .name) ∷ []) (bodyTokens (r .body) ++ rule-end ∷ []) w) l-none;
         later = q .run .later;
         cost = omega (arith, q .cost, q .depth, rule-cost r);
+        adds = adds-rule r (q .adds);
         sound = λ F T f.
             let f' = shorter (q .entries ++ nums (entry 6 0 0)) (q .run .ok) refl (λ x s m. m) F T f in
             let rows = q .rows F T f' in
@@ -227,6 +230,7 @@ module _ {g : Grammar} {K : List ℕ} where
     listed = listed-append (q .listed) (r .listed);
     later = λ x s m. r .later x s (q .later x s m);
     cost = omega (arith, q .cost, r .cost, costs-append us vs);
+    adds = adds-rules rs rs' (r .later) (q .adds) (r .adds);
     sound = λ F T f.
         let f' = shorter (r .more) (q .ok) (r .list) (r .later) F T f in
         let x = q .sound F T f' in
@@ -255,6 +259,7 @@ module _ {g : Grammar} {K : List ℕ} where
     listed = l-none;
     later = λ x s m. m;
     cost = omega arith;
+    adds = adds-none S;
     sound = λ F T f. (sound-none (a .items) S, tt);
   }
 

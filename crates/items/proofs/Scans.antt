@@ -161,6 +161,8 @@ going-done {T₀} {T} {end} {at} {g} {s} size h r l w =
       rep = rep;
       count = omega (arith, run-of size h r .cost, run-of size h r .depth, size-costs g (r .holds .proper));
       starts = run-of size h r .starts;
+      every = run-of size h r .adds .every;
+      only = λ x u m. ⊎-elim (λ b. absurd b) (λ b. b) (run-of size h r .adds .only x u m);
       firsts = run-of size h r .firsts;
       listed = subst (λ (K : List ℕ). Listed K (run-of size h r .after .rows) (rules g) (run-of size h r .firsts))
           (sym (run-of size h r .ok .tokens)) (subst (λ (l : List ℕ). Listed (take 12288 T₀) l (rules g) (run-of size h r .firsts))

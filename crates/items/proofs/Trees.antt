@@ -32,6 +32,7 @@ use Rattle.items.proofs.Reps.{act-as, one-length, two-length}
 use Rattle.items.proofs.Blocks.{Rows, r-last, r-more, r-item, Blocks, b-none, b-rule, sound-then}
 use Rattle.items.proofs.Runs.{Trace, t-done, t-step, trace-append, sound-block, at-left, at-right, Ok, Run, shorter, run-none}
 use Rattle.items.proofs.Runs.{run-then, run-quiet, run-block, reads-final, means-made, among-later}
+use Rattle.items.proofs.Adds.{adds-none, adds-made, adds-both}
 use Rattle.items.proofs.Entries.{KnownAll, known-append, in-first, Sym}
 use Rattle.items.proofs.Entries.{Alt, Bod, ok-pushed, push-run, terminal-sym, name-sym, afterOne}
 use Rattle.items.proofs.Entries.{afterTwo, three-more}
@@ -104,6 +105,7 @@ module _ {g : Grammar} {K : List ℕ} where
         stack = refl;
         depth = ap (λ (n : ℕ). n + 1) based;
         cost = omega (arith, r .cost, r .depth, bracket-costs x);
+        adds = adds-made ((r .after .items, group x) ∷ []) (withinBody x) (group x) refl (r .adds);
         means = λ F T w p v. means-made F g T (r .after .items) (group x) refl (w .sub (r .after .items) (group x) (inl (refl, refl))) p v;
       }
 
@@ -168,6 +170,7 @@ module _ {g : Grammar} {K : List ℕ} where
           depth = omega arith;
           wide = refl;
           cost = omega arith;
+          adds = adds-none S;
           rows = λ F T f tail ts r. r;
         }
     alternative-run (cons f x) p n at a S w o h =
@@ -186,6 +189,7 @@ module _ {g : Grammar} {K : List ℕ} where
           depth = omega (arith, r .depth, r' .depth);
           wide = omega (arith, r' .wide);
           cost = omega (arith, r .cost, r' .cost, costs-append (symbolTokens f) (alternativeTokens x));
+          adds = adds-both (within f) (withinAlternative x) (r' .run .later) (r .adds) (r' .adds);
           rows = λ F T w' tail ts v. r-item (r .means F T (shorter (r' .run .more) (r .run .ok) (r' .run .list) (r' .run .later) F T w')) (r' .rows F T w' tail ts v);
         }
 
@@ -203,6 +207,7 @@ module _ {g : Grammar} {K : List ℕ} where
           depth = r .depth;
           wide = r .wide;
           cost = r .cost;
+          adds = r .adds;
           rows = λ F T f. r .rows F T f (nums (entry 6 0 0)) [] r-last;
         }
     body-run (also x y) p n at a S w o h =
@@ -235,6 +240,7 @@ module _ {g : Grammar} {K : List ℕ} where
               ∙ (let z : length (r .entries) + length (nums (entry 5 0 (at + length (encode (alternativeTokens x)))) ++ r' .entries) ≡ 3 *
               (r .count + (1 + r' .count)) = omega (arith, r .wide, r' .wide) in z);
           cost = omega (arith, r .cost, r' .cost, ca, next-costs (bodyTokens y));
+          adds = adds-both (withinAlternative x) (withinBody y) (r' .run .later) (r .adds) (r' .adds);
           rows = λ F T f. subst (λ (l : List ℕ). Rows F g T l (symbols x ∷ alternatives y))
               (sym (append-assoc (r .entries) (nums (entry 5 0 (at + length (encode (alternativeTokens x)))) ++ r' .entries)
               (nums (entry 6 0 0)))) (r .rows F T (shorter (r' .run .more) (r .run .ok) (r' .run .list) (r' .run .later) F T f)

@@ -1,14 +1,16 @@
 -- What one pass over the tokens leaves: the items, where each rule begins, and that a table that takes them over has the plain rules.
 use mathlib.Core.Bool.{false}
-use mathlib.Core.List.{List, [], _∷_, _++_}
+use mathlib.Core.List.{List, [], _∷_, _++_, List·Memᴰ as In}
 use mathlib.Core.Logic.{_⊎_}
 use mathlib.Core.Path.{_≡_}
 use Prim.Native.Nat.{ℕ, _+_, _<_, _≤_}
 use lib.ListN.{length, take, drop}
+use Rattle.text.specs.Lists.{concatMap}
 use Rattle.tree.specs.Tree.{unmarked, Symbol, nonterminal, Rule, Grammar, rules}
 use Rattle.tree.specs.Tokens.{Token, rule-head, encode}
+use Rattle.plain.specs.Written.{written}
 use Rattle.plain.specs.Static.{undefined}
-use Rattle.plain.specs.Plain.{alts, alternatives, weight, size}
+use Rattle.plain.specs.Plain.{alts, alternatives, makes, weight, size}
 use Rattle.tokens.specs.Lengths.{Holds}
 use Rattle.items.specs.declared.State.{State}
 use Rattle.items.specs.Items.{kindAt, Starts, Among, Alternatives, Spelt}
@@ -66,12 +68,15 @@ pub record Whole (F : List ℕ) (g : Grammar) (T : Starts) (starts : Starts) (fi
   pub clean : Cleans F 0 firsts
   pub single : (x : ℕ) (s t : Symbol) → Begins x s starts (rules g) firsts → Begins x t starts (rules g) firsts → s ≡ t
 
+-- `starts` has every symbol that is made of a written one, and no other; `firsts` are the first items of the written rules
 pub record Scanned (g : Grammar) (K T : List ℕ) (s : State) : Type 0 where
   pub state : Abs
   pub tokens : state .tokens ≡ K
   pub rep : Rep T s state
   pub count : state .items ≡ size g
   pub starts : Starts
+  pub every : (s : Symbol) → In s (concatMap makes (written g)) → (x : ℕ) × Among x s starts
+  pub only : (x : ℕ) (s : Symbol) → Among x s starts → In s (concatMap makes (written g))
   pub firsts : List ℕ
   pub listed : Listed (state .tokens) (state .rows) (rules g) firsts
   pub whole : (F : List ℕ) (T' : Starts) → Final g (state .tokens) (state .list) starts F T' → Whole F g T' starts firsts (state .items)

@@ -28,8 +28,8 @@ use Rattle.tokens.specs.Proper.{ProperRules}
 use Rattle.items.specs.Items.{Reads}
 use Rattle.items.specs.Built.{Built}
 use Rattle.items.specs.Scanned as items
-use Rattle.prepare.specs.Ready.{Ready}
-use Rattle.prepare.proofs.Sounds.{ready}
+use Rattle.rules.specs.Ready.{Ready}
+use Rattle.rules.proofs.Sounds.{ready}
 use Rattle.parser.specs.Choose.{Choosable}
 use Rattle.static_errors.specs.Held.{staticOf}
 use Rattle.load.proofs.Proper.{grammar-proper}

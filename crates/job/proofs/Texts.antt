@@ -1,7 +1,6 @@
 -- The characters of a record: what the decoder's answer says of the tests.
 use mathlib.Core.Bool.{Bool}
 use mathlib.Core.Path.{_≡_, refl, sym, ap, _∙_}
-use mathlib.Core.Logic.{⊎-elim}
 use mathlib.Core.List.{List, [], _∷_, _++_}
 use Prim.Native.Nat.{ℕ, _≤_, _<_}
 use native.Mathlib.Omega.{arith}
@@ -17,6 +16,8 @@ use Rattle.decode.specs.declared.Decoding.{Decoding}
 use Rattle.decode.specs.declared.Decoding.the-variants.{Of, CutShort, Malformed, Unknown}
 use Rattle.text.specs.declared.CharPlace.{CharPlace}
 use Rattle.decode.proofs.Decoding.{the-type}
+use Rattle.decode.specs.Refused.{whyOf}
+use Rattle.decode.proofs.Refusals.{some-refusal}
 use Rattle.decode.specs.Scan.{over}
 use Rattle.decode.specs.Whole.{Ends as Stops, cut-short, malformed, unknown, Decodes}
 use Rattle.text.specs.Faults.{every, Breaks}
@@ -29,18 +30,11 @@ use Rattle.load.specs.Loaded.{placesOf}
 use Rattle.answer.specs.Answer.{Job}
 use Rattle.decode.proofs.Answers.{Known, Tells, tells-of, tells-cut, tells-malformed, tells-unknown, told}
 use Rattle.job.specs.declared.Taken.the-variants.{Chars, Refused}
-use Rattle.job.specs.Stages.{whyText, Got, Takes}
-
--- an answer that is no text has a refusal
-some-refusal : (d : Decoding) → OneOf (1 ∷ 2 ∷ 3 ∷ []) (tagOf the-type d) → whyText d .number ≡ 0 → ⊥
-some-refusal (Of n) h e = ⊎-elim (λ q. omega arith) (λ k. ⊎-elim (λ q. omega arith) (λ q. omega arith) k) h
-some-refusal (CutShort p) h e = omega arith
-some-refusal (Malformed p) h e = omega arith
-some-refusal (Unknown p) h e = omega arith
+use Rattle.job.specs.Stages.{Got, Takes}
 
 module _ (bs old new : List ℕ) (r : Decoding) (w : Decodes bs 0 old r new) where
-  pub not-taken : OneOf (1 ∷ 2 ∷ 3 ∷ []) (tagOf the-type r) → (n : Diagnostic) → n ≡ whyText r → Takes bs new (Refused n)
-  not-taken h n e = rw e (go (w .answer) (told bs 0 w .tells) (some-refusal r h))
+  pub not-taken : OneOf (1 ∷ 2 ∷ 3 ∷ []) (tagOf the-type r) → (n : Diagnostic) → n ≡ whyOf 12 13 r → Takes bs new (Refused n)
+  not-taken h n e = rw e (go (w .answer) (told bs 0 w .tells) (some-refusal 11 12 r h))
     where
       at : (f : ℕ → Bool) (n : ℕ) (p : BytePlace) → Breaks f bs 0 (p .0) → (j : Job) → j .input ≡ bs
           → placesOf (atByte n p .places) ≡ record { byte = breakOf f (j .input) 0; fault = 0; grammar = 0 }
@@ -48,7 +42,7 @@ module _ (bs old new : List ℕ) (r : Decoding) (w : Decodes bs 0 old r new) whe
           let e : breakOf f (j .input) 0 ≡ p .0 = ap (λ (x : List ℕ). breakOf f x 0) q ∙ break-of f bs 0 (p .0) b in
           λ ι. record { byte = sym e ι; fault = 0; grammar = 0 }
 
-      go : {d : Decoding} → Stops bs 0 d → Tells (decode bs) d → (whyText d .number ≡ 0 → ⊥) → Takes bs new (Refused (whyText d))
+      go : {d : Decoding} → Stops bs 0 d → Tells (decode bs) d → (whyOf 12 13 d .number ≡ 0 → ⊥) → Takes bs new (Refused (whyOf 12 13 d))
       go a (tells-of x) z = absurd (z refl)
       go (cut-short {p = p} b c) (tells-cut x) z =
           λ j q. record { some = z; early = omega arith; is = λ ts. stage-12 j ts (ap decode q ∙ x); places = at every 12 p b j q }

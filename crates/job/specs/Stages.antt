@@ -7,28 +7,19 @@ use lib.Dec.{ltb}
 use lib.ListN.{length, take}
 use Rattle.text.specs.Limits.{recordChars, grammarTable}
 use Rattle.text.specs.Lists.{Text, all}
-use Rattle.text.specs.Stages.{StageAnswer, answered, refused, Settles, atByte, plainly}
+use Rattle.text.specs.Stages.{StageAnswer, answered, refused, Settles}
 use Rattle.text.specs.declared.Diagnostic.{Diagnostic}
 use Rattle.text.specs.Utf8.{known}
 use Rattle.text.specs.Decode.{text, decode}
 use Rattle.plain.specs.Plain.{size}
 use Rattle.answer.specs.Answer.{Job, tableNeed}
 use Rattle.answer.specs.Compute.{Test, firstOf, grammarTests, recordTests, placesAt, jobValues}
-use Rattle.decode.specs.declared.Decoding.{Decoding}
-use Rattle.decode.specs.declared.Decoding.the-variants.{Of, CutShort, Malformed, Unknown}
 use Rattle.load.specs.Loaded.{Kept, placesOf}
 use Rattle.job.specs.declared.Taken.{Taken}
 use Rattle.job.specs.declared.Taken.the-variants.{Chars, Refused}
 use Rattle.job.specs.declared.Start.{Start}
 use Rattle.job.specs.declared.Begun.{Begun}
 use Rattle.job.specs.declared.Begun.the-variants.{At, Refused as Ended}
-
--- document 01's number for each case
-abbrev pub whyText : Decoding → Diagnostic
-whyText (Of n) = plainly 0
-whyText (CutShort p) = atByte 12 p
-whyText (Malformed p) = atByte 12 p
-whyText (Unknown p) = atByte 13 p
 
 -- the n characters of some bytes stand in a buffer, all of the alphabet, and not too many
 pub record Got (bs new : List ℕ) (n : ℕ) : Type 0 where

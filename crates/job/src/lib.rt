@@ -7,7 +7,7 @@ ghost use Rattle.answer.specs.Answer.{Job, tableNeed};
 ghost use Rattle.answer.specs.Answer.{job};
 ghost use Rattle.text.specs.Stages.{numberOf, diagnosticOf};
 ghost use Rattle.reading.specs.Answer.{stageOf as walkedOf};
-ghost use Rattle.job.specs.Stages.{whyText, takenOf, begunOf, Takes, Started, Begins};
+ghost use Rattle.job.specs.Stages.{takenOf, begunOf, Takes, Started, Begins};
 ghost use Rattle.job.specs.Found.{foundOf, Readable, Ends};
 ghost use Rattle.job.specs.Parses.{whyRefused, Lent, Parses};
 use decode::Decoding;
@@ -25,17 +25,6 @@ pub enum Taken {
     Refused(Diagnostic),
 }
 
-fn why_text(decoded: Decoding) -> Diagnostic
-    ensures { λ r. ⌜ r ≡ whyText decoded ⌝ }
-{
-    match decoded {
-        Decoding::Of(_) => text::plain(refusals::ANSWERED),
-        Decoding::CutShort(p) => text::at_byte(refusals::RECORD_NOT_UTF8, p),
-        Decoding::Malformed(p) => text::at_byte(refusals::RECORD_NOT_UTF8, p),
-        Decoding::Unknown(p) => text::at_byte(refusals::RECORD_CHARACTER, p),
-    }
-}
-
 // The characters of a record: 12 to 14.
 fn take_record(record: &[u8], text: &mut [u32]) -> Taken
     requires { ⌜ length (now text) ≡ recordChars ⌝ }
@@ -43,7 +32,11 @@ fn take_record(record: &[u8], text: &mut [u32]) -> Taken
 {
     let decoded = decode::decode_text(record, text);
     let Decoding::Of(end) = decoded else {
-        return Taken::Refused(why_text(decoded));
+        return Taken::Refused(decode::why_refused(
+            decoded,
+            refusals::RECORD_NOT_UTF8,
+            refusals::RECORD_CHARACTER,
+        ));
     };
     if limits::RECORD_CHARACTERS < end.0 {
         return Taken::Refused(text::plain(refusals::RECORD_TOO_LONG));

@@ -15,7 +15,7 @@ use Rattle.plain.specs.Written.{made}
 use Rattle.plain.specs.Plain.{alts, fits, width, ruleMark, over}
 use Rattle.derive.specs.Derive.{Row, end, leaf, node, alternative, Derives, d-end, d-leaf, d-node}
 use Rattle.tokens.specs.Lengths.{widthAt}
-use Rattle.items.proofs.Terminals.{reads-width}
+use Rattle.left_parse.proofs.Widths.{reads-width}
 use Rattle.tokens.specs.Names.{Holding}
 use Rattle.tokens.proofs.Names.{held-whole}
 use Rattle.left_parse.specs.Steps.{Wide, Named}

@@ -1,3 +1,4 @@
+pub mod Widths
 pub mod Items
 pub mod Scratch
 pub mod Walks

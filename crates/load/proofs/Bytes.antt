@@ -1,7 +1,6 @@
 -- From bytes: what the decoder's answers say of the tests, and the whole stage.
 use mathlib.Core.Bool.{Bool, true, false}
 use mathlib.Core.Path.{_≡_, refl, sym, subst, ap, _∙_}
-use mathlib.Core.Logic.{⊎-elim}
 use mathlib.Core.List.{List, [], _∷_, _++_}
 use Prim.Native.Nat.{ℕ, zero, suc, _+_, _≤_, _<_}
 use native.Mathlib.Omega.{arith}
@@ -29,16 +28,14 @@ use Rattle.answer.proofs.Stages.{stage-1, stage-2, stage-3, stage-4, stage-stat
 use Rattle.decode.specs.declared.Decoding.{Decoding}
 use Rattle.decode.specs.declared.Decoding.the-variants.{Of, CutShort, Malformed, Unknown}
 use Rattle.text.specs.declared.CharPlace.{CharPlace}
-use denote.Enum.Declared.{tagOf}
-use types.Run.{OneOf}
-use Rattle.decode.proofs.Decoding.{the-type}
+use Rattle.decode.specs.Refused.{whyOf}
 use Rattle.decode.specs.Scan.{over}
 use Rattle.decode.specs.Whole.{Ends, cut-short, malformed, unknown, Decodes}
 use Rattle.decode.proofs.Answers.{Tells, tells-of, tells-cut, tells-malformed, tells-unknown, Told, told-grammar}
 use Rattle.load.specs.declared.Passed.{Passed}
 use Rattle.load.specs.declared.Loaded.{Loaded}
 use Rattle.load.specs.Checked.{Refuses, stageOf}
-use Rattle.load.specs.Loaded.{Roomy, Reads, reads-none, reads-refused, reads-grammar, Turned, Kept, Loads, whyOf, placesOf}
+use Rattle.load.specs.Loaded.{Roomy, Reads, reads-none, reads-refused, reads-grammar, Turned, Kept, Loads, placesOf}
 
 -- no more characters than bytes
 count-le : (cs : Text) → length cs ≤ length (utf8s cs)
@@ -120,7 +117,7 @@ module _ (bs old new : List ℕ) (r : Decoding) (w : Decodes bs (afterMark bs) o
       go (tells-unknown x) q = absurd (let z : _≡_ {A = ℕ} 0 1 = cc in omega arith)
 
   -- a text that is not decoded is refused, with the place of its break
-  pub turned : length bs ≤ 4096 → (whyOf r .number ≡ 0 → ⊥) → Turned bs (whyOf r)
+  pub turned : length bs ≤ 4096 → (whyOf 2 3 r .number ≡ 0 → ⊥) → Turned bs (whyOf 2 3 r)
   turned l h = go (w .answer) (told .tells) h
     where
       at : {f : ℕ → Bool} (p : BytePlace) → Breaks f bs (afterMark bs) (p .0) → placesOf (atByte 2 p .places) ≡ record { byte = breakOf f bs (afterMark bs); fault = 0; grammar = 0 }
@@ -129,7 +126,7 @@ module _ (bs old new : List ℕ) (r : Decoding) (w : Decodes bs (afterMark bs) o
       two : (p : BytePlace) → Breaks every bs (afterMark bs) (p .0) → unmark (decode bs) ≡ not-utf8 → Turned bs (atByte 2 p)
       two p b x = record { some = λ e. omega arith; early = omega arith; first = λ ts. stage-2 bs ts l (no-text bs x); places = at p b }
 
-      go : {d : Decoding} → Ends bs (afterMark bs) d → Tells (unmark (decode bs)) d → (whyOf d .number ≡ 0 → ⊥) → Turned bs (whyOf d)
+      go : {d : Decoding} → Ends bs (afterMark bs) d → Tells (unmark (decode bs)) d → (whyOf 2 3 d .number ≡ 0 → ⊥) → Turned bs (whyOf 2 3 d)
       go a (tells-of x) z = absurd (z refl)
       go (cut-short {p = p} b c) (tells-cut x) z = two p b x
       go (malformed {p = p} b c) (tells-malformed x) z = two p b x
@@ -200,13 +197,6 @@ loaded bs new T n l d r h = go (stageOf r) (subst (λ (s : Text). Reads s T (sta
 -- a grammar's characters have room
 pub roomy : (bs new T : List ℕ) (n : ℕ) → Got bs new n → length T ≡ grammarTable → Roomy (take n new) T
 roomy bs new T n d t = let s = ap length (d .stored) in let c = d .count in let f = d .few in record { chars = omega arith; table = t }
-
--- an answer that is no text has a refusal
-pub some-refusal : (d : Decoding) → OneOf (1 ∷ 2 ∷ 3 ∷ []) (tagOf the-type d) → whyOf d .number ≡ 0 → ⊥
-some-refusal (Of n) h e = ⊎-elim (λ q. omega arith) (λ k. ⊎-elim (λ q. omega arith) (λ q. omega arith) k) h
-some-refusal (CutShort p) h e = omega arith
-some-refusal (Malformed p) h e = omega arith
-some-refusal (Unknown p) h e = omega arith
 
 pub whole-part : (bs new : List ℕ) (n : ℕ) → Got bs new n → n ≡ length (take n new)
 whole-part bs new n d = let s = ap length (d .stored) in let c = d .count in omega arith

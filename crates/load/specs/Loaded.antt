@@ -6,7 +6,7 @@ use Prim.Native.Nat.{ℕ, _*_, _≤_}
 use lib.ListN.{length}
 use Rattle.text.specs.Limits.{grammarBytes, grammarTable, mostSize}
 use Rattle.text.specs.Lists.{Text}
-use Rattle.text.specs.Stages.{StageAnswer, answered, refused, Settles, atByte, plainly, Plain}
+use Rattle.text.specs.Stages.{StageAnswer, answered, refused, Settles, plainly, Plain}
 use Rattle.text.specs.declared.Places.{Places}
 use Rattle.text.specs.declared.Diagnostic.{Diagnostic}
 use Rattle.tree.specs.Tree.{Grammar}
@@ -16,8 +16,6 @@ use Rattle.plain.specs.Static.{mismatched}
 use Rattle.answer.specs.Answer.{Places as Answered}
 use Rattle.answer.specs.Compute.{Test, firstOf, treeOf, grammarTests, mismatch, placesAt, checkValues}
 use Rattle.static_errors.specs.Held.{staticOf}
-use Rattle.decode.specs.declared.Decoding.{Decoding}
-use Rattle.decode.specs.declared.Decoding.the-variants.{Of, CutShort, Malformed, Unknown}
 use Rattle.load.specs.declared.Passed.{Passed}
 use Rattle.load.specs.declared.Loaded.{Loaded}
 use Rattle.load.specs.Checked.{Stands, Passes, Refuses, stageOf}
@@ -71,10 +69,3 @@ pub record Kept (bs T : List ℕ) (p : Passed) : Type 0 where
 
 abbrev pub Loads : List ℕ → List ℕ → Loaded → Type 0
 Loads bs T r = Settles (Kept bs T) (Turned bs) (stageOf r)
-
--- 2 and 3 are the refusals of a text that is not decoded
-abbrev pub whyOf : Decoding → Diagnostic
-whyOf (Of n) = plainly 0
-whyOf (CutShort p) = atByte 2 p
-whyOf (Malformed p) = atByte 2 p
-whyOf (Unknown p) = atByte 3 p

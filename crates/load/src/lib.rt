@@ -10,7 +10,7 @@ ghost use lib.ListN.{length};
 ghost use Rattle.static_errors.specs.Held.{ruleNumber};
 ghost use Rattle.text.specs.Stages.{diagnosticOf};
 ghost use Rattle.load.specs.Checked.{stageOf, Standing, TreeChecked};
-ghost use Rattle.load.specs.Loaded.{Roomy, Reads, Loads, whyOf};
+ghost use Rattle.load.specs.Loaded.{Roomy, Reads, Loads};
 ghost use Rattle.text.specs.Limits.{grammarTable};
 
 const LARGEST: u32 = limits::GRAMMAR_SIZE as u32;
@@ -85,18 +85,6 @@ pub fn read_text(text: &[u32], table: &mut [u32]) -> Loaded
     check_tree(table, end.0)
 }
 
-// The refusal of a text that is not decoded.
-fn why(decoded: Decoding) -> Diagnostic
-    ensures { λ r. ⌜ r ≡ whyOf decoded ⌝ }
-{
-    match decoded {
-        Decoding::Of(_) => text::plain(refusals::ANSWERED),
-        Decoding::CutShort(p) => text::at_byte(refusals::GRAMMAR_NOT_UTF8, p),
-        Decoding::Malformed(p) => text::at_byte(refusals::GRAMMAR_NOT_UTF8, p),
-        Decoding::Unknown(p) => text::at_byte(refusals::GRAMMAR_CHARACTER, p),
-    }
-}
-
 // The tree of a grammar's bytes in the table, checked by refusals 1 to 11.
 pub fn load_grammar(grammar: &[u8], table: &mut [u32]) -> Loaded
     requires { ⌜ length (now table) ≡ grammarTable ⌝ }
@@ -108,7 +96,11 @@ pub fn load_grammar(grammar: &[u8], table: &mut [u32]) -> Loaded
     let mut text = [0u32; limits::GRAMMAR_BYTES];
     let decoded = decode::decode_grammar(grammar, &mut text);
     let Decoding::Of(count) = decoded else {
-        return Loaded::Refused(why(decoded));
+        return Loaded::Refused(decode::why_refused(
+            decoded,
+            refusals::GRAMMAR_NOT_UTF8,
+            refusals::GRAMMAR_CHARACTER,
+        ));
     };
     let n = count.0;
     read_text(&text[..n], table)

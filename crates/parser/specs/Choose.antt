@@ -7,7 +7,7 @@ use Rattle.text.specs.Limits.{mostSize, recordChars, grammarTable, readingNumbe
 use Rattle.text.specs.Lists.{Text}
 use Rattle.tree.specs.Tree.{Grammar}
 use Rattle.chart.specs.Heights.{stretches}
-use Rattle.prepare.specs.Ready.{Ready}
+use Rattle.rules.specs.Ready.{Ready}
 
 pub record Choosable (T : List ℕ) (size root : ℕ) (r : Text) (main parse : ℕ) : Type 0 where
   pub grammar : Grammar

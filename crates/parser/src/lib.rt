@@ -2,7 +2,7 @@
 ghost use Prim.Native.Nat.{_≤_};
 ghost use lib.ListN.{length};
 ghost use Rattle.tree.specs.Tree.{Grammar};
-ghost use Rattle.prepare.specs.Ready.{Ready};
+ghost use Rattle.rules.specs.Ready.{Ready};
 ghost use Rattle.reading.specs.Answer.{Answers};
 ghost use Rattle.parser.specs.Choose.{Choosable};
 use reading::Walked;

@@ -1,3 +1,4 @@
 pub mod Written
 pub mod Static
 pub mod Plain
+pub mod Live

@@ -4,7 +4,7 @@ use mathlib.Core.List.{List, [], _∷_, _++_}
 use Prim.Native.Nat.{ℕ, _+_}
 use lib.Dec.{leb, eqb}
 use lib.ListN.{length}
-use Rattle.text.specs.Lists.{Text, pick, any, same, begins, among}
+use Rattle.text.specs.Lists.{Text, pick, any, concatMap, same, begins, among}
 use Rattle.category.specs.Category.{inClass}
 use Rattle.tree.specs.Tree.{Mark, unmarked, included, attribute, deleted, Chars, Member, chars, range, class, Terminal, literal, inclusion, exclusion, insertion, codes}
 use Rattle.tree.specs.Tree.{Symbol, terminal, nonterminal, group, option, repeat0, repeat1, repeat0sep, repeat1sep, rest, Alternative, nil, cons, Body, one, also, Rule, Grammar, rules}
@@ -61,6 +61,10 @@ makes (repeat1 f) = repeat1 f ∷ repeat0 f ∷ []
 makes (repeat1sep f sep) = repeat1sep f sep ∷ rest f sep ∷ []
 makes (repeat0sep f sep) = repeat0sep f sep ∷ repeat1sep f sep ∷ rest f sep ∷ []
 makes (rest f sep) = []
+
+-- the symbols that have a rule: the names of the rules that are written, and the made ones
+abbrev pub ruled : Grammar → List Symbol
+ruled g = concatMap (λ r. nonterminal unmarked (r .name) ∷ []) (rules g) ++ concatMap makes (written g)
 
 abbrev pub sumOf {ℓ} : {A : Type ℓ} → (A → ℕ) → List A → ℕ
 sumOf f [] = 0

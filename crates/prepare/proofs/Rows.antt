@@ -8,14 +8,16 @@ use native.Mathlib.Decide.{ℕ-discrete}
 use native.Mathlib.Omega.{arith}
 use lib.ListN.{length, getD, set, drop, length-set}
 use lib.Seq.{getD-set-same, getD-set-other}
-use Rattle.text.specs.Limits.{recordChars}
+use Rattle.text.specs.Limits.{mostSize, recordChars}
+use Rattle.text.specs.Lists.{Text}
 use Rattle.text.proofs.Tests.{split}
-use Rattle.tree.specs.Tree.{Terminal}
+use Rattle.tree.specs.Tree.{Terminal, Symbol, Grammar}
 use Rattle.plain.specs.Plain.{fits}
 use Rattle.items.specs.Items.{kindAt, tokenAt}
-use Rattle.chart.specs.Code.{flag, fitsAt}
-use Rattle.prepare.specs.Places.{TerminalAt, Row}
-use Rattle.prepare.specs.Ready.{ItemRow, Rows}
+use Rattle.chart.specs.Code.{flag, fitsAt, On, at-end, at-terminal, at-symbol, Stands, Ruled, Coded}
+use Rattle.terminals.specs.Places.{TerminalAt}
+use Rattle.rules.specs.Ready.{Token}
+use Rattle.prepare.specs.Rows.{Row, ItemRow, Rows}
 
 -- the tests of the places before i are stored
 pub record Rowing (T R f₀ f : List ℕ) (at base i : ℕ) : Type 0 where
@@ -77,3 +79,28 @@ rows-next {T} {R = R} {f' = f'} {p = p} w h u = record {
 
 pub rows-end : {T : List ℕ} {size : ℕ} {R f₀ f : List ℕ} {p : ℕ} → RowsBelow T size R f₀ f p → size ≤ p → Rows T size R f₀ f
 rows-end w h = record { long = w .long; rows = λ q l. w .rows q (omega arith) }
+
+-- the code of the rules and the rows of tests are what the engine is given
+stands-by : {T c f f₀ : List ℕ} {g : Grammar} {R : Text} {size p : ℕ} {dots : List (List Symbol)} {heads : List Symbol} → Rows T size R f₀ f → p < size
+    → On (Token T) c g dots heads p → Stands c f g R dots heads p
+stands-by v h (at-end k e) = at-end k e
+stands-by {p = p} v h (at-terminal x k l e w t) = at-terminal x k l e w (λ i m. v .rows p h x (t .0) (t .1) i m)
+stands-by v h (at-symbol s k l e n i q) = at-symbol s k l e n i q
+
+pub coded : {T c f f₀ : List ℕ} {g : Grammar} {R : Text} {size top first : ℕ} → Ruled (Token T) c g size top first → Rows T size R f₀ f → size ≤ mostSize
+    → 4 * size ≤ length c → length R ≤ recordChars → size * (recordChars + 1) ≤ length f → Coded c f g R size top first
+coded w v small room short fits-room = record {
+  dots = w .dots;
+  heads = w .heads;
+  count = w .count;
+  small = small;
+  room = room;
+  short = short;
+  fits-room = fits-room;
+  stands = λ p h. stands-by v h (w .stands p h);
+  owned = w .owned;
+  chains = w .chains;
+  root-chain = w .root-chain;
+  root-head = w .root-head;
+  root-inside = w .root-inside;
+}

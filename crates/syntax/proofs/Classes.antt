@@ -8,7 +8,8 @@ use lib.Dec.{leb, eqb}
 use borrow.Author.Tests.{eqb-true, eqb-false, leb-true, leb-false, lt-leb, ne-eqb, not-true}
 use Rattle.text.specs.Lists.{Text, chars, any, all, among}
 use Rattle.text.specs.Utf8.{alphabet, known, width}
-use Rattle.text.proofs.Spans.{codeAt, every-known}
+use Rattle.text.specs.Ranks.{codeAt}
+use Rattle.text.proofs.Spans.{every-known}
 use Rattle.text.proofs.Tests.{T-true}
 use Rattle.category.specs.Category.{ranges, look, categoryOf, inClass}
 use Rattle.category.proofs.Agree.{unknown}

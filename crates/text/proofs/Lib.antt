@@ -7,3 +7,4 @@ pub mod Decode
 pub mod Lists
 pub mod Faults
 pub mod Marks
+pub mod Known

@@ -2,10 +2,13 @@
 use mathlib.Core.Path.{_≡_, refl, sym, ap, ap₂, _∙_}
 use mathlib.Core.Bool.{Bool, true, false, _&&_, _||_, and-false}
 use mathlib.Core.List.{List, [], _∷_, _++_, append-assoc}
-use Prim.Native.Nat.{ℕ, zero, suc}
+use mathlib.Core.Logic.{⊎-elim}
+use Prim.Native.Nat.{ℕ, zero, suc, _<_}
+use native.Mathlib.Nat.{le-of-suc-le-suc, not-suc-le-zero}
 use native.Mathlib.Omega.{arith}
-use lib.Dec.{eqb}
-use lib.ListN.{length}
+use lib.Dec.{T, eqb}
+use lib.ListN.{length, getD}
+use Rattle.text.proofs.Tests.{or-case, or-left, or-right}
 use Rattle.text.specs.Lists.{Text, any, same, concatMap}
 
 pub or-false : (a : Bool) → a || false ≡ a
@@ -51,3 +54,13 @@ same-lengths [] [] h = absurd (h refl)
 same-lengths [] (y ∷ ys) h = refl
 same-lengths (x ∷ xs) [] h = refl
 same-lengths (x ∷ xs) (y ∷ ys) h = rw (same-lengths xs ys (λ e. h (ap suc e))) (and-false (eqb x y))
+
+-- some element of a list, by its place
+pub any-index : (f : ℕ → Bool) (xs : List ℕ) → T (any f xs) → (k : ℕ) × ((k < length xs) × T (f (getD xs k 0)))
+any-index f [] t = absurd t
+any-index f (x ∷ xs) t = ⊎-elim (λ u. (0, (omega arith, u))) (λ u. let r = any-index f xs u in (suc (r .0), (omega arith, r .1 .1))) (or-case (f x) (any f xs) t)
+
+pub index-any : (f : ℕ → Bool) (xs : List ℕ) (k : ℕ) → k < length xs → T (f (getD xs k 0)) → T (any f xs)
+index-any f [] k h t = absurd (not-suc-le-zero h)
+index-any f (x ∷ xs) zero h t = or-left (f x) (any f xs) t
+index-any f (x ∷ xs) (suc k) h t = or-right (f x) (any f xs) (index-any f xs k (le-of-suc-le-suc h) t)

@@ -8,18 +8,9 @@ use lib.Dec.{T, leb, ltb, ltb→lt}
 use borrow.Author.Tests.{lt-ltb, le-ltb, leb-true, lt-leb, le-leb}
 use Rattle.text.specs.Lists.{pick, any, Span, span, inside}
 use Rattle.text.specs.Utf8.{alphabet, known, width, placeIn}
+use Rattle.text.specs.Ranks.{total, codeAt}
 use Rattle.text.proofs.Tests.{clash, and-left, and-right, isT, T-true}
 use Rattle.text.proofs.Table.{below, below-at}
-
--- how many code points there are in all
-unfoldable pub total : List Span → ℕ
-total [] = 0
-total (s ∷ ss) = width s + total ss
-
--- the code point at a place
-unfoldable pub codeAt : List Span → ℕ → ℕ
-codeAt [] k = 0
-codeAt (s ∷ ss) k = pick (ltb k (width s)) (s .from + k) (codeAt ss (k - width s))
 
 module _ (c : ℕ) (s : Span) (e : inside c s ≡ true) where
   pub above-from : s .from ≤ c

@@ -66,3 +66,10 @@ same-is [] [] h = refl
 same-is [] (y ∷ ys) h = absurd h
 same-is (x ∷ xs) [] h = absurd h
 same-is (x ∷ xs) (y ∷ ys) h = λ ι. eqb→eq x y (and-left (eqb x y) (same xs ys) h) ι ∷ same-is xs ys (and-right (eqb x y) (same xs ys) h) ι
+
+-- tests that pass together are equal
+pub T-both : (a b : Bool) → (T a → T b) → (T b → T a) → a ≡ b
+T-both true true f g = refl
+T-both true false f g = absurd (f tt)
+T-both false true f g = absurd (g tt)
+T-both false false f g = refl

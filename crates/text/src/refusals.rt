@@ -23,6 +23,8 @@ pub const UNKNOWN_CLASS: u32 = 10;
 
 pub const GRAMMAR_TOO_LARGE: u32 = 11;
 
+pub const UNPRODUCTIVE_RULE: u32 = 24;
+
 pub const RECORD_NOT_UTF8: u32 = 12;
 
 pub const RECORD_CHARACTER: u32 = 13;

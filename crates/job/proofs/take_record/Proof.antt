@@ -10,14 +10,14 @@ decode-text-requires c κs = search needs
 enum-known-decoded : tie.Need-enum-known-decoded
 enum-known-decoded c = search needs
 
-why-text-requires : tie.Need-why-text-requires
-why-text-requires c κs = search needs
+why-refused-requires : tie.Need-why-refused-requires
+why-refused-requires c κs = search needs
 
 same-length : tie.Need-same-length
 same-length c = search needs
 
 returns : tie.Need-returns
-returns c = not-taken _ _ _ _ (c .before .before .before .before .decode-text .ensures) (c .before .match .keys2) _ (c .why-text .ensures)
+returns c = not-taken _ _ _ _ (c .before .before .before .before .decode-text .ensures) (c .before .match .keys2) _ (c .why-refused .ensures)
 
 plain-requires : tie.Need-plain-requires
 plain-requires c κs = search needs
@@ -45,7 +45,7 @@ take-record-spec =
     (tie.spec
     decode-text-requires
     enum-known-decoded
-    why-text-requires
+    why-refused-requires
     same-length
     returns
     plain-requires

@@ -2,7 +2,8 @@ use mathlib.Core.Path.{sym, subst}
 use Prim.Native.Nat.{ℕ}
 use native.Mathlib.Omega.{arith}
 use Rattle.load.specs.Loaded.{Turned}
-use Rattle.load.proofs.Bytes.{got, turned, too-long, loaded, roomy, some-refusal, whole-part}
+use Rattle.load.proofs.Bytes.{got, turned, too-long, loaded, roomy, whole-part}
+use Rattle.decode.proofs.Refusals.{some-refusal}
 use borrow.Author.Needs.{needs}
 use Rattle.load.proofs.load_grammar.Statement.{statement}
 use Rattle.load.proofs.load_grammar.Tie as tie
@@ -24,18 +25,18 @@ decode-grammar-requires c κs = search needs
 enum-known-decoded : tie.Need-enum-known-decoded
 enum-known-decoded c = search needs
 
-why-requires : tie.Need-why-requires
-why-requires c κs = search needs
+why-refused-requires : tie.Need-why-refused-requires
+why-refused-requires c κs = search needs
 
 returns-2 : tie.Need-returns-2
 returns-2 c =
     let at-decode-grammar = c .before .before .before in
     let at-if1 = at-decode-grammar .before .before in
     let start = at-if1 .before .before .before in
-    subst (Turned (start .args .grammar .now)) (sym (c .why .ensures))
+    subst (Turned (start .args .grammar .now)) (sym (c .why-refused .ensures))
     (turned (start .args .grammar .now) _ (at-decode-grammar .decode-grammar .last .1 .0) (at-decode-grammar .decode-grammar .result)
     (at-decode-grammar .decode-grammar .ensures) (omega (arith, at-if1 .if1 .left))
-    (some-refusal (at-decode-grammar .decode-grammar .result) (c .before .match .keys2)))
+    (some-refusal 1 2 (at-decode-grammar .decode-grammar .result) (c .before .match .keys2)))
 
 array-share-prefix-text : tie.Need-array-share-prefix-text
 array-share-prefix-text c =
@@ -95,7 +96,7 @@ load-grammar-spec =
     slice-aggregate-decode-grammar
     decode-grammar-requires
     enum-known-decoded
-    why-requires
+    why-refused-requires
     returns-2
     array-share-prefix-text
     slice-aggregate-read-text

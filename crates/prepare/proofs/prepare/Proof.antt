@@ -1,59 +1,19 @@
 use native.Mathlib.Omega.{arith}
-use mathlib.Core.Path.{_≡_, refl, sym, _∙_, ap}
-use Rattle.prepare.proofs.Whole.{reach, here, first-inside, coded}
+use Rattle.rules.proofs.Whole.{here}
+use Rattle.prepare.proofs.Rows.{coded}
 use borrow.Author.Needs.{needs}
 use Rattle.prepare.proofs.prepare.Statement.{statement}
 use Rattle.prepare.proofs.prepare.Tie as tie
 
-owners-requires : tie.Need-owners-requires
-owners-requires c κs =
-    let start = c .before .before .before .before .before in
-    record { long = start .pre .long; small = start .pre .small; room = omega (arith, start .pre .room); reach = reach (start .pre .ready) }
-
-code-items-requires : tie.Need-code-items-requires
-code-items-requires c κs =
-    let at-owners = c .before .before .before in
-    let start = at-owners .before .before .before .before .before .before in
-    record { long = start .pre .long; small = start .pre .small; room = omega (arith, start .pre .room, at-owners .owners .ensures .long); reach = reach (start .pre .ready) }
+code-rules-requires : tie.Need-code-rules-requires
+code-rules-requires c κs =
+    let pre = c .before .before .before .before .before .pre in
+    record { grammar = pre .grammar; ready = pre .ready; long = pre .long; small = pre .small; room = pre .room }
 
 fit-rows-requires : tie.Need-fit-rows-requires
 fit-rows-requires c κs =
-    let start = c .before .before .before .before .before .before .before .before .before .before .before .before .before in
-    record { long = start .pre .long; small = start .pre .small; short = start .pre .short; room = start .pre .fits-room; here = here (start .pre .ready) }
-
-mul-less-one : tie.Need-mul-less-one
-mul-less-one c =
-    let at-code-items = c .before .before .before .before .before .before in
-    let at-owners = at-code-items .before .before .before .before in
-    let start = at-owners .before .before .before .before .before .before in
-    omega (arith, start .pre .small, start .pre .room, first-inside (start .pre .ready), at-code-items .code-items .ensures .long, at-owners .owners .ensures .long)
-
-add-less-one : tie.Need-add-less-one
-add-less-one c =
-    let at-code-items = c .before .before .before .before .before .before in
-    let at-owners = at-code-items .before .before .before .before in
-    let start = at-owners .before .before .before .before .before .before in
-    omega (arith, start .pre .small, start .pre .room, first-inside (start .pre .ready), at-code-items .code-items .ensures .long, at-owners .owners .ensures .long)
-
-mul-less-one-2 : tie.Need-mul-less-one-2
-mul-less-one-2 c =
-    let at-code-items = c .before .before .before .before .before .before in
-    let at-owners = at-code-items .before .before .before .before in
-    let start = at-owners .before .before .before .before .before .before in
-    omega (arith, start .pre .small, start .pre .room, first-inside (start .pre .ready), at-code-items .code-items .ensures .long, at-owners .owners .ensures .long)
-
-slice-read-less-one : tie.Need-slice-read-less-one
-slice-read-less-one c =
-    let at-code-items = c .before .before .before .before .before .before .before in
-    let at-owners = at-code-items .before .before .before .before in
-    let start = at-owners .before .before .before .before .before .before in
-    omega (arith, start .pre .small, start .pre .room, first-inside (start .pre .ready), at-code-items .code-items .ensures .long, at-owners .owners .ensures .long)
-
-less-one-requires : tie.Need-less-one-requires
-less-one-requires c κs = search needs
-
-wide-requires : tie.Need-wide-requires
-wide-requires c κs = search needs
+    let pre = c .before .before .before .before .before .before .before .before .before .pre in
+    record { long = pre .long; small = pre .small; short = pre .short; room = pre .fits-room; here = here (pre .ready) }
 
 same-length : tie.Need-same-length
 same-length c = search needs
@@ -63,28 +23,18 @@ same-length-2 c = search needs
 
 returns : tie.Need-returns
 returns c =
-    let at-fit-rows = c .before .before .before .before .before in
-    let at-code-items = at-fit-rows .before .before .before .before in
-    let at-owners = at-code-items .before .before .before .before in
-    let start = at-owners .before .before .before .before .before .before in
-    λ g w. coded w (at-owners .owners .ensures) (at-code-items .code-items .ensures) (at-fit-rows .fit-rows .ensures) (start .pre .small)
-    (omega (arith, start .pre .room, at-owners .owners .ensures .long, at-code-items .code-items .ensures .long)) (start .pre .short)
-    (omega (arith, start .pre .fits-room, at-fit-rows .fit-rows .ensures .long)) (c .wide .result)
-    (c .wide .ensures ∙ c .before .less-one .ensures)
+    let at-fit-rows = c .before .before in
+    let at-code-rules = at-fit-rows .before .before .before .before in
+    let pre = at-code-rules .before .before .before .before .before .before .pre in
+    λ g w. coded (at-code-rules .code-rules .ensures g w) (at-fit-rows .fit-rows .ensures) (pre .small)
+    (omega (arith, pre .room, at-code-rules .code-rules .kept .1 .1 .1 .0)) (pre .short) (omega (arith, pre .fits-room, at-fit-rows .fit-rows .ensures .long))
 
 pub prepare-spec : {M : Type 1} → statement M
 prepare-spec =
     tie.close
     (tie.spec
-    owners-requires
-    code-items-requires
+    code-rules-requires
     fit-rows-requires
-    mul-less-one
-    add-less-one
-    mul-less-one-2
-    slice-read-less-one
-    less-one-requires
-    wide-requires
     same-length
     same-length-2
     returns)

@@ -1,0 +1,5 @@
+pub mod Arrays
+pub mod Dots
+pub mod Numbers
+pub mod Whole
+pub mod Sounds
