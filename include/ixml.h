@@ -106,8 +106,8 @@ typedef struct {
 
 /*
  * The numbers of an answer, in the order in which they are judged: the first
- * that applies is given. ixml_check gives 0 to 11; ixml_read 0 to 16, 29 and
- * 23; ixml_convert any.
+ * that applies is given. ixml_check gives 0 to 11 and 24; ixml_read 0 to 16,
+ * 24, 29 and 23; ixml_convert any.
  *
  * On every refusal each cell of the result buffer is as it was.
  */
@@ -140,6 +140,9 @@ enum {
     /* The grammar's size is over 512: the sum, over all alternatives of the
        plain rules, of their symbols plus 1. */
     IXML_GRAMMAR_TOO_LARGE = 11,
+    /* A rule of the grammar, written or made from a repetition or a bracket,
+       derives no text of characters that a record may hold: `a: "x", a.` */
+    IXML_UNPRODUCTIVE_RULE = 24,
 
     /* The record is not UTF-8. */
     IXML_RECORD_NOT_UTF8 = 12,

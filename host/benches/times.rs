@@ -108,7 +108,7 @@ fn row(what: &str, times: &[Times]) {
 }
 
 fn check_table() {
-    const KINDS: [&str; 16] = [
+    const KINDS: [&str; 22] = [
         "rules",
         "rules that use the next",
         "rules that use the first",
@@ -120,6 +120,12 @@ fn check_table() {
         "one long name",
         "one long hex number",
         "one set of classes",
+        "one exclusion of classes",
+        "one exclusion of ranges",
+        "exclusions",
+        "sets that match nothing",
+        "a chain of rules",
+        "a ring of rules",
         "short literals",
         "repetitions",
         "brackets 16 deep",

@@ -2,7 +2,7 @@
 
 use crate::{ffi, Answer};
 
-/// Checks a grammar: the numbers 0 to 11.
+/// Checks a grammar: the numbers 0 to 11, and 24.
 ///
 /// ```
 /// assert_eq!(ixml::check(b"a: 'x'*.").number, 0);
@@ -13,7 +13,7 @@ pub fn check(grammar: &[u8]) -> Answer {
     unsafe { ffi::ixml_check(grammar.as_ptr(), grammar.len()) }
 }
 
-/// Reads a record: the numbers 0 to 16, 29 and 23.
+/// Reads a record: the numbers 0 to 16, 24, 29 and 23.
 ///
 /// With 0 the first numbers of `result`, as many as the answer's length, are
 /// the chosen reading: the left parse of a derivation. All other cells of

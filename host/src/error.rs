@@ -75,6 +75,7 @@ errors! {
     BackwardRange = 9, "the grammar has a range that runs backwards";
     UnknownClass = 10, "the grammar names a character class that does not exist";
     GrammarTooLarge = 11, "the grammar's size is over 512";
+    UnproductiveRule = 24, "a rule of the grammar derives no text at all: each of its alternatives needs itself, or a character that no record may hold";
     RecordNotUtf8 { byte: usize = byte, quote: Quote = unquoted } = 12, "the record is not UTF-8";
     RecordCharacter { byte: usize = byte, quote: Quote = unquoted } = 13, "the record holds a character outside the alphabet (U+0000 to U+017F, U+0300 to U+036F, U+203F, U+2040)";
     RecordTooLong = 14, "the record has over 200 characters";

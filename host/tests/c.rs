@@ -58,7 +58,10 @@ fn program(assert: &str) -> String {
         format!("IXML_READING_NUMBERS == {}", limits::READING_NUMBERS),
         format!("IXML_GRAMMAR_TABLE == {}", limits::GRAMMAR_TABLE),
         format!("IXML_MAIN_TABLE == {}", limits::MAIN_TABLE),
-        format!("IXML_MAIN_TABLE_LENGTH(512, IXML_RECORD_CHARACTERS) == {}", limits::MAIN_TABLE),
+        format!(
+            "IXML_MAIN_TABLE_LENGTH(512, IXML_RECORD_CHARACTERS) == {}",
+            limits::MAIN_TABLE
+        ),
         "IXML_MAIN_TABLE_LENGTH(2, 1) == 6".to_string(),
         format!("IXML_CATEGORY_NOT_KNOWN == {}", ixml::Category::ALL.len()),
         format!("sizeof(ixml_answer) == {}", size_of::<Answer>()),

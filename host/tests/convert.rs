@@ -189,7 +189,8 @@ fn xmllint_reads_column_aligned_names_back() {
     let record = "probe\t\t7\tnorth\tfield\t";
     let mut reader = ixml::Reader::new();
     let converted = reader.convert(grammar, record).expect("XML");
-    let expected = "<probes names='probe&#x9;&#x9;7&#x9;north&#x9;field&#x9;&#x9;&#x9;'>\t</probes>";
+    let expected =
+        "<probes names='probe&#x9;&#x9;7&#x9;north&#x9;field&#x9;&#x9;&#x9;'>\t</probes>";
     assert_eq!(converted.xml, expected);
     let file = directory("columns").join("columns.xml");
     std::fs::write(&file, &converted.xml).expect("a file");

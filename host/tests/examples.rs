@@ -93,7 +93,7 @@ fn grammars() {
         ("a: #10ffff.", 8),
         ("a: [\"b\"-\"a\"].", 9),
         ("a: [Xx].", 10),
-        ("a: #10fffd.", 0),
+        ("a: #10fffd.", 24),
     ];
     for (grammar, number) in cases {
         assert_eq!(check(grammar.as_bytes()).number, number, "{grammar}");

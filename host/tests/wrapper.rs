@@ -21,7 +21,11 @@ fn every_refusal_has_its_number_and_a_sentence_of_its_own() {
         assert_eq!(place.is_some(), [2, 3, 12, 13].contains(&number));
         assert_eq!(
             error.to_string(),
-            format!("refused {number}: {}{}", error.sentence(), place.unwrap_or_default())
+            format!(
+                "refused {number}: {}{}",
+                error.sentence(),
+                place.unwrap_or_default()
+            )
         );
     }
     assert_eq!(sentences.len(), 24);
@@ -48,7 +52,10 @@ fn table_lengths() {
     assert_eq!(main_table(2, 1), 6);
     assert_eq!(main_table(usize::MAX, usize::MAX), MAIN_TABLE);
     assert_eq!(main_table_for(b""), 512);
-    assert_eq!(main_table_for("é".repeat(RECORD_CHARACTERS).as_bytes()), MAIN_TABLE);
+    assert_eq!(
+        main_table_for("é".repeat(RECORD_CHARACTERS).as_bytes()),
+        MAIN_TABLE
+    );
     assert_eq!(main_table_for(&[b'x'; 100_000]), MAIN_TABLE);
     assert_eq!(main_table_for(&[0x80; 100_000]), 512);
 }
@@ -72,13 +79,20 @@ fn a_reader_reads_jobs_of_all_lengths() {
     }
     let refusals = [
         ("a: b.", "", Error::UndefinedName),
-        ("a: 'x'.", &"x".repeat(RECORD_CHARACTERS + 1), Error::RecordTooLong),
+        (
+            "a: 'x'.",
+            &"x".repeat(RECORD_CHARACTERS + 1),
+            Error::RecordTooLong,
+        ),
     ];
     for (grammar, record, refusal) in refusals {
         assert_eq!(reader.read(grammar, record), Err(refusal));
     }
     let broken = reader.read("a: 'x'.", b"x\xE2\x82").expect_err("a refusal");
-    assert_eq!(broken.to_string(), "refused 12: the record is not UTF-8, at byte 1 (E2 82)");
+    assert_eq!(
+        broken.to_string(),
+        "refused 12: the record is not UTF-8, at byte 1 (E2 82)"
+    );
     let outside = reader.read("a: 'x'.", "x\u{180}y").expect_err("a refusal");
     assert_eq!((outside.number(), outside.byte()), (13, Some(1)));
     assert!(outside.to_string().ends_with(", at byte 1 (C6 80)"));

@@ -3,6 +3,7 @@
 use crate::engine;
 use crate::limits;
 use crate::plain::{plain, Plain};
+use crate::productive;
 use crate::reading::{self, Reading};
 use crate::refusal::{Places, Refusal};
 use crate::statics;
@@ -34,7 +35,7 @@ impl From<Refusal> for Answer {
     }
 }
 
-/// Checks a grammar: 0 to 11.
+/// Checks a grammar: 0 to 11, and 24.
 pub fn check(grammar: &[u8]) -> Answer {
     match accept(grammar) {
         Ok(Accepted { version, .. }) => Answer {
@@ -45,7 +46,7 @@ pub fn check(grammar: &[u8]) -> Answer {
     }
 }
 
-/// Reads a record: 0 to 16, 29 and 23. Of the work tables only the lengths
+/// Reads a record: 0 to 16, 24, 29 and 23. Of the work tables only the lengths
 /// matter. The reading's numbers fill the start of `result`.
 pub fn read(
     grammar: &[u8],
@@ -81,9 +82,9 @@ pub fn convert(
     })
 }
 
-/// A grammar that passed 1 to 11.
+/// A grammar that passed 1 to 11, and 24.
 struct Accepted<'t> {
-    syntax: syntax::Grammar<'t>,
+    plain: Plain<'t>,
     version: bool,
 }
 
@@ -93,7 +94,11 @@ fn accept(grammar: &[u8]) -> Result<Accepted<'_>, Refusal> {
     statics::check(&syntax)?;
     let known = |version: &Vec<char>| version[..] == ['1', '.', '0'];
     let version = syntax.version.as_ref().is_some_and(|v| !known(v));
-    Ok(Accepted { syntax, version })
+    let plain = plain(&syntax);
+    if productive::some_unproductive(&plain) {
+        return Err(Refusal::UnproductiveRule);
+    }
+    Ok(Accepted { plain, version })
 }
 
 /// The lengths of the work tables that the caller provides.
@@ -121,7 +126,7 @@ fn derive(
     let mut ambiguous = false;
     let outcome = accept(grammar).and_then(|accepted| {
         let record = text::record(record)?;
-        let plain = plain(&accepted.syntax);
+        let plain = accepted.plain;
         if !tables.suffice(&plain, &record) {
             return Err(Refusal::TableTooShort);
         }

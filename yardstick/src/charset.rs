@@ -4,6 +4,9 @@ use crate::alphabet;
 
 const WORDS: usize = alphabet::KNOWN.div_ceil(64);
 
+/// The bits of the last word that have a place.
+const LAST_WORD: u64 = u64::MAX >> (WORDS * 64 - alphabet::KNOWN);
+
 /// A set of characters of the alphabet, a bit for each place.
 #[derive(Clone, Copy, Debug, PartialEq, Eq)]
 pub struct CharSet([u64; WORDS]);
@@ -25,9 +28,22 @@ impl CharSet {
 
     pub fn insert_range(&mut self, from: u32, to: u32) {
         for (first, last) in alphabet::SPANS {
-            for code in from.max(first)..=to.min(last) {
-                self.insert(code);
+            let (from, to) = (from.max(first), to.min(last));
+            if from > to {
+                continue;
             }
+            if let (Some(first), Some(last)) = (alphabet::place(from), alphabet::place(to)) {
+                self.insert_places(first, last);
+            }
+        }
+    }
+
+    /// Adds the characters from one place to another, a word at a time.
+    fn insert_places(&mut self, first: usize, last: usize) {
+        for word in first / 64..=last / 64 {
+            let from = if word == first / 64 { first % 64 } else { 0 };
+            let to = if word == last / 64 { last % 64 } else { 63 };
+            self.0[word] |= (u64::MAX >> (63 - to)) & (u64::MAX << from);
         }
     }
 
@@ -38,8 +54,15 @@ impl CharSet {
         self
     }
 
+    /// The characters of the alphabet that are not in it.
     pub fn complement(self) -> CharSet {
-        CharSet(self.0.map(|word| !word))
+        let mut words = self.0.map(|word| !word);
+        words[WORDS - 1] &= LAST_WORD;
+        CharSet(words)
+    }
+
+    pub fn is_empty(&self) -> bool {
+        self.0 == [0; WORDS]
     }
 
     pub fn contains(&self, character: char) -> bool {

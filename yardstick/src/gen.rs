@@ -69,7 +69,12 @@ pub struct Job {
 /// A small grammar with a record of at most `longest` characters, which the
 /// grammar mostly derives.
 pub fn job(random: &mut Random, style: Style, longest: usize) -> Job {
-    let grammar = grammar(random, style);
+    let mut grammar = grammar(random, style);
+    // A rule that derives nothing is common among made-up ones, and such a
+    // grammar is refused whatever the record is: most are made anew.
+    while random.below(8) != 0 && crate::check(grammar.as_bytes()).number == 24 {
+        grammar = self::grammar(random, style);
+    }
     let record = record(random, &grammar, longest);
     Job { grammar, record }
 }

@@ -12,6 +12,7 @@ pub mod engine;
 pub mod gen;
 pub mod limits;
 pub mod plain;
+pub mod productive;
 pub mod reading;
 pub mod refusal;
 pub mod statics;

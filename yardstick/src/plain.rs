@@ -2,6 +2,7 @@
 
 use std::collections::HashMap;
 
+use crate::alphabet;
 use crate::category;
 use crate::charset::CharSet;
 use crate::syntax::{Alternatives, Factor, Grammar, Mark, Member, Set, Term, Text};
@@ -44,6 +45,14 @@ impl Terminal {
         match self {
             Terminal::Literal(string) => string.len(),
             Terminal::Set(_) => 1,
+        }
+    }
+
+    /// Whether it matches some text of characters that a record may hold.
+    pub fn is_live(&self) -> bool {
+        match self {
+            Terminal::Literal(string) => string.iter().all(|&c| alphabet::contains(c)),
+            Terminal::Set(set) => !set.is_empty(),
         }
     }
 

@@ -12,7 +12,7 @@ pub struct Places {
 }
 
 /// The refusals in the order in which they are judged, which is not the order
-/// of their numbers: 29 stands right after 16.
+/// of their numbers: 24 stands right after 11, 29 right after 16.
 #[derive(Clone, Copy, Debug, PartialEq, Eq, PartialOrd, Ord, Hash)]
 pub enum Refusal {
     GrammarTooLong,
@@ -28,6 +28,7 @@ pub enum Refusal {
     BackwardRange,
     UnknownClass,
     GrammarTooLarge,
+    UnproductiveRule,
     RecordNotUtf8(usize),
     RecordAlphabet(usize),
     RecordTooLong,
@@ -58,6 +59,7 @@ impl Refusal {
             Refusal::BackwardRange => 9,
             Refusal::UnknownClass => 10,
             Refusal::GrammarTooLarge => 11,
+            Refusal::UnproductiveRule => 24,
             Refusal::RecordNotUtf8(_) => 12,
             Refusal::RecordAlphabet(_) => 13,
             Refusal::RecordTooLong => 14,

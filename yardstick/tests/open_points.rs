@@ -245,7 +245,7 @@ fn a15_written_characters() {
 #[test]
 fn a16_hex_outside_the_alphabet_is_legal() {
     assert_reading(&[
-        ("a: #180.", "x", "refused 16"),
+        ("a: #180.", "x", "refused 24"),
         ("a: #180; \"x\".", "x", "1"),
     ]);
     assert_xml(&[
@@ -454,7 +454,8 @@ fn a29_classes() {
         ("a: [LL].", 10),
         ("a: [lu].", 4),
         ("a: [Lux].", 4),
-        ("a: [Cn].", 0),
+        ("a: [Cn].", 24),
+        ("a: [Cn]; \"x\".", 0),
         ("a: [Q].", 10),
         ("a: [L1].", 4),
     ]);
@@ -469,16 +470,17 @@ fn a30_ends_of_ranges() {
         ("a: [\"a\"-\"bc\"].", 4),
         ("a: [\"a\"-L].", 4),
         ("a: [\"a\"-].", 4),
-        ("a: [#d7ff-#e000].", 0),
+        ("a: [#d7ff-#e000]; \"x\".", 0),
         ("a: [#d800-#dfff].", 8),
-        ("a: [#fdcf-#fdf0].", 0),
+        ("a: [#fdcf-#fdf0]; \"x\".", 0),
         ("a: [#fdd0].", 8),
         ("a: [#fdef].", 8),
         ("a: [\"a\"-\"a\"].", 0),
     ]);
     for plane in 0..=0x10 {
         assert_check(&[
-            (&format!("a: #{plane:x}fffd."), 0),
+            (&format!("a: #{plane:x}fffd."), 24),
+            (&format!("a: +#{plane:x}fffd."), 0),
             (&format!("a: #{plane:x}fffe."), 8),
             (&format!("a: #{plane:x}ffff."), 8),
         ]);

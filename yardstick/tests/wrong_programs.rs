@@ -130,7 +130,8 @@ fn b13_knows_few_noncharacters() {
         ("a: #fdd0.", 8),
         ("a: #fdef.", 8),
         ("a: #1fffe.", 8),
-        ("a: #fdf0.", 0),
+        ("a: #fdf0.", 24),
+        ("a: +#fdf0.", 0),
     ]);
 }
 
@@ -311,7 +312,8 @@ fn b34_refuses_names_like_xmlns() {
 fn b35_misses_the_corners_of_the_syntax() {
     assert_check(&[
         ("a: ().", 0),
-        ("a: [].", 0),
+        ("a: [].", 24),
+        ("a: []*.", 0),
         ("a:.", 0),
         ("a: f+\",\". f: .", 4),
         ("a: f*\",\". f: .", 4),

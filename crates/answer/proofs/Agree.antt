@@ -22,6 +22,9 @@ use Rattle.plain.specs.Plain.{size}
 use Rattle.derive.specs.Derive.{Row, Derivation, root, leftParse}
 use Rattle.derive.specs.Chosen.{Chosen, Reading, Second}
 use Rattle.derive.specs.Pick.{Choice, found, no-choice, chosenOf}
+use Rattle.derive.specs.Productive.{Unproductive}
+use Rattle.derive.specs.Yield.{unproductive}
+use Rattle.derive.proofs.Productive.{unproductive-is}
 use Rattle.derive.proofs.Chosen.{chosen-derives}
 use Rattle.derive.proofs.Choose.{found-chosen, none-derives, chosen-found}
 use Rattle.xml.specs.Document.{document, markOf, twice, misnamed, unwritable, isAttribute, notOne, namespaced}
@@ -135,7 +138,7 @@ grammar-agrees bs ls ts a = (
                       refl,
                       tree-known bs (λ g. ltb mostSize (size g)) (λ g. mostSize < size g)
                           (λ g. less mostSize (size g)),
-                      a,
+                      (refl, tree-known bs unproductive Unproductive unproductive-is, a),
                     ),
                   ),
                 ),

@@ -5,7 +5,7 @@ use mathlib.Core.Logic.{_⊎_, inl, inr, _↔_, ⊎-elim}
 use mathlib.Core.List.{List, [], _∷_, _++_}
 use Prim.Native.Nat.{ℕ, _<_, _≤_}
 use native.Mathlib.Omega.{arith}
-use lib.Dec.{T, leb}
+use lib.Dec.{T, leb, eqb}
 use lib.ListN.{length, drop}
 use Rattle.text.specs.Limits.{readingNumbers}
 use Rattle.text.specs.Lists.{Text, all, among}
@@ -22,7 +22,7 @@ use Rattle.derive.proofs.Choose.{chosen-found}
 use Rattle.derive.proofs.Chosen.{chosen-derives, chosen-least}
 use Rattle.answer.specs.Answer.{jobNotes, Line, line, Topmost, GrammarTree, Job, ofReading, Shown, asNumbers, asXml, ResultOf, Answer, Answers, Checks, Reads, Converts}
 use Rattle.answer.specs.Answer.{grammarLines, inputLines, readingLines, recordLines, documentLines, tooLong}
-use Rattle.answer.specs.Demands.{None, Admitted, Underivable, ShortReading, Given, AsChecked, OfChecking, OfReading, OfConverting, OneReading, Demands}
+use Rattle.answer.specs.Demands.{None, Admitted, Underivable, ShortReading, Given, ofGrammar, AsChecked, OfChecking, OfReading, OfConverting, OneReading, Demands}
 use Rattle.answer.proofs.Lines.{numbers, listed, other, head-given, none-given, passed, begun}
 use Rattle.answer.proofs.Agree.{tree-complete}
 use Rattle.answer.proofs.Settled.{same-mark}
@@ -87,7 +87,7 @@ module _ (j : Job) (F : Shown) (ls : List Line) (old new : List ℕ) (a : Answer
       (λ e. (short (k .0 e) e, k .0 e .1 .1), λ x. k .1 (derived (x .0), (not-long (x .0), x .1)))
 
   -- the numbers from checking
-  as-checked : T (all (λ n. not (leb 1 n && leb n 11)) (numbers (recordLines j ls))) → AsChecked (j .grammar) (a .number)
+  as-checked : T (all (λ n. not (ofGrammar n)) (numbers (recordLines j ls))) → AsChecked (j .grammar) (a .number)
   as-checked h =
       record {
         refused = λ c v z. ⊎-elim (λ e. absurd (z e)) (λ e. e)
@@ -99,17 +99,17 @@ module _ (j : Job) (F : Shown) (ls : List Line) (old new : List ℕ) (a : Answer
       not-and true x y = x
       not-and false x y = y
 
-      accepted : (c : Answer) → Checks (j .grammar) c → c .number ≡ 0 → T (leb 1 (a .number) && leb (a .number) 11) → ⊥
+      accepted : (c : Answer) → Checks (j .grammar) c → c .number ≡ 0 → T (ofGrammar (a .number)) → ⊥
       accepted c v e =
           let u = none-given (grammarLines (j .grammar) []) (c .number) tt (v .number) .0 e in
           let t = passed (grammarLines (j .grammar) []) (recordLines j ls) (a .number) u (w .number) in
-          not-and (leb 1 (a .number) && leb (a .number) 11) (listed (λ n. not (leb 1 n && leb n 11)) (recordLines j ls) (a .number) tt h t)
+          not-and (ofGrammar (a .number)) (listed (λ n. not (ofGrammar n)) (recordLines j ls) (a .number) tt h t)
 
 -- 3. Each call.
 of-checking : (bs : List ℕ) (a : Answer) → Checks bs a → OfChecking bs a
 of-checking bs a w = record {
   accepts = none-given (grammarLines bs []) (a .number) tt (w .number);
-  numbers = listed (λ n. leb n 11) (grammarLines bs []) (a .number) tt tt (w .number);
+  numbers = listed (λ n. eqb n 0 || ofGrammar n) (grammarLines bs []) (a .number) tt tt (w .number);
 }
 
 module _ (j : Job) (old new : List ℕ) (a : Answer) where
@@ -156,7 +156,7 @@ module _ (j : Job) (old new : List ℕ) (a : Answer) where
         none = none-exactly j asNumbers reading-end old new a w tt;
         answers = λ u. (λ e. fits (k u .0 e .1) e w (k u .0 e .0), λ x. k u .1 ((x .0, x .1, x .2, (x .3 .0, x .3 .1, x .3 .2, (x .3 .3 .0, tt))), fitting x));
         chosen = reading-chosen w;
-        numbers = listed (λ n. leb n 16 || among n (29 ∷ 23 ∷ [])) (grammarLines (j .grammar) (recordLines j reading-end)) (a .number) tt tt (w .number);
+        numbers = listed (λ n. leb n 16 || among n (24 ∷ 29 ∷ 23 ∷ [])) (grammarLines (j .grammar) (recordLines j reading-end)) (a .number) tt tt (w .number);
         checked = as-checked j asNumbers reading-end old new a w tt;
       }
 
@@ -165,7 +165,7 @@ module _ (j : Job) (old new : List ℕ) (a : Answer) where
     none = none-exactly j asXml converting-end old new a w tt;
     answers = answers-exactly j asXml converting-end old new a w tt;
     chosen = converting-chosen w;
-    numbers = listed (λ n. leb n 23 || among n (29 ∷ [])) (grammarLines (j .grammar) (recordLines j converting-end)) (a .number) tt tt (w .number);
+    numbers = listed (λ n. leb n 24 || among n (29 ∷ [])) (grammarLines (j .grammar) (recordLines j converting-end)) (a .number) tt tt (w .number);
     checked = as-checked j asXml converting-end old new a w tt;
   }
 

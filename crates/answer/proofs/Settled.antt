@@ -202,7 +202,7 @@ module _ (j : Job) (F : Shown) where
 
   there : (ts : List Test) → Fail (grammarTests (j .grammar) (recordTests j ts)) → ResultOf j F (resultOf j (resultBy F) .cells) (resultOf j (resultBy F) .ambiguous)
   there ts w =
-      let records = w .1 .1 .1 .1 .1 .1 .1 .1 .1 .1 .1 in
+      let records = w .1 .1 .1 .1 .1 .1 .1 .1 .1 .1 .1 .1 in
       let d = text-there (decode (j .grammar)) (w .1 .0) in
       let e = text-there (decode (j .input)) (records .0) in
       let p = there-tree (d .0) (d .1) (w .1 .1 .1 .0) in

@@ -17,6 +17,7 @@ use Rattle.syntax.specs.Parser.{Parsed, parsed, no-parse, parse}
 use Rattle.plain.specs.Static.{undefined, duplicate, beyond, banned, backwards, unclassed, mismatched}
 use Rattle.plain.specs.Plain.{size}
 use Rattle.derive.specs.Derive.{Row, leftParse}
+use Rattle.derive.specs.Yield.{unproductive}
 use Rattle.derive.specs.Pick.{Choice, found, no-choice, chosenOf}
 use Rattle.answer.specs.Answer.{Job, tableNeed}
 use Rattle.answer.specs.Compute.{Test, test, firstOf, onText, onTree, treeOf, grammarTests, recordTests, mismatch}
@@ -63,19 +64,11 @@ module _ (bs : List ℕ) (ts : List Test) where
           unfolding treeOf
           tree-is = rw e p
 
-          pub stage-static : firstOf (grammarTests bs ts) ≡ firstOf (staticTests g (test 11 (λ _. ltb mostSize (size g)) ∷ ts))
+          pub stage-static : firstOf (grammarTests bs ts) ≡ firstOf (staticTests g (test 11 (λ _. ltb mostSize (size g)) ∷ test 24 (λ _. unproductive g) ∷ ts))
           stage-static = rw (le-ltb grammarBytes (length bs) l, e, k, p, tree-is)
 
           pub mismatch-is : mismatch bs ≡ mismatched g
           mismatch-is = rw tree-is
-
--- after the static rules: the size, and on
-module _ (g : Grammar) (ts : List Test) where
-  pub stage-11 : mostSize < size g → firstOf (test 11 (λ _. ltb mostSize (size g)) ∷ ts) ≡ 11
-  stage-11 l = rw (lt-ltb mostSize (size g) l)
-
-  pub stage-sized : size g ≤ mostSize → firstOf (test 11 (λ _. ltb mostSize (size g)) ∷ ts) ≡ firstOf ts
-  stage-sized l = rw (le-ltb mostSize (size g) l)
 
 -- a record's bytes
 module _ (j : Job) (ts : List Test) where

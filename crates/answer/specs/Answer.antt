@@ -17,6 +17,7 @@ use Rattle.plain.specs.Static.{undefined, duplicate, beyond, banned, backwards,
 use Rattle.plain.specs.Plain.{size}
 use Rattle.derive.specs.Derive.{Row, Derivation, root}
 use Rattle.derive.specs.Chosen.{Reading, Second}
+use Rattle.derive.specs.Productive.{Unproductive}
 use Rattle.xml.specs.Document.{document, markOf, twice, misnamed, unwritable, isAttribute, notOne, namespaced}
 use Rattle.xml.specs.Bytes.{bytes}
 
@@ -47,7 +48,7 @@ ofText R bs P = (cs : Text) × R bs cs × P cs
 abbrev pub ofTree : List ℕ → (Grammar → Type 0) → Type 0
 ofTree bs P = (g : Grammar) × GrammarTree bs g × P g
 
--- the lines that checking may give
+-- the lines that checking may give; "24 is judged after 11 and before 12"
 abbrev pub grammarLines : List ℕ → List Line → List Line
 grammarLines bs ls =
     line 1 (grammarBytes < length bs)
@@ -61,6 +62,7 @@ grammarLines bs ls =
     ∷ line 9 (ofTree bs (λ g. T (backwards g)))
     ∷ line 10 (ofTree bs (λ g. T (unclassed g)))
     ∷ line 11 (ofTree bs (λ g. mostSize < size g))
+    ∷ line 24 (ofTree bs Unproductive)
     ∷ ls
 
 -- what reading and converting are given beside the result buffer: bytes of the grammar and the record, lengths of the two tables
@@ -187,7 +189,7 @@ pub record Answers (lines : List Line) (notes : Notes) (Result : List ℕ → Bo
   pub version : T (a .version) ↔ (((a .number ≡ 0) ⊎ (a .number ≡ 16)) × ofTree bs (λ g. T (mismatched g)))
   pub places : Placed notes (a .number) (a .places)
 
--- the four calls: "Checking gives 0 to 11 only, … reading gives 0 to 16, 29 and 23; converting gives all."
+-- the four calls: "Checking gives 0 to 11 only, … reading gives 0 to 16, 29 and 23; converting gives all.", and each may give 24
 abbrev pub Checks : List ℕ → Answer → Type 0
 Checks bs a = Answers (grammarLines bs []) (checkNotes bs) (λ xs m. (xs ≡ []) × (m ≡ false)) bs [] a []
 

@@ -16,6 +16,7 @@ use Rattle.plain.specs.Plain.{size}
 use Rattle.derive.specs.Derive.{Row, root, leftParse}
 use Rattle.derive.specs.Pick.{Choice, found, no-choice, chosenOf}
 use Rattle.derive.specs.Another.{ambiguousOf}
+use Rattle.derive.specs.Yield.{unproductive}
 use Rattle.xml.specs.Document.{document, markOf, twice, misnamed, unwritable, isAttribute, notOne, namespaced}
 use Rattle.answer.specs.Answer.{Job, tableNeed, Shown, asNumbers, asXml, Places, Answer}
 
@@ -77,6 +78,7 @@ grammarTests bs ts =
     ∷ test 9 (λ _. onTree (treeOf bs) backwards)
     ∷ test 10 (λ _. onTree (treeOf bs) unclassed)
     ∷ test 11 (λ _. onTree (treeOf bs) (λ g. ltb mostSize (size g)))
+    ∷ test 24 (λ _. onTree (treeOf bs) unproductive)
     ∷ ts
 
 abbrev pub onJob : Job → (Grammar → Text → Bool) → Bool

@@ -2,10 +2,10 @@
 -- Statements alone: proofs/Demands.antt has their proof, `demands-hold`.
 use mathlib.Core.Path.{_≡_}
 use mathlib.Core.Logic.{_↔_}
-use mathlib.Core.Bool.{_&&_, _||_}
+use mathlib.Core.Bool.{Bool, _&&_, _||_}
 use mathlib.Core.List.{List, [], _∷_, _++_}
 use Prim.Native.Nat.{ℕ, _≤_}
-use lib.Dec.{T, leb}
+use lib.Dec.{T, leb, eqb}
 use lib.ListN.{length, drop}
 use Rattle.text.specs.Limits.{readingNumbers, mostSize, recordChars}
 use Rattle.text.specs.Lists.{Text, chars, among}
@@ -22,7 +22,7 @@ abbrev pub None : List Line → Type 0
 None [] = Unit {0}
 None (l ∷ ls) = (l .Applies → ⊥) × None ls
 
--- "wherever none of 1 to 15 applies"
+-- "wherever none of 1 to 15 applies", nor 24
 abbrev pub Admitted : Job → Type 0
 Admitted j = None (grammarLines (j .grammar) (inputLines j []))
 
@@ -37,27 +37,31 @@ ShortReading j P = ofReading j (λ g r t p. (length p ≤ readingNumbers) × P p
 abbrev pub Given : (old new : List ℕ) → Answer → (Row → List ℕ → List ℕ) → Grammar → Text → Row → List ℕ → Type 0
 Given old new a xs g r t p = (T (a .ambiguous) ↔ Second g r p) × (a .length ≡ length (xs t p)) × (new ≡ xs t p ++ drop (length (xs t p)) old)
 
+-- a refusal of the grammar
+abbrev pub ofGrammar : ℕ → Bool
+ofGrammar n = (leb 1 n && leb n 11) || eqb n 24
+
 -- the number is one of checking's, and is given to the job too; a grammar that checking accepts is refused by none of its lines
 pub record AsChecked (bs : List ℕ) (n : ℕ) : Type 0 where
   pub refused : (c : Answer) → Checks bs c → (c .number ≡ 0 → ⊥) → n ≡ c .number
-  pub accepted : (c : Answer) → Checks bs c → c .number ≡ 0 → T (leb 1 n && leb n 11) → ⊥
+  pub accepted : (c : Answer) → Checks bs c → c .number ≡ 0 → T (ofGrammar n) → ⊥
 
 pub record OfChecking (bs : List ℕ) (a : Answer) : Type 0 where
   pub accepts : (a .number ≡ 0) ↔ None (grammarLines bs [])
-  pub numbers : T (leb (a .number) 11)
+  pub numbers : T (eqb (a .number) 0 || ofGrammar (a .number))
 
 pub record OfReading (j : Job) (old : List ℕ) (a : Answer) (new : List ℕ) : Type 0 where
   pub none : Admitted j → (a .number ≡ 16) ↔ Underivable j
   pub answers : Admitted j → (a .number ≡ 0) ↔ ShortReading j (λ p. length p ≤ length old)
   pub chosen : a .number ≡ 0 → ofReading j (λ g r. Given old new a (λ t p. p) g r)
-  pub numbers : T (leb (a .number) 16 || among (a .number) (29 ∷ 23 ∷ []))
+  pub numbers : T (leb (a .number) 16 || among (a .number) (24 ∷ 29 ∷ 23 ∷ []))
   pub checked : AsChecked (j .grammar) (a .number)
 
 pub record OfConverting (j : Job) (old : List ℕ) (a : Answer) (new : List ℕ) : Type 0 where
   pub none : Admitted j → (a .number ≡ 16) ↔ Underivable j
   pub answers : Admitted j → (a .number ≡ 0) ↔ (ShortReading j (λ p. Unit {0}) × None (documentLines j (tooLong j asXml old ∷ [])))
   pub chosen : a .number ≡ 0 → ofReading j (λ g r. Given old new a (asXml (a .ambiguous) g r) g r)
-  pub numbers : T (leb (a .number) 23 || among (a .number) (29 ∷ []))
+  pub numbers : T (leb (a .number) 24 || among (a .number) (29 ∷ []))
   pub checked : AsChecked (j .grammar) (a .number)
 
 -- what a job's reading is said of, by whichever call: one grammar, one record, one derivation, one list of numbers

@@ -138,7 +138,7 @@ later-none (suc k) (l ∷ ls) h = later-none k ls (h .1)
 
 -- the lines before 18
 abbrev before-names : ℕ
-before-names = 18
+before-names = 19
 
 converted : (j : Job) (old new : List ℕ) (a : Answer) → Converts j old a new → a .number ≡ 0 → ofTree (j .grammar) (λ g. T (noAttributes g) × T (allKept g))
     → Between (take (a .length) new) (j .input)

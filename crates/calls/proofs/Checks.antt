@@ -1,6 +1,7 @@
--- From a loaded grammar to the answer of checking.
+-- From an accepted grammar to the answer of checking.
 use mathlib.Core.Bool.{Bool, false}
 use mathlib.Core.Path.{_≡_, sym, subst, ap, _∙_}
+use mathlib.Core.Logic.{⊎-elim}
 use mathlib.Core.List.{List, []}
 use Prim.Native.Nat.{ℕ}
 use native.Mathlib.Omega.{arith}
@@ -11,11 +12,11 @@ use Rattle.text.specs.declared.Diagnostic.{Diagnostic}
 use Rattle.answer.specs.Answer.{Checks}
 use Rattle.answer.specs.Compute.{Values, placesAt, checkValues, mismatch, result, outcome, checkOf}
 use Rattle.answer.proofs.Settled.{check-answers}
-use Rattle.load.specs.declared.Passed.{Passed}
-use Rattle.load.specs.declared.Loaded.{Loaded}
-use Rattle.load.specs.declared.Loaded.the-variants.{Grammar as Accepted, Refused}
-use Rattle.load.specs.Checked.{stageOf}
-use Rattle.load.specs.Loaded.{Turned, Kept, Loads, placesOf}
+use Rattle.load.specs.Loaded.{Turned, placesOf}
+use Rattle.accept.specs.declared.Rules.{Rules}
+use Rattle.accept.specs.declared.Accepted.{Accepted}
+use Rattle.accept.specs.declared.Accepted.the-variants.{Grammar as A-grammar, Refused}
+use Rattle.accept.specs.Accepted.{stageOf, Kept, Accepts}
 use Rattle.calls.specs.declared.Answer.{Answer}
 use Rattle.calls.specs.Calls.{shown, done, refusalOf, Checked}
 
@@ -28,9 +29,9 @@ refused-is : (bs : List ℕ) (d : Diagnostic) → Turned bs d → checkOf bs ≡
 unfolding checkOf
 refused-is bs d t =
     ap (λ (k : ℕ). outcome [] (mismatch bs) (checkValues bs) k (result [] false) .answer) (t .first [])
-    ∙ refused-answer (mismatch bs) (checkValues bs) d (ne-eqb (d .number) 0 (t .some)) (ne-eqb (d .number) 16 (λ q. let l = t .early in omega arith)) (t .places)
+    ∙ refused-answer (mismatch bs) (checkValues bs) d (ne-eqb (d .number) 0 (t .some)) (ne-eqb (d .number) 16 (λ q. ⊎-elim (λ l. omega arith) (λ l. omega arith) (t .early))) (t .places)
 
-kept-is : (bs T : List ℕ) (p : Passed) → Kept bs T p → checkOf bs ≡ shown (done 0 false (p .mismatch))
+kept-is : (bs T : List ℕ) (p : Rules) → Kept bs T p → checkOf bs ≡ shown (done 0 false (p .mismatch))
 unfolding checkOf
 kept-is bs T p k =
     ap (λ (n : ℕ). outcome [] (mismatch bs) (checkValues bs) n (result [] false) .answer) (k .first [])
@@ -39,12 +40,12 @@ kept-is bs T p k =
 checked : (bs : List ℕ) (a : Answer) → shown a ≡ checkOf bs → Checked bs a
 checked bs a e = record { computed = e; defines = subst (Checks bs) (sym e) (check-answers bs) }
 
-pub refuses : (bs T : List ℕ) (j : Loaded) (k d : Diagnostic) (a : Answer) → j ≡ Refused k → d ≡ diagnosticOf (stageOf j) → Loads bs T j
+pub refuses : (bs T : List ℕ) (j : Accepted) (k d : Diagnostic) (a : Answer) → j ≡ Refused k → d ≡ diagnosticOf (stageOf j) → Accepts bs T j
     → a ≡ refusalOf (record { why = d; mismatch = false }) → Checked bs a
 refuses bs T j k d a q e l z =
-    let w : d ≡ k = e ∙ ap (λ (x : Loaded). diagnosticOf (stageOf x)) q in
+    let w : d ≡ k = e ∙ ap (λ (x : Accepted). diagnosticOf (stageOf x)) q in
     let u : a ≡ refusalOf (record { why = k; mismatch = false }) = z ∙ ap (λ (x : Diagnostic). refusalOf (record { why = x; mismatch = false })) w in
-    subst (Checked bs) (sym u) (checked bs (refusalOf (record { why = k; mismatch = false })) (sym (refused-is bs k (subst (Loads bs T) q l))))
+    subst (Checked bs) (sym u) (checked bs (refusalOf (record { why = k; mismatch = false })) (sym (refused-is bs k (subst (Accepts bs T) q l))))
 
-pub accepts : (bs T : List ℕ) (j : Loaded) (p : Passed) → j ≡ Accepted p → Loads bs T j → Checked bs (done 0 false (p .mismatch))
-accepts bs T j p e l = checked bs (done 0 false (p .mismatch)) (sym (kept-is bs T p (subst (Loads bs T) e l)))
+pub accepts : (bs T : List ℕ) (j : Accepted) (p : Rules) → j ≡ A-grammar p → Accepts bs T j → Checked bs (done 0 false (p .mismatch))
+accepts bs T j p e l = checked bs (done 0 false (p .mismatch)) (sym (kept-is bs T p (subst (Accepts bs T) e l)))

@@ -8,10 +8,10 @@ ghost use lib.ListN.{length, take, drop};
 ghost use Rattle.answer.specs.Answer.{job, Categorizes};
 ghost use Rattle.convert.specs.Concluded.{convertedNumber};
 ghost use Rattle.calls.specs.Calls.{Checked, refusalOf, ReadAs, ConvertedAs};
+use accept::Accepted;
 use convert::Converted;
 use job::Parse;
 use job::Refusal;
-use load::Loaded;
 use text::limits;
 use text::refusals;
 
@@ -39,10 +39,10 @@ pub extern "C" fn ixml_check(grammar: &[u8]) -> Answer
     ensures { λ r. ⌜ Checked (now (grammar .entry)) r ⌝ }
 {
     let mut table = [0u32; limits::GRAMMAR_TABLE];
-    let loaded = load::load_grammar(grammar, &mut table);
-    let Loaded::Grammar(kept) = loaded else {
+    let accepted = accept::accept_grammar(grammar, &mut table);
+    let Accepted::Grammar(rules) = accepted else {
         return refuse(Refusal {
-            why: load::why_not_loaded(loaded),
+            why: accept::why_not_accepted(accepted),
             mismatch: false,
         });
     };
@@ -50,7 +50,7 @@ pub extern "C" fn ixml_check(grammar: &[u8]) -> Answer
         number: refusals::ANSWERED,
         length: 0,
         ambiguous: false,
-        version: kept.mismatch,
+        version: rules.mismatch,
         places: Places {
             byte: 0,
             fault: 0,

@@ -8,6 +8,8 @@ use lib.Dec.{T, eqb, eqb→eq}
 use lib.ListN.{length, drop}
 use Rattle.text.specs.Lists.{Text, chars, all, same}
 use Rattle.text.proofs.Tests.{and-left, and-right, same-is}
+use Rattle.text.specs.Ranks as ranks
+use Rattle.derive.specs.Yield as yield
 use Rattle.answer.specs.Answer.{Places, Job, Answer, Checks, Reads, Converts}
 use Rattle.answer.specs.Compute.{Outcome, checkOf, readOf, convertOf}
 use Rattle.text.specs.Utf8 as utf8
@@ -115,5 +117,5 @@ unfolding table buffer job answer filled passes leaves same-answer same-places s
     decoding.decode decoding.breakIn decoding.breakOf category.categories category.classes category.isClass
     static.undefined static.duplicate static.beyond static.unassignable static.banned static.codeOf static.runsBack static.backwards static.noClass static.unclassed plain.size
     names.xmlChar names.nameStart names.nameChar names.xmlName document.twice document.misnamed document.unwritable document.isAttribute document.notOne document.namespaced bytes.escape bytes.bytes
-    static.mismatched compute.treeOf checkOf readOf convertOf
+    static.mismatched utf8.width ranks.total ranks.codeAt ranks.rankIn ranks.someKnown yield.unproductive compute.treeOf checkOf readOf convertOf
 cases-hold = every table tt

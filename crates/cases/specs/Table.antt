@@ -34,7 +34,7 @@ table =
     ∷ checked "a: #10ffff." 8
     ∷ checked "a: [\"b\"-\"a\"]." 9
     ∷ checked "a: [Xx]." 10
-    ∷ checked "a: #10fffd." 0
+    ∷ checked "a: #10fffd." 24
     ∷ []
 
 -- the tables that the program lends, and a buffer of a hundred cells that hold 7

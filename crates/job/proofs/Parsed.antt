@@ -30,14 +30,14 @@ module _ (j : Job) (T new : List ℕ) where
   ended b k n q e w =
       let s = subst (Begins j T new) q w in
       let h : n ≡ k = e ∙ ap (λ (x : Begun). diagnosticOf (begunOf x)) q in
-      rw h (record { some = s .some; is = s .is; version = rw (ne-eqb (k .number) 16 (λ z. omega (arith, s .early))); places = s .places })
+      rw h (record { some = s .some; is = s .is; version = rw (ne-eqb (k .number) 16 (λ z. ⊎-elim (λ l. omega arith) (λ l. omega arith) (s .early))); places = s .places })
 
-  module _ (s : Start) (w : Started j T new s) (T′ P : List ℕ) (r : Read) where
+  module _ (s : Start) (w : Started j T new s) (P : List ℕ) (r : Read) where
     -- there is no reading, or it is too long
-    pub not-chosen : (k n : ℕ) (d : Diagnostic) → r ≡ Not-read k → n ≡ numberOf (foundOf r) → d ≡ plainly n → Ends j T new s w T′ P r
-        → NotChosen j (record { why = d; mismatch = s .passed .mismatch })
+    pub not-chosen : (k n : ℕ) (d : Diagnostic) → r ≡ Not-read k → n ≡ numberOf (foundOf r) → d ≡ plainly n → Ends j T new s w P r
+        → NotChosen j (record { why = d; mismatch = s .rules .mismatch })
     not-chosen k n d q e p x =
-        let y = subst (Ends j T new s w T′ P) q x in
+        let y = subst (Ends j T new s w P) q x in
         let h : n ≡ k = e ∙ ap (λ (x : Read). numberOf (foundOf x)) q in
         rw (p, h) (record {
           some = λ z. ⊎-elim (λ u. omega arith) (λ u. omega arith) (y .late);
@@ -46,10 +46,10 @@ module _ (j : Job) (T new : List ℕ) where
           places = ⊎-elim (λ u. rw u) (λ u. rw u) (y .late);
         })
 
-    pub chosen : (f : Found) → r ≡ Reading f → Ends j T new s w T′ P r
-        → IsChosen j T′ new P (record { root = f .root; count = f .count; chars = s .chars; ambiguous = f .ambiguous; mismatch = s .passed .mismatch })
+    pub chosen : (f : Found) → r ≡ Reading f → Ends j T new s w P r
+        → IsChosen j T new P (record { root = s .rules .root; count = f .count; chars = s .chars; ambiguous = f .ambiguous; mismatch = s .rules .mismatch })
     chosen f q x =
-        let y = subst (Ends j T new s w T′ P) q x in
+        let y = subst (Ends j T new s w P) q x in
         record {
           tree = w .grammar .tree;
           is = w .grammar .is;
@@ -62,6 +62,6 @@ module _ (j : Job) (T new : List ℕ) where
           count = y .count;
           short = y .short;
           list = y .list;
-          items = y .items;
-          tokens = y .tokens;
+          items = w .grammar .ready .built .items;
+          tokens = w .grammar .tokens;
         }

@@ -2,21 +2,18 @@
 use mathlib.Core.Bool.{Bool, true, false, _||_}
 use mathlib.Core.Path.{_≡_, refl, sym, ap, _∙_, subst}
 use mathlib.Core.Logic.{_⊎_, inl, inr, ⊎-elim}
-use mathlib.Core.List.{List, [], _∷_, _++_}
-use Prim.Native.Nat.{ℕ, _+_, _*_, _≤_, _<_}
+use mathlib.Core.List.{List, [], _∷_}
+use Prim.Native.Nat.{ℕ, _*_, _≤_, _<_}
 use native.Mathlib.Omega.{arith}
 use lib.Dec.{ltb}
-use lib.ListN.{length, take, drop, take-append-drop}
-use lib.Seq.{take-take}
+use lib.ListN.{length, take}
 use borrow.Author.Tests.{ltb-false}
 use denote.Enum.Declared.{tagOf}
 use types.Run.{OneOf}
 use Rattle.text.specs.Limits.{grammarTable, readingNumbers, recordChars}
-use Rattle.text.specs.Lists.{Text, pick}
+use Rattle.text.specs.Lists.{Text}
 use Rattle.text.specs.Stages.{numberOf}
-use Rattle.tree.specs.Tree.{Grammar, rules}
-use Rattle.tree.specs.Tokens.{grammarTokens}
-use Rattle.plain.specs.Static.{undefined, duplicate, beyond, banned, backwards, unclassed}
+use Rattle.tree.specs.Tree.{Grammar}
 use Rattle.plain.specs.Plain.{size}
 use Rattle.derive.specs.Derive.{leftParse}
 use Rattle.derive.specs.Chosen.{Second}
@@ -24,16 +21,7 @@ use Rattle.derive.specs.Another.{ambiguousOf}
 use Rattle.derive.proofs.Choose.{lacks-none, chosen-found}
 use Rattle.derive.proofs.Ambiguous.{ambiguous-second}
 use Rattle.chart.specs.Heights.{stretches}
-use Rattle.tokens.specs.Proper.{ProperRules}
-use Rattle.items.specs.Items.{Reads}
-use Rattle.items.specs.Built.{Built}
-use Rattle.items.specs.Scanned as items
-use Rattle.rules.specs.Ready.{Ready}
-use Rattle.rules.proofs.Sounds.{ready}
 use Rattle.parser.specs.Choose.{Choosable}
-use Rattle.static_errors.specs.Held.{staticOf}
-use Rattle.load.proofs.Proper.{grammar-proper}
-use Rattle.load.proofs.Stages.{to-size}
 use Rattle.answer.specs.Answer.{Job, tableNeed}
 use Rattle.answer.specs.Compute.{Test, recordTests}
 use Rattle.answer.proofs.Stages.{stage-16, stage-29, stage-read}
@@ -46,27 +34,6 @@ use Rattle.job.specs.declared.Start.{Start}
 use Rattle.job.specs.Stages.{Started}
 use Rattle.job.proofs.Texts.{got-part}
 use Rattle.job.specs.Found.{firstTest, IsRead, NotRead}
-
--- no static rule is broken
-record Lawful (g : Grammar) : Type 0 where
-  defined : undefined g ≡ false
-  simple : duplicate g ≡ false
-  within : beyond g ≡ false
-  classed : unclassed g ≡ false
-
-lawful : (g : Grammar) → staticOf g ≡ 0 → Lawful g
-unfolding staticOf
-lawful g e = go (undefined g) (duplicate g) (beyond g) (banned g) (backwards g) (unclassed g) refl refl refl refl e
-  where
-    go : (a b c d f h : Bool) → undefined g ≡ a → duplicate g ≡ b → beyond g ≡ c → unclassed g ≡ h
-        → _≡_ {A = ℕ} (pick a 5 (pick b 6 (pick c 7 (pick d 8 (pick f 9 (pick h 10 0)))))) 0 → Lawful g
-    go true b c d f h p q r s e = absurd (let z : _≡_ {A = ℕ} 5 0 = e in omega arith)
-    go false true c d f h p q r s e = absurd (let z : _≡_ {A = ℕ} 6 0 = e in omega arith)
-    go false false true d f h p q r s e = absurd (let z : _≡_ {A = ℕ} 7 0 = e in omega arith)
-    go false false false true f h p q r s e = absurd (let z : _≡_ {A = ℕ} 8 0 = e in omega arith)
-    go false false false false true h p q r s e = absurd (let z : _≡_ {A = ℕ} 9 0 = e in omega arith)
-    go false false false false false true p q r s e = absurd (let z : _≡_ {A = ℕ} 10 0 = e in omega arith)
-    go false false false false false false p q r s e = record { defined = p; simple = q; within = r; classed = s }
 
 or-false : (a b : Bool) → (a || b) ≡ false → a ≡ false
 or-false true b e = e
@@ -89,75 +56,50 @@ module _ (j : Job) (Tab new : List ℕ) (s : Start) (w : Started j Tab new s) wh
   abbrev r : Text
   r = w .input .chars
 
-  laws : Lawful g
-  laws = lawful g (w .grammar .static)
+  pub choosable : (main parse : ℕ) → j .mainTable ≡ main → length Tab ≡ grammarTable → readingNumbers ≤ parse
+      → Choosable Tab (s .rules .size) (s .rules .root) (take (s .chars .0) new) main parse
+  choosable main parse m l p =
+      let short : length (take (s .chars .0) new) ≤ recordChars = omega (arith, got-part (w .input), w .input .count, w .input .short) in
+      let enough : tableNeed (size g) (length r) ≤ j .mainTable = ltb-false (j .mainTable) (tableNeed (size g) (length r))
+      (or-false (ltb (j .mainTable) (tableNeed (size g) (length r))) (ltb (j .secondTable) grammarTable) (w .enough)) in
+      let k : s .rules .size * stretches (length (take (s .chars .0) new)) ≡ tableNeed (size g) (length r) = ap
+      (λ (x : ℕ). x * stretches (length (take (s .chars .0) new))) (w .grammar .sized) ∙ ap (λ (x : Text). size g * stretches (length x))
+      (w .input .stored) in
+      record { grammar = g; ready = w .grammar .ready; long = l; small = omega (arith, w .grammar .sized, w .grammar .small); short = short; room = omega arith; numbers = p }
 
-  proper : ProperRules (rules g)
-  proper = grammar-proper (w .grammar .stands .derived)
+  module _ (P : List ℕ) (k : Walked) (a : Answers g (take (s .chars .0) new) P k) where
+    answers : Answers g r P k
+    answers = subst (λ (x : Text). Answers g x P k) (w .input .stored) a
 
-  pub readable : items.Readable Tab (s .passed .end) g
-  readable = record { holds = to-size Tab (s .passed .end) g (w .grammar .stands); small = w .grammar .small; known = laws .defined }
+    pub not-read : OneOf (1 ∷ 2 ∷ []) (tagOf the-type k) → (n : ℕ) → n ≡ numberOf (stageOf k) → NotRead j n
+    not-read h n e = rw e (let b = refuses g r P k h answers in record { late = late-refusal b; is = go b })
+      where
+        go : {n : ℕ} → No-reading g r n → (ts : List Test) → firstTest j ts ≡ n
+        go (too-long a) ts =
+            let c = chosen-found g r (a .reading .chosen) in
+            w .grammar .first (recordTests j ts)
+            ∙ stage-29 j ts r (w .input .decoded) (w .input .within) (w .input .short) g (w .grammar .is) (w .enough) (a .tree) c
+            (subst (λ (p : List ℕ). readingNumbers < length p) (a .reading .parse) (a .long))
+        go (no-reading a) ts =
+            w .grammar .first (recordTests j ts)
+            ∙ stage-16 j ts r (w .input .decoded) (w .input .within) (w .input .short) g (w .grammar .is) (w .enough) (lacks-none g r a)
 
-  pub prepared : length Tab ≡ grammarTable → items.Prepared Tab (s .passed .end)
-  prepared l = record { tree = g; readable = readable; size = l; inside = w .grammar .inside }
-
-  module _ (T′ : List ℕ) (root n : ℕ) (e : n ≡ s .passed .size) (b : (take (s .passed .end) T′ ≡ take (s .passed .end) Tab) × Built T′ g root) where
-    pub prepares : Ready T′ g n root
-    prepares = subst (λ (k : ℕ). Ready T′ g k root) (sym (e ∙ w .grammar .sized)) (ready (b .1) proper (laws .simple) (laws .within) (laws .classed))
-
-    pub choosable : (main parse : ℕ) → j .mainTable ≡ main → length T′ ≡ grammarTable → readingNumbers ≤ parse → Choosable T′ n root (take (s .chars .0) new) main parse
-    choosable main parse m l p =
-        let short : length (take (s .chars .0) new) ≤ recordChars = omega (arith, got-part (w .input), w .input .count, w .input .short) in
-        let enough : tableNeed (size g) (length r) ≤ j .mainTable = ltb-false (j .mainTable) (tableNeed (size g) (length r))
-        (or-false (ltb (j .mainTable) (tableNeed (size g) (length r))) (ltb (j .secondTable) grammarTable) (w .enough)) in
-        let k : n * stretches (length (take (s .chars .0) new)) ≡ tableNeed (size g) (length r) = ap
-        (λ (x : ℕ). x * stretches (length (take (s .chars .0) new))) (e ∙ w .grammar .sized) ∙ ap (λ (x : Text). size g * stretches (length x))
-        (w .input .stored) in
-        record { grammar = g; ready = prepares; long = l; small = omega (arith, w .grammar .sized, w .grammar .small); short = short; room = omega arith; numbers = p }
-
-    tokens-there : Reads T′ 0 (grammarTokens g)
-    tokens-there = record {
-      more = drop (s .passed .end) (take 12288 T′);
-      stands =
-          sym (take-append-drop (s .passed .end) (take 12288 T′))
-          ∙ ap (λ (l : List ℕ). l ++ drop (s .passed .end) (take 12288 T′)) (take-take (s .passed .end) 12288 T′ (w .grammar .inside) ∙ b .0 ∙ w .grammar .stands .held);
-    }
-
-    module _ (P : List ℕ) (k : Walked) (a : Answers g (take (s .chars .0) new) P k) where
-      answers : Answers g r P k
-      answers = subst (λ (x : Text). Answers g x P k) (w .input .stored) a
-
-      pub not-read : OneOf (1 ∷ 2 ∷ []) (tagOf the-type k) → (n : ℕ) → n ≡ numberOf (stageOf k) → NotRead j n
-      not-read h n e = rw e (let b = refuses g r P k h answers in record { late = late-refusal b; is = go b })
-        where
-          go : {n : ℕ} → No-reading g r n → (ts : List Test) → firstTest j ts ≡ n
-          go (too-long a) ts =
-              let c = chosen-found g r (a .reading .chosen) in
-              w .grammar .first (recordTests j ts)
-              ∙ stage-29 j ts r (w .input .decoded) (w .input .within) (w .input .short) g (w .grammar .is) (w .enough) (a .tree) c
-              (subst (λ (p : List ℕ). readingNumbers < length p) (a .reading .parse) (a .long))
-          go (no-reading a) ts =
-              w .grammar .first (recordTests j ts)
-              ∙ stage-16 j ts r (w .input .decoded) (w .input .within) (w .input .short) g (w .grammar .is) (w .enough) (lacks-none g r a)
-
-      pub is-read : (count : ℕ) (mark : Bool) → k ≡ A-reading count mark → IsRead j Tab new s w T′ P (record { root = root; count = count; ambiguous = mark })
-      is-read count mark e = go (subst (Answers g r P) e answers)
-        where
-          go : IsReading g r P count mark → IsRead j Tab new s w T′ P (record { root = root; count = count; ambiguous = mark })
-          go a =
-              let c = chosen-found g r (a .reading .chosen) in
-              let p : a .parse ≡ leftParse (a .tree) = a .reading .parse in
-              let n : count ≡ length (leftParse (a .tree)) = sym (a .long) ∙ ap length p in
-              let amb = ambiguous-second g r (a .reading) in
-              record {
-                first = λ ts. w .grammar .first (recordTests j ts) ∙ stage-read j ts r (w .input .decoded) (w .input .within) (w .input .short) g
-                    (w .grammar .is) (w .enough) (a .tree) c (omega (arith, a .short));
-                row = a .tree;
-                choice = c;
-                mark = same-mark mark (ambiguousOf g r (a .tree)) (Second g r (a .parse)) (a .ambiguous) amb;
-                count = n;
-                short = a .short;
-                list = a .list ∙ p;
-                items = b .1 .items;
-                tokens = tokens-there;
-              }
+    pub is-read : (count : ℕ) (mark : Bool) → k ≡ A-reading count mark → IsRead j Tab new s w P (record { count = count; ambiguous = mark })
+    is-read count mark e = go (subst (Answers g r P) e answers)
+      where
+        go : IsReading g r P count mark → IsRead j Tab new s w P (record { count = count; ambiguous = mark })
+        go a =
+            let c = chosen-found g r (a .reading .chosen) in
+            let p : a .parse ≡ leftParse (a .tree) = a .reading .parse in
+            let n : count ≡ length (leftParse (a .tree)) = sym (a .long) ∙ ap length p in
+            let amb = ambiguous-second g r (a .reading) in
+            record {
+              first = λ ts. w .grammar .first (recordTests j ts) ∙ stage-read j ts r (w .input .decoded) (w .input .within) (w .input .short) g
+                  (w .grammar .is) (w .enough) (a .tree) c (omega (arith, a .short));
+              row = a .tree;
+              choice = c;
+              mark = same-mark mark (ambiguousOf g r (a .tree)) (Second g r (a .parse)) (a .ambiguous) amb;
+              count = n;
+              short = a .short;
+              list = a .list ∙ p;
+            }

@@ -1,6 +1,7 @@
 -- The first stages together.
 use mathlib.Core.Bool.{Bool, true, false, _||_}
 use mathlib.Core.Path.{_≡_, refl, sym, ap, _∙_, subst}
+use mathlib.Core.Logic.{inl, inr, ⊎-elim}
 use mathlib.Core.List.{List, [], _∷_}
 use Prim.Native.Nat.{ℕ, _≤_, _<_}
 use native.Mathlib.Omega.{arith}
@@ -19,11 +20,11 @@ use Rattle.answer.specs.Answer.{Job, tableNeed}
 use Rattle.answer.specs.Compute.{firstOf, grammarTests, recordTests, Value, value, valueAt, placesAt, checkValues, jobValues}
 use Rattle.answer.proofs.Noted.{value-skip}
 use Rattle.answer.proofs.Stages.{stage-15}
-use Rattle.load.specs.declared.Passed.{Passed}
-use Rattle.load.specs.declared.Loaded.{Loaded}
-use Rattle.load.specs.declared.Loaded.the-variants.{Grammar as Accepted, Refused as Turned-down}
-use Rattle.load.specs.Checked.{stageOf}
-use Rattle.load.specs.Loaded.{Turned, Kept, Loads}
+use Rattle.load.specs.Loaded.{Turned}
+use Rattle.accept.specs.declared.Rules.{Rules}
+use Rattle.accept.specs.declared.Accepted.{Accepted}
+use Rattle.accept.specs.declared.Accepted.the-variants.{Grammar as A-grammar, Refused as Turned-down}
+use Rattle.accept.specs.Accepted.{stageOf, Kept, Accepts}
 use Rattle.job.specs.declared.Taken.{Taken}
 use Rattle.job.specs.declared.Taken.the-variants.{Chars, Refused}
 use Rattle.job.specs.declared.Begun.the-variants.{At, Refused as Ended}
@@ -39,31 +40,31 @@ value-cong v vs ws n h = go (eqb n (v .number))
 
 module _ (j : Job) (T new : List ℕ) where
   -- the places of a grammar's refusal are the job's
-  same-places : (n : ℕ) → n ≤ 11 → placesAt (checkValues (j .grammar)) n ≡ placesAt (jobValues j) n
-  same-places n l =
+  same-places : (n : ℕ) → (n ≡ 12 → ⊥) → (n ≡ 13 → ⊥) → placesAt (checkValues (j .grammar)) n ≡ placesAt (jobValues j) n
+  same-places n a b =
       let two = value 2 (λ _. breakOf every (j .grammar) (afterMark (j .grammar))) in
       let three = value 3 (λ _. breakOf known (j .grammar) (afterMark (j .grammar))) in
       let twelve = value 12 (λ _. breakOf every (j .input) 0) in
       let thirteen = value 13 (λ _. breakOf known (j .input) 0) in
-      let none = value-skip twelve (thirteen ∷ []) n (λ q. omega arith) ∙ value-skip thirteen [] n (λ q. omega arith) in
+      let none = value-skip twelve (thirteen ∷ []) n a ∙ value-skip thirteen [] n b in
       let rest = value-cong three [] (twelve ∷ thirteen ∷ []) n (sym none) in
       let e = value-cong two (three ∷ []) (three ∷ twelve ∷ thirteen ∷ []) n rest in
       λ ι. record { byte = e ι; fault = 0; grammar = 0 }
 
-  pub ends-grammar : (d : Loaded) (k n : Diagnostic) → d ≡ Turned-down k → n ≡ diagnosticOf (stageOf d) → Loads (j .grammar) T d → Begins j T new (Ended n)
+  pub ends-grammar : (d : Accepted) (k n : Diagnostic) → d ≡ Turned-down k → n ≡ diagnosticOf (stageOf d) → Accepts (j .grammar) T d → Begins j T new (Ended n)
   ends-grammar d k n q e l =
-      let w : n ≡ k = e ∙ ap (λ (x : Loaded). diagnosticOf (stageOf x)) q in
-      let t : Turned (j .grammar) k = subst (Loads (j .grammar) T) q l in
+      let w : n ≡ k = e ∙ ap (λ (x : Accepted). diagnosticOf (stageOf x)) q in
+      let t : Turned (j .grammar) k = subst (Accepts (j .grammar) T) q l in
       rw w (record {
         some = t .some;
-        early = omega (arith, t .early);
+        early = ⊎-elim (λ l. inl (omega arith)) inr (t .early);
         is = λ ts. t .first (recordTests j ts);
-        places = t .places ∙ same-places (k .number) (t .early);
+        places = t .places ∙ same-places (k .number) (λ e. ⊎-elim (λ l. omega arith) (λ l. omega arith) (t .early)) (λ e. ⊎-elim (λ l. omega arith) (λ l. omega arith) (t .early));
       })
 
-  module _ (d : Loaded) (p : Passed) (q : d ≡ Accepted p) (l : Loads (j .grammar) T d) where
+  module _ (d : Accepted) (p : Rules) (q : d ≡ A-grammar p) (l : Accepts (j .grammar) T d) where
     kept : Kept (j .grammar) T p
-    kept = subst (Loads (j .grammar) T) q l
+    kept = subst (Accepts (j .grammar) T) q l
 
     pub small : p .size ≤ 512
     small = omega (arith, kept .sized, kept .small)
@@ -85,7 +86,7 @@ module _ (j : Job) (T new : List ℕ) where
       refused w =
           record {
             some = λ e. omega arith;
-            early = omega arith;
+            early = inl (omega arith);
             places = refl;
             is = λ ts. kept .first (recordTests j ts) ∙ stage-15 j ts (got .chars) (got .decoded) (got .within) (got .short) (kept .tree)
                 (kept .is) w;
@@ -104,5 +105,5 @@ module _ (j : Job) (T new : List ℕ) where
         pub ends-second : j .secondTable < 16384 → Begins j T new (Ended (plainly 15))
         ends-second i = refused (rw (main-enough, lt-ltb (j .secondTable) grammarTable i))
 
-        pub begun : 16384 ≤ j .secondTable → Begins j T new (At (record { passed = p; chars = n }))
+        pub begun : 16384 ≤ j .secondTable → Begins j T new (At (record { rules = p; chars = n }))
         begun i = record { grammar = kept; input = got; enough = rw (main-enough, le-ltb (j .secondTable) grammarTable i) }

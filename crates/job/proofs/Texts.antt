@@ -1,6 +1,7 @@
 -- The characters of a record: what the decoder's answer says of the tests.
 use mathlib.Core.Bool.{Bool}
 use mathlib.Core.Path.{_≡_, refl, sym, ap, _∙_}
+use mathlib.Core.Logic.{inl}
 use mathlib.Core.List.{List, [], _∷_, _++_}
 use Prim.Native.Nat.{ℕ, _≤_, _<_}
 use native.Mathlib.Omega.{arith}
@@ -45,13 +46,13 @@ module _ (bs old new : List ℕ) (r : Decoding) (w : Decodes bs 0 old r new) whe
       go : {d : Decoding} → Stops bs 0 d → Tells (decode bs) d → (whyOf 12 13 d .number ≡ 0 → ⊥) → Takes bs new (Refused (whyOf 12 13 d))
       go a (tells-of x) z = absurd (z refl)
       go (cut-short {p = p} b c) (tells-cut x) z =
-          λ j q. record { some = z; early = omega arith; is = λ ts. stage-12 j ts (ap decode q ∙ x); places = at every 12 p b j q }
+          λ j q. record { some = z; early = inl (omega arith); is = λ ts. stage-12 j ts (ap decode q ∙ x); places = at every 12 p b j q }
       go (malformed {p = p} b c) (tells-malformed x) z =
-          λ j q. record { some = z; early = omega arith; is = λ ts. stage-12 j ts (ap decode q ∙ x); places = at every 12 p b j q }
+          λ j q. record { some = z; early = inl (omega arith); is = λ ts. stage-12 j ts (ap decode q ∙ x); places = at every 12 p b j q }
       go (unknown {p = p} cs v b) (tells-unknown x) z =
           λ j q. record {
             some = z;
-            early = omega arith;
+            early = inl (omega arith);
             is = λ ts. stage-13 j ts (x .chars) (ap decode q ∙ x .is) (x .outside);
             places = at alphabet 13 p b j q;
           }
@@ -70,7 +71,7 @@ module _ (bs old new : List ℕ) (r : Decoding) (w : Decodes bs 0 old r new) whe
     too-many n u h =
         rw u (λ j q. record {
           some = λ e. omega arith;
-          early = omega arith;
+          early = inl (omega arith);
           is = λ ts. stage-14 j ts (known .chars) (ap decode q ∙ known .is) (known .within) (let c = known .count in omega arith);
           places = refl;
         })

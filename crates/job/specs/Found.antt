@@ -1,4 +1,4 @@
--- What reading a record answers, once none of 1 to 15 applies.
+-- What reading a record answers, once none of 1 to 15 applies, nor 24.
 use mathlib.Core.Path.{_≡_}
 use mathlib.Core.Logic.{_⊎_}
 use mathlib.Core.List.{List}
@@ -6,11 +6,9 @@ use Prim.Native.Nat.{ℕ, _≤_}
 use lib.ListN.{length, take}
 use Rattle.text.specs.Limits.{grammarTable, readingNumbers}
 use Rattle.text.specs.Stages.{StageAnswer, answered, refused, Settles}
-use Rattle.tree.specs.Tokens.{grammarTokens}
 use Rattle.derive.specs.Derive.{Row, leftParse}
 use Rattle.derive.specs.Pick.{found, chosenOf}
 use Rattle.derive.specs.Another.{ambiguousOf}
-use Rattle.items.specs.Items.{Items, Reads}
 use Rattle.answer.specs.Answer.{Job}
 use Rattle.answer.specs.Compute.{Test, firstOf, grammarTests, recordTests}
 use Rattle.job.specs.declared.Start.{Start}
@@ -30,8 +28,8 @@ pub record Readable (T new : List ℕ) (main parse : ℕ) (s : Start) : Type 0 w
 abbrev pub firstTest : Job → List Test → ℕ
 firstTest j ts = firstOf (grammarTests (j .grammar) (recordTests j ts))
 
--- the chosen reading of the job's record stands in `P`, and the plain rules of its grammar in `T′`
-pub record IsRead (j : Job) (T new : List ℕ) (s : Start) (w : Started j T new s) (T′ P : List ℕ) (f : Found) : Type 0 where
+-- the chosen reading of the job's record stands in `P`
+pub record IsRead (j : Job) (T new : List ℕ) (s : Start) (w : Started j T new s) (P : List ℕ) (f : Found) : Type 0 where
   pub first : (ts : List Test) → firstTest j ts ≡ firstOf ts
   pub row : Row
   pub choice : chosenOf (w .grammar .tree) (w .input .chars) ≡ found row
@@ -39,8 +37,6 @@ pub record IsRead (j : Job) (T new : List ℕ) (s : Start) (w : Started j T new 
   pub count : f .count ≡ length (leftParse row)
   pub short : f .count ≤ readingNumbers
   pub list : take (f .count) P ≡ leftParse row
-  pub items : Items T′ (w .grammar .tree) (f .root)
-  pub tokens : Reads T′ 0 (grammarTokens (w .grammar .tree))
 
 pub record NotRead (j : Job) (n : ℕ) : Type 0 where
   pub late : (n ≡ 16) ⊎ (n ≡ 29)
@@ -51,5 +47,5 @@ abbrev pub foundOf : Read → StageAnswer Found ℕ
 foundOf (Reading f) = answered f
 foundOf (Refused n) = refused n
 
-abbrev pub Ends : (j : Job) (T new : List ℕ) (s : Start) → Started j T new s → List ℕ → List ℕ → Read → Type 0
-Ends j T new s w T′ P r = Settles (IsRead j T new s w T′ P) (NotRead j) (foundOf r)
+abbrev pub Ends : (j : Job) (T new : List ℕ) (s : Start) → Started j T new s → List ℕ → Read → Type 0
+Ends j T new s w P r = Settles (IsRead j T new s w P) (NotRead j) (foundOf r)

@@ -1,6 +1,7 @@
 -- What the stages of a job answer.
 use mathlib.Core.Bool.{true, false, _||_}
 use mathlib.Core.Path.{_≡_}
+use mathlib.Core.Logic.{_⊎_}
 use mathlib.Core.List.{List}
 use Prim.Native.Nat.{ℕ, _≤_}
 use lib.Dec.{ltb}
@@ -14,7 +15,8 @@ use Rattle.text.specs.Decode.{text, decode}
 use Rattle.plain.specs.Plain.{size}
 use Rattle.answer.specs.Answer.{Job, tableNeed}
 use Rattle.answer.specs.Compute.{Test, firstOf, grammarTests, recordTests, placesAt, jobValues}
-use Rattle.load.specs.Loaded.{Kept, placesOf}
+use Rattle.load.specs.Loaded.{placesOf}
+use Rattle.accept.specs.Accepted.{Kept}
 use Rattle.job.specs.declared.Taken.{Taken}
 use Rattle.job.specs.declared.Taken.the-variants.{Chars, Refused}
 use Rattle.job.specs.declared.Start.{Start}
@@ -33,7 +35,7 @@ pub record Got (bs new : List ℕ) (n : ℕ) : Type 0 where
 -- refused by a stage before 16, with the places that go with the number
 pub record Stopped (first : List Test → ℕ) (j : Job) (d : Diagnostic) : Type 0 where
   pub some : d .number ≡ 0 → ⊥
-  pub early : d .number ≤ 15
+  pub early : (d .number ≤ 15) ⊎ (d .number ≡ 24)
   pub is : (ts : List Test) → first ts ≡ d .number
   pub places : placesOf (d .places) ≡ placesAt (jobValues j) (d .number)
 
@@ -45,9 +47,9 @@ takenOf (Refused d) = refused d
 abbrev pub Takes : List ℕ → List ℕ → Taken → Type 0
 Takes bs new r = Settles (Got bs new) (λ d. (j : Job) → j .input ≡ bs → Stopped (λ ts. firstOf (recordTests j ts)) j d) (takenOf r)
 
--- none of 1 to 15 applies: the table has the grammar's tokens, the buffer the record's characters
+-- none of 1 to 15 applies, nor 24: the table has the grammar's tokens and plain rules, the buffer the record's characters
 pub record Started (j : Job) (T new : List ℕ) (s : Start) : Type 0 where
-  pub grammar : Kept (j .grammar) T (s .passed)
+  pub grammar : Kept (j .grammar) T (s .rules)
   pub input : Got (j .input) new (s .chars .0)
   pub enough : (ltb (j .mainTable) (tableNeed (size (grammar .tree)) (length (input .chars))) || ltb (j .secondTable) grammarTable) ≡ false
 

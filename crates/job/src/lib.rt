@@ -10,9 +10,9 @@ ghost use Rattle.reading.specs.Answer.{stageOf as walkedOf};
 ghost use Rattle.job.specs.Stages.{takenOf, begunOf, Takes, Started, Begins};
 ghost use Rattle.job.specs.Found.{foundOf, Readable, Ends};
 ghost use Rattle.job.specs.Parses.{whyRefused, Lent, Parses};
+use accept::Accepted;
+use accept::Rules;
 use decode::Decoding;
-use load::Loaded;
-use load::Passed;
 use reading::Walked;
 use text::CharPlace;
 use text::Diagnostic;
@@ -52,9 +52,9 @@ fn need(size: usize, n: usize) -> usize
     size * ((n + 1) * (n + 2) / 2)
 }
 
-// What the first stages find: the grammar's tokens, size and version mark, and where the record's characters end.
+// What the first stages find: the grammar's rules, and where the record's characters end.
 pub struct Start {
-    pub passed: Passed,
+    pub rules: Rules,
     pub chars: CharPlace,
 }
 
@@ -72,7 +72,7 @@ fn why_taken(taken: Taken) -> Diagnostic
     }
 }
 
-// 1 to 15. The lent tables are known by their lengths.
+// 1 to 15, and 24. The lent tables are known by their lengths.
 fn begin(
     grammar: &[u8],
     record: &[u8],
@@ -84,26 +84,25 @@ fn begin(
     requires { ⌜ (length (now table) ≡ grammarTable) × (length (now text) ≡ recordChars) ⌝ }
     ensures { λ r. ⌜ Begins (job (now (grammar .entry)) (now («record» .entry)) main second) (now (table .exit)) (now (text .exit)) r ⌝ }
 {
-    let loaded = load::load_grammar(grammar, table);
-    let Loaded::Grammar(passed) = loaded else {
-        return Begun::Refused(load::why_not_loaded(loaded));
+    let accepted = accept::accept_grammar(grammar, table);
+    let Accepted::Grammar(rules) = accepted else {
+        return Begun::Refused(accept::why_not_accepted(accepted));
     };
     let taken = take_record(record, text);
     let Taken::Chars(chars) = taken else {
         return Begun::Refused(why_taken(taken));
     };
-    if main < need(text::wide(passed.size), chars.0) {
+    if main < need(rules.size, chars.0) {
         return Begun::Refused(text::plain(refusals::TABLE_TOO_SHORT));
     }
     if second < limits::GRAMMAR_TABLE {
         return Begun::Refused(text::plain(refusals::TABLE_TOO_SHORT));
     }
-    Begun::At(Start { passed, chars })
+    Begun::At(Start { rules, chars })
 }
 
-// The chosen reading: how many numbers it has, and whether there is a second derivation; and where the root's rule begins.
+// The chosen reading: how many numbers it has, and whether there is a second derivation.
 pub struct Found {
-    pub root: usize,
     pub count: usize,
     pub ambiguous: bool,
 }
@@ -125,7 +124,7 @@ fn why_walked(walked: Walked) -> u32
 
 // 16 and 29. The left parse goes to `parse`.
 fn read_record(
-    table: &mut [u32],
+    table: &[u32],
     start: Start,
     text: &[u32],
     main: &mut [u32],
@@ -133,21 +132,15 @@ fn read_record(
 ) -> Read
     requires { ⌜ Readable (now table) (now text) (length (now main)) (length (now parse)) start ⌝ }
     ensures { λ r. ⌜ ((j : Job) (w : Started j (now (table .entry)) (now (text .entry)) start)
-        → Ends j (now (table .entry)) (now (text .entry)) start w (now (table .exit)) (now (parse .exit)) r) ⌝ }
+        → Ends j (now (table .entry)) (now (text .entry)) start w (now (parse .exit)) r) ⌝ }
 {
-    let passed = start.passed;
-    let size = text::wide(passed.size);
-    let root = items::build_items(table, passed.end);
+    let rules = start.rules;
     let n = start.chars.0;
-    let walked = parser::choose(table, size, root, &text[..n], main, parse);
+    let walked = parser::choose(table, rules.size, rules.root, &text[..n], main, parse);
     let Walked::Reading(count, ambiguous) = walked else {
         return Read::Refused(why_walked(walked));
     };
-    Read::Reading(Found {
-        root,
-        count,
-        ambiguous,
-    })
+    Read::Reading(Found { count, ambiguous })
 }
 
 fn why_begun(begun: Begun) -> Diagnostic
@@ -201,7 +194,7 @@ pub fn why_refused(parsed: Parse) -> Refusal
     }
 }
 
-// All stages: 1 to 16 and 29. The table takes the grammar's tokens and plain rules, `text` the record's characters, `parse` the
+// All stages: 1 to 16, 24 and 29. The table takes the grammar's tokens and plain rules, `text` the record's characters, `parse` the
 // left parse of the chosen reading.
 pub fn parse_record(
     grammar: &[u8],
@@ -222,7 +215,8 @@ pub fn parse_record(
             mismatch: false,
         });
     };
-    let mismatch = start.passed.mismatch;
+    let mismatch = start.rules.mismatch;
+    let root = start.rules.root;
     let chars = start.chars;
     let read = read_record(table, start, text, main, parse);
     let Read::Reading(found) = read else {
@@ -232,7 +226,7 @@ pub fn parse_record(
         });
     };
     Parse::Chosen(LeftParse {
-        root: found.root,
+        root,
         count: found.count,
         chars,
         ambiguous: found.ambiguous,

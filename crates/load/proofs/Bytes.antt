@@ -1,6 +1,7 @@
 -- From bytes: what the decoder's answers say of the tests, and the whole stage.
 use mathlib.Core.Bool.{Bool, true, false}
 use mathlib.Core.Path.{_≡_, refl, sym, subst, ap, _∙_}
+use mathlib.Core.Logic.{inl}
 use mathlib.Core.List.{List, [], _∷_, _++_}
 use Prim.Native.Nat.{ℕ, zero, suc, _+_, _≤_, _<_}
 use native.Mathlib.Omega.{arith}
@@ -22,6 +23,7 @@ use Rattle.tree.specs.Tree.{Grammar}
 use Rattle.syntax.specs.Parser.{Parsed, parsed, no-parse, parse}
 use Rattle.plain.specs.Static.{undefined, duplicate, beyond, banned, backwards, unclassed}
 use Rattle.plain.specs.Plain.{size}
+use Rattle.derive.specs.Yield.{unproductive}
 use Rattle.answer.specs.Compute.{Test, test, firstOf, treeOf, grammarTests, mismatch, value, placesAt, checkValues}
 use Rattle.answer.proofs.Noted.{value-skip}
 use Rattle.answer.proofs.Stages.{stage-1, stage-2, stage-3, stage-4, stage-static, tree-is, mismatch-is}
@@ -124,7 +126,7 @@ module _ (bs old new : List ℕ) (r : Decoding) (w : Decodes bs (afterMark bs) o
       at {f = f} p b = let e = break-of f bs (afterMark bs) (p .0) b in λ ι. record { byte = sym e ι; fault = 0; grammar = 0 }
 
       two : (p : BytePlace) → Breaks every bs (afterMark bs) (p .0) → unmark (decode bs) ≡ not-utf8 → Turned bs (atByte 2 p)
-      two p b x = record { some = λ e. omega arith; early = omega arith; first = λ ts. stage-2 bs ts l (no-text bs x); places = at p b }
+      two p b x = record { some = λ e. omega arith; early = inl (omega arith); first = λ ts. stage-2 bs ts l (no-text bs x); places = at p b }
 
       go : {d : Decoding} → Ends bs (afterMark bs) d → Tells (unmark (decode bs)) d → (whyOf 2 3 d .number ≡ 0 → ⊥) → Turned bs (whyOf 2 3 d)
       go a (tells-of x) z = absurd (z refl)
@@ -134,13 +136,13 @@ module _ (bs old new : List ℕ) (r : Decoding) (w : Decodes bs (afterMark bs) o
           let u = unmarked-text bs (x .chars) (x .is) in
           record {
             some = z;
-            early = omega arith;
+            early = inl (omega arith);
             first = λ ts. stage-3 bs ts l (u .chars) (u .decoded) (ap (all known) (sym (u .is)) ∙ x .outside);
             places = at p b;
           }
 
 pub too-long : (bs : List ℕ) → 4096 < length bs → Turned bs (plainly 1)
-too-long bs l = record { some = λ e. omega arith; early = omega arith; first = λ ts. stage-1 bs ts l; places = refl }
+too-long bs l = record { some = λ e. omega arith; early = inl (omega arith); first = λ ts. stage-1 bs ts l; places = refl }
 
 -- the numbers of the static rules and the size
 between-of : (g : Grammar) (n : ℕ) → Refuses g n → (4 ≤ n) × (n ≤ 11)
@@ -159,7 +161,7 @@ between-of g n r = by (undefined g) (duplicate g) (beyond g) (banned g) (backwar
 -- a refusal from 4 on
 plain-turned : (bs : List ℕ) (d : Diagnostic) → d ≡ plainly (d .number) → (d .number ≡ 0 → ⊥) → 4 ≤ d .number → d .number ≤ 11
     → ((ts : List Test) → firstOf (grammarTests bs ts) ≡ d .number) → Turned bs d
-plain-turned bs d e z l h f = record { some = z; early = h; first = f; places = ap (λ (x : Diagnostic). placesOf (x .places)) e ∙ sym (none (d .number) l) }
+plain-turned bs d e z l h f = record { some = z; early = inl h; first = f; places = ap (λ (x : Diagnostic). placesOf (x .places)) e ∙ sym (none (d .number) l) }
   where
     none : (n : ℕ) → 4 ≤ n → placesAt (checkValues bs) n ≡ record { byte = 0; fault = 0; grammar = 0 }
     none n l =
@@ -178,14 +180,14 @@ loaded bs new T n l d r h = go (stageOf r) (subst (λ (s : Text). Reads s T (sta
         let x = f .holds in
         let b = between-of (x .tree) (k .number) (x .refuses) in
         plain-turned bs k (f .nowhere) (x .refuses .some) (b .0) (b .1)
-        (λ ts. stage-static bs ts l (d .chars) (d .decoded) (d .within) (x .tree) (x .parse) ∙ x .refuses .first ts)
+        (λ ts. stage-static bs ts l (d .chars) (d .decoded) (d .within) (x .tree) (x .parse) ∙ x .refuses .first (test 24 (λ _. unproductive (x .tree)) ∷ ts))
     go _ (reads-grammar x) =
         let g = x .tree in
         let q = x .passes in
         record {
           tree = g;
           is = tree-is bs [] l (d .chars) (d .decoded) (d .within) g (x .parse);
-          first = λ ts. stage-static bs ts l (d .chars) (d .decoded) (d .within) g (x .parse) ∙ q .first ts;
+          first = λ ts. stage-static bs ts l (d .chars) (d .decoded) (d .within) g (x .parse) ∙ q .first (test 24 (λ _. unproductive g) ∷ ts);
           version = q .version ∙ sym (mismatch-is bs [] l (d .chars) (d .decoded) (d .within) g (x .parse));
           stands = x .stands;
           inside = x .inside;

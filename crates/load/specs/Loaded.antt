@@ -1,7 +1,8 @@
 -- A grammar's bytes to a checked tree in the table: refusals 1 to 11.
 use mathlib.Core.Bool.{Bool}
 use mathlib.Core.Path.{_≡_}
-use mathlib.Core.List.{List}
+use mathlib.Core.Logic.{_⊎_}
+use mathlib.Core.List.{List, _∷_}
 use Prim.Native.Nat.{ℕ, _*_, _≤_}
 use lib.ListN.{length}
 use Rattle.text.specs.Limits.{grammarBytes, grammarTable, mostSize}
@@ -13,8 +14,9 @@ use Rattle.tree.specs.Tree.{Grammar}
 use Rattle.syntax.specs.Parser.{Parsed, parsed, no-parse, parse}
 use Rattle.plain.specs.Plain.{size}
 use Rattle.plain.specs.Static.{mismatched}
+use Rattle.derive.specs.Yield.{unproductive}
 use Rattle.answer.specs.Answer.{Places as Answered}
-use Rattle.answer.specs.Compute.{Test, firstOf, treeOf, grammarTests, mismatch, placesAt, checkValues}
+use Rattle.answer.specs.Compute.{Test, test, firstOf, treeOf, grammarTests, mismatch, placesAt, checkValues}
 use Rattle.static_errors.specs.Held.{staticOf}
 use Rattle.load.specs.declared.Passed.{Passed}
 use Rattle.load.specs.declared.Loaded.{Loaded}
@@ -49,17 +51,17 @@ pub data Reads (s : Text) (T : List ℕ) : StageAnswer Passed Diagnostic → Typ
 abbrev pub placesOf : Places → Answered
 placesOf p = record { byte = p .byte .0; fault = p .fault .0; grammar = p .grammar .0 }
 
--- of bytes
+-- of bytes: refused by one of 1 to 11, or by 24, which a later stage judges
 pub record Turned (bs : List ℕ) (d : Diagnostic) : Type 0 where
   pub some : d .number ≡ 0 → ⊥
-  pub early : d .number ≤ 11
+  pub early : (d .number ≤ 11) ⊎ (d .number ≡ 24)
   pub first : (ts : List Test) → firstOf (grammarTests bs ts) ≡ d .number
   pub places : placesOf (d .places) ≡ placesAt (checkValues bs) (d .number)
 
 pub record Kept (bs T : List ℕ) (p : Passed) : Type 0 where
   pub tree : Grammar
   pub is : treeOf bs ≡ parsed tree
-  pub first : (ts : List Test) → firstOf (grammarTests bs ts) ≡ firstOf ts
+  pub first : (ts : List Test) → firstOf (grammarTests bs ts) ≡ firstOf (test 24 (λ _. unproductive tree) ∷ ts)
   pub version : p .mismatch ≡ mismatch bs
   pub stands : Stands T (p .end) tree
   pub inside : p .end ≤ 12288

@@ -195,6 +195,24 @@ fn numbered(length: usize, part: impl Fn(usize) -> String) -> String {
     text
 }
 
+/// A text with spaces behind it.
+fn padded(length: usize, mut text: String) -> String {
+    text.push_str(&" ".repeat(length - text.len()));
+    text
+}
+
+/// 250 rules, each of which is the next, in no order; the last one is `last`.
+fn ring(last: &str) -> String {
+    const RULES: usize = 250;
+    let rule = |number: usize| match number + 1 {
+        RULES => format!("r{number}: {last} ."),
+        next => format!("r{number}: r{next} ."),
+    };
+    // 97 and 250 have no common divisor.
+    let rules = (0..RULES).map(|place| rule(place * 97 % RULES));
+    rules.collect::<Vec<_>>().join(" ")
+}
+
 /// Grammars of the greatest length, or one byte longer, of kinds that a reader
 /// might find hard.
 pub fn awkward() -> Vec<(&'static str, String)> {
@@ -249,6 +267,24 @@ pub fn awkward() -> Vec<(&'static str, String)> {
             ("one set of classes", full("a: [", "L;", "L].")),
             ("one set of ranges", full("a: [", "'a'-'z';", "L].")),
             ("one set of unknown classes", full("a: [", "Xx;", "L].")),
+            (
+                "one exclusion of classes",
+                full("a: ~[", "Zp;", "L;M;N;P;S;Z;C]; ."),
+            ),
+            (
+                "one exclusion of ranges",
+                full("a: ~[", "#0-#17f;", "#300-#36f;#203f]."),
+            ),
+            (
+                "exclusions",
+                padded(length, format!("a: {}.", ["~[#0-#17f]"; 300].join(","))),
+            ),
+            (
+                "sets that match nothing",
+                padded(length, format!("a: {}; .", ["[Cn]"; 500].join(","))),
+            ),
+            ("a chain of rules", padded(length, ring("'x'"))),
+            ("a ring of rules", padded(length, ring("r0"))),
             ("uses of one name", full("a: ", "a,", "a .")),
             ("uses of one undefined name", full("a: ", "b,", "b .")),
             ("one rule again and again", full("", "a:. ", "")),

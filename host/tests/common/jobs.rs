@@ -83,7 +83,10 @@ pub fn awkward() -> Vec<Job> {
 pub fn full_size() -> Vec<Job> {
     let letters = gen::letters(RECORD_CHARACTERS);
     let families = [gen::pairs, gen::copies, gen::stars, gen::runs, gen::chains];
-    let mut jobs = vec![Job::new(gen::fields(512), gen::fields_record(RECORD_CHARACTERS))];
+    let mut jobs = vec![Job::new(
+        gen::fields(512),
+        gen::fields_record(RECORD_CHARACTERS),
+    )];
     jobs.extend(families.map(|family| Job::new(family(512), &letters)));
     jobs
 }

@@ -61,9 +61,15 @@ fn in_member(member: &Member, character: char) -> bool {
     }
 }
 
+/// The characters that a record may hold.
+fn alphabet() -> impl Iterator<Item = char> {
+    let codes = (0..=0x17F).chain(0x300..=0x36F).chain(0x203F..=0x2040);
+    codes.map(|code| char::from_u32(code).unwrap())
+}
+
 fn members(set: &Set) -> Vec<char> {
-    let all = (0..=255u8).map(char::from);
-    all.filter(|&c| set.members.iter().any(|member| in_member(member, c)) != set.excluded)
+    alphabet()
+        .filter(|&c| set.members.iter().any(|member| in_member(member, c)) != set.excluded)
         .collect()
 }
 
@@ -92,6 +98,29 @@ impl Oracle {
     pub fn size(&self) -> usize {
         let alternatives = self.rules.iter().flat_map(|rule| &rule.alternatives);
         alternatives.map(|symbols| symbols.len() + 1).sum()
+    }
+
+    /// Whether some rule derives no text: rules that are known to derive one
+    /// are added until none is.
+    pub fn is_unproductive(&self) -> bool {
+        let mut known: Vec<usize> = Vec::new();
+        loop {
+            let yields = |symbol: &Symbol| match symbol {
+                Symbol::Literal(string, _) => string.iter().all(|&c| alphabet().any(|d| c == d)),
+                Symbol::Set(members, _) => !members.is_empty(),
+                Symbol::Insertion(_) => true,
+                Symbol::Rule(rule, _) => known.contains(rule),
+            };
+            let some = |rule: &usize| {
+                let mut alternatives = self.rules[*rule].alternatives.iter();
+                alternatives.any(|symbols| symbols.iter().all(yields))
+            };
+            let more: Vec<usize> = (0..self.rules.len()).filter(some).collect();
+            if more == known {
+                return known.len() < self.rules.len();
+            }
+            known = more;
+        }
     }
 
     fn plain(&mut self, names: &[&str], alternatives: &Alternatives) -> Vec<Vec<Symbol>> {

@@ -6,27 +6,27 @@ use borrow.Author.Needs.{needs}
 use Rattle.job.proofs.begin.Statement.{statement}
 use Rattle.job.proofs.begin.Tie as tie
 
-load-grammar-requires : tie.Need-load-grammar-requires
-load-grammar-requires c κs = search needs
+accept-grammar-requires : tie.Need-accept-grammar-requires
+accept-grammar-requires c κs = search needs
 
-enum-known-loaded : tie.Need-enum-known-loaded
-enum-known-loaded c = search needs
+enum-known-accepted : tie.Need-enum-known-accepted
+enum-known-accepted c = search needs
 
 enum-told : tie.Need-enum-told
 enum-told c = search needs
 
-why-not-loaded-requires : tie.Need-why-not-loaded-requires
-why-not-loaded-requires c κs = search needs
+why-not-accepted-requires : tie.Need-why-not-accepted-requires
+why-not-accepted-requires c κs = search needs
 
 same-length : tie.Need-same-length
 same-length c = search needs
 
 returns : tie.Need-returns
 returns c =
-    let load-grammar = c .before .before .before .before .before .load-grammar in
+    let accepts = c .before .before .before .before .before .accept-grammar in
     let args = c .before .before .before .before .before .before .before .before .before .before .before .args in
-    ends-grammar (job (args .grammar .now) (args .record .now) (args .main) (args .second)) (load-grammar .last .1 .0) (args .text .now) _ _ _
-    (c .before .enum-told .given .1) (c .why-not-loaded .ensures) (load-grammar .ensures)
+    ends-grammar (job (args .grammar .now) (args .record .now) (args .main) (args .second)) (accepts .last .1 .0) (args .text .now) _ _ _
+    (c .before .enum-told .given .1) (c .why-not-accepted .ensures) (accepts .ensures)
 
 take-record-requires : tie.Need-take-record-requires
 take-record-requires c κs = search needs
@@ -49,32 +49,26 @@ same-length-3 c = search needs
 returns-2 : tie.Need-returns-2
 returns-2 c =
     let take-record = c .before .before .before .before .before .take-record in
-    let loaded = c .before .before .before .before .before .before .before .before .loaded in
-    let load-grammar = c .before .before .before .before .before .before .before .before .before .before .before .before .load-grammar in
-    let args = c .before .before .before .before .before .before .before .before .before .before .before .before .before .before .before .before
-    .before .before .args in
-    ends-record (job (args .grammar .now) (args .record .now) (args .main) (args .second)) (load-grammar .last .1 .0) (take-record .last .1 .0) _
-    _ (loaded .given .1) (load-grammar .ensures) _ _ _ (c .before .enum-told2 .given .1) (c .why-taken .ensures) (take-record .ensures)
-
-wide-requires : tie.Need-wide-requires
-wide-requires c κs = search needs
+    let accepted = c .before .before .before .before .before .before .before .before .accepted in
+    let accepts = c .before .before .before .before .before .before .before .before .before .before .before .before .accept-grammar in
+    let args = c .before .before .before .before .before .before .before .before .before .before .before .before .before .before .before .before .before .before .args in
+    ends-record (job (args .grammar .now) (args .record .now) (args .main) (args .second)) (accepts .last .1 .0) (take-record .last .1 .0) _
+    _ (accepted .given .1) (accepts .ensures) _ _ _ (c .before .enum-told2 .given .1) (c .why-taken .ensures) (take-record .ensures)
 
 need-requires : tie.Need-need-requires
 need-requires c κs =
-    let taken = c .before .before .taken in
-    let take-record = c .before .before .before .before .before .before .take-record in
-    let loaded = c .before .before .before .before .before .before .before .before .before .loaded in
-    let load-grammar = c .before .before .before .before .before .before .before .before .before .before .before .before .before .load-grammar in
-    let args = c .before .before .before .before .before .before .before .before .before .before .before .before .before .before .before .before
-    .before .before .before .args in (
+    let taken = c .before .taken in
+    let take-record = c .before .before .before .before .before .take-record in
+    let accepted = c .before .before .before .before .before .before .before .before .accepted in
+    let accepts = c .before .before .before .before .before .before .before .before .before .before .before .before .accept-grammar in
+    let args = c .before .before .before .before .before .before .before .before .before .before .before .before .before .before .before .before .before .before .args in (
       omega (
         arith,
-        c .wide .ensures,
-        small (job (args .grammar .now) (args .record .now) (args .main) (args .second)) (load-grammar .last .1 .0)
-            (take-record .last .1 .0) _ _ (loaded .given .1) (load-grammar .ensures),
+        small (job (args .grammar .now) (args .record .now) (args .main) (args .second)) (accepts .last .1 .0)
+            (take-record .last .1 .0) _ _ (accepted .given .1) (accepts .ensures),
       ),
-      few (job (args .grammar .now) (args .record .now) (args .main) (args .second)) (load-grammar .last .1 .0) (take-record .last .1 .0) _ _
-          (loaded .given .1) (load-grammar .ensures) _ _ (taken .given .1) (take-record .ensures),
+      few (job (args .grammar .now) (args .record .now) (args .main) (args .second)) (accepts .last .1 .0) (take-record .last .1 .0) _ _
+          (accepted .given .1) (accepts .ensures) _ _ (taken .given .1) (take-record .ensures),
     )
 
 plain-requires : tie.Need-plain-requires
@@ -89,16 +83,13 @@ same-length-5 c = search needs
 returns-3 : tie.Need-returns-3
 returns-3 c =
     let d = c .before in
-    let wide = d .before .before .wide in
-    let taken = d .before .before .before .before .taken in
-    let take-record = d .before .before .before .before .before .before .before .before .take-record in
-    let loaded = d .before .before .before .before .before .before .before .before .before .before .before .loaded in
-    let load-grammar = d .before .before .before .before .before .before .before .before .before .before .before .before .before .before .before
-    .load-grammar in
-    let args = d .before .before .before .before .before .before .before .before .before .before .before .before .before .before .before .before
-    .before .before .before .before .before .args in
-    rw (c .plain .ensures) (ends-main (job (args .grammar .now) (args .record .now) (args .main) (args .second)) (load-grammar .last .1 .0) (take-record .last .1 .0) _ _
-    (loaded .given .1) (load-grammar .ensures) _ _ (taken .given .1) (take-record .ensures) _ (d .before .need .ensures ∙ rw (wide .ensures))
+    let taken = d .before .before .before .taken in
+    let take-record = d .before .before .before .before .before .before .before .take-record in
+    let accepted = d .before .before .before .before .before .before .before .before .before .before .accepted in
+    let accepts = d .before .before .before .before .before .before .before .before .before .before .before .before .before .before .accept-grammar in
+    let args = d .before .before .before .before .before .before .before .before .before .before .before .before .before .before .before .before .before .before .before .before .args in
+    rw (c .plain .ensures) (ends-main (job (args .grammar .now) (args .record .now) (args .main) (args .second)) (accepts .last .1 .0) (take-record .last .1 .0) _ _
+    (accepted .given .1) (accepts .ensures) _ _ (taken .given .1) (take-record .ensures) _ (d .before .need .ensures)
     (d .if1 .taken))
 
 plain-requires-2 : tie.Need-plain-requires-2
@@ -114,16 +105,13 @@ returns-4 : tie.Need-returns-4
 returns-4 c =
     let d = c .before in
     let need = d .before .before .need in
-    let wide = d .before .before .before .wide in
-    let taken = d .before .before .before .before .before .taken in
-    let take-record = d .before .before .before .before .before .before .before .before .before .take-record in
-    let loaded = d .before .before .before .before .before .before .before .before .before .before .before .before .loaded in
-    let load-grammar = d .before .before .before .before .before .before .before .before .before .before .before .before .before .before .before
-    .before .load-grammar in
-    let args = d .before .before .before .before .before .before .before .before .before .before .before .before .before .before .before .before
-    .before .before .before .before .before .before .args in
-    rw (c .plain2 .ensures) (ends-second (job (args .grammar .now) (args .record .now) (args .main) (args .second)) (load-grammar .last .1 .0) (take-record .last .1 .0) _
-    _ (loaded .given .1) (load-grammar .ensures) _ _ (taken .given .1) (take-record .ensures) _ (need .ensures ∙ rw (wide .ensures))
+    let taken = d .before .before .before .before .taken in
+    let take-record = d .before .before .before .before .before .before .before .before .take-record in
+    let accepted = d .before .before .before .before .before .before .before .before .before .before .before .accepted in
+    let accepts = d .before .before .before .before .before .before .before .before .before .before .before .before .before .before .before .accept-grammar in
+    let args = d .before .before .before .before .before .before .before .before .before .before .before .before .before .before .before .before .before .before .before .before .before .args in
+    rw (c .plain2 .ensures) (ends-second (job (args .grammar .now) (args .record .now) (args .main) (args .second)) (accepts .last .1 .0) (take-record .last .1 .0) _
+    _ (accepted .given .1) (accepts .ensures) _ _ (taken .given .1) (take-record .ensures) _ (need .ensures)
     (omega (arith, d .before .if1 .left)) (d .if2 .taken))
 
 same-length-8 : tie.Need-same-length-8
@@ -135,26 +123,23 @@ same-length-9 c = search needs
 returns-5 : tie.Need-returns-5
 returns-5 c =
     let need = c .before .before .need in
-    let wide = c .before .before .before .wide in
-    let taken = c .before .before .before .before .before .taken in
-    let take-record = c .before .before .before .before .before .before .before .before .before .take-record in
-    let loaded = c .before .before .before .before .before .before .before .before .before .before .before .before .loaded in
-    let load-grammar = c .before .before .before .before .before .before .before .before .before .before .before .before .before .before .before
-    .before .load-grammar in
-    let args = c .before .before .before .before .before .before .before .before .before .before .before .before .before .before .before .before
-    .before .before .before .before .before .before .args in
-    begun (job (args .grammar .now) (args .record .now) (args .main) (args .second)) (load-grammar .last .1 .0) (take-record .last .1 .0) _ _
-    (loaded .given .1) (load-grammar .ensures) _ _ (taken .given .1) (take-record .ensures) _ (need .ensures ∙ rw (wide .ensures))
+    let taken = c .before .before .before .before .taken in
+    let take-record = c .before .before .before .before .before .before .before .before .take-record in
+    let accepted = c .before .before .before .before .before .before .before .before .before .before .before .accepted in
+    let accepts = c .before .before .before .before .before .before .before .before .before .before .before .before .before .before .before .accept-grammar in
+    let args = c .before .before .before .before .before .before .before .before .before .before .before .before .before .before .before .before .before .before .before .before .before .args in
+    begun (job (args .grammar .now) (args .record .now) (args .main) (args .second)) (accepts .last .1 .0) (take-record .last .1 .0) _ _
+    (accepted .given .1) (accepts .ensures) _ _ (taken .given .1) (take-record .ensures) _ (need .ensures)
     (omega (arith, c .before .if1 .left)) (omega (arith, c .if2 .left))
 
 pub begin-spec : {M : Type 1} → statement M
 begin-spec =
     tie.close
     (tie.spec
-    load-grammar-requires
-    enum-known-loaded
+    accept-grammar-requires
+    enum-known-accepted
     enum-told
-    why-not-loaded-requires
+    why-not-accepted-requires
     same-length
     returns
     take-record-requires
@@ -164,7 +149,6 @@ begin-spec =
     same-length-2
     same-length-3
     returns-2
-    wide-requires
     need-requires
     plain-requires
     same-length-4

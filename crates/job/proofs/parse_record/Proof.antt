@@ -31,8 +31,7 @@ read-record-requires : tie.Need-read-record-requires
 read-record-requires c κs =
     let begun = c .before .before .before .before .before .before .begun in
     let begin = c .before .before .before .before .before .before .before .before .before .before .before .before .begin in
-    let pre = c .before .before .before .before .before .before .before .before .before .before .before .before .before .before .before .before
-    .before .before .before .before .before .pre in
+    let pre = c .before .before .before .before .before .before .before .before .before .before .before .before .before .before .before .before .before .before .before .before .before .pre in
     let w = begun-at _ _ _ _ _ (begun .given .1) (begin .ensures) in
     record { job = _; started = w; lent = search needs; long = search needs; room = pre .room }
 
@@ -63,12 +62,11 @@ plain-requires c κs = search needs
 returns-2 : tie.Need-returns-2
 returns-2 c =
     let d = c .before in
-    let read-record = d .before .before .before .before .before .before .before .before .before .read-record in
-    let begun = d .before .before .before .before .before .before .before .before .before .before .before .before .before .before .before .before .begun in
-    let begin = d .before .before .before .before .before .before .before .before .before .before .before .before .before .before .before .before
-    .before .before .before .before .before .before .begin in
+    let read-record = d .before .before .before .before .before .before .before .read-record in
+    let begun = d .before .before .before .before .before .before .before .before .before .before .before .before .before .before .begun in
+    let begin = d .before .before .before .before .before .before .before .before .before .before .before .before .before .before .before .before .before .before .before .before .begin in
     let w = begun-at _ _ _ _ _ (begun .given .1) (begin .ensures) in
-    not-chosen _ _ _ _ w _ _ _ _ _ _ (d .before .enum-told2 .given .1) (d .why-read .ensures) (c .plain .ensures) (read-record .ensures _ w)
+    not-chosen _ _ _ _ w _ _ _ _ _ (d .before .enum-told2 .given .1) (d .why-read .ensures) (c .plain .ensures) (read-record .ensures _ w)
 
 same-length-7 : tie.Need-same-length-7
 same-length-7 c = search needs
@@ -84,12 +82,11 @@ same-length-10 c = search needs
 
 returns-3 : tie.Need-returns-3
 returns-3 c =
-    let read-record = c .before .before .before .before .before .before .before .before .before .read-record in
-    let begun = c .before .before .before .before .before .before .before .before .before .before .before .before .before .before .before .before .begun in
-    let begin = c .before .before .before .before .before .before .before .before .before .before .before .before .before .before .before .before
-    .before .before .before .before .before .before .begin in
+    let read-record = c .before .before .before .before .before .before .before .read-record in
+    let begun = c .before .before .before .before .before .before .before .before .before .before .before .before .before .before .begun in
+    let begin = c .before .before .before .before .before .before .before .before .before .before .before .before .before .before .before .before .before .before .before .before .begin in
     let w = begun-at _ _ _ _ _ (begun .given .1) (begin .ensures) in
-    chosen _ _ _ _ w _ _ _ _ (c .before .read .given .1) (read-record .ensures _ w)
+    chosen _ _ _ _ w _ _ _ (c .before .read .given .1) (read-record .ensures _ w)
 
 pub parse-record-spec : {M : Type 1} → statement M
 parse-record-spec =

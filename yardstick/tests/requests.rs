@@ -1,0 +1,36 @@
+//! Cases of the requests that no vector names by itself.
+
+mod common;
+
+use common::{assert_check, assert_reading};
+
+/// T-06: every rule counts, used or not, written or made.
+#[test]
+fn rules_that_derive_nothing() {
+    assert_check(&[
+        ("a: \"x\", a.", 24),
+        ("a: \"x\". b: b.", 24),
+        ("a: []**\"x\".", 24),
+        ("a: \"x\"; (#180).", 24),
+        ("a: ~[L; M; N; P; S; Z; C].", 24),
+        ("a: ~[#0-#17f; #300-#36f; #203f-#2040].", 24),
+        ("a: ~[#0-#17f; #300-#36f; #203f].", 0),
+        ("a: [Cs].", 24),
+        ("a: [#180-#2ff].", 24),
+        ("a: [#180-#300].", 0),
+        ("a: \"x\"; #180.", 0),
+        ("a: []*.", 0),
+        ("a: +#10fffd.", 0),
+        ("a: b. b: c. c: d. d: a; .", 0),
+        ("a: b. b: c. c: d. d: a.", 24),
+        ("a: b, b. b: a; b, c. c: \"x\".", 24),
+    ]);
+}
+
+/// 24 comes after 11 and before 12.
+#[test]
+fn between_11_and_12() {
+    let large = format!("a: {}a.", "\"x\", ".repeat(512));
+    assert_check(&[(&large, 11), ("a: [Xx], a.", 10)]);
+    assert_reading(&[("a: a.", "\u{180}", "refused 24")]);
+}
