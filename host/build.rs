@@ -1,42 +1,71 @@
-//! Links the proved library, `libcalls.a`.
+//! Links the proved libraries, `libcalls.a` (the reader) and `libgate.a` (the
+//! position gate).
 //!
-//! The archive is the one in the directory `IXML_LIB_DIR`, if that is set.
-//! Otherwise it is `target/staticlib/libcalls.a` of the repository, made by
-//! `rt staticlib calls` where it is missing or older than a file of `crates/`.
+//! The archives are those in the directory `IXML_LIB_DIR`, if that is set.
+//! Otherwise they are those in `target/staticlib/` of the repository, made by
+//! `rt staticlib` where they are missing or older than a file of `crates/`.
 //!
-//! An archive that lacks one of the four calls is not linked. For the tests there
-//! is a `cfg` `xmllint` where that program is found.
+//! An archive that lacks one of its calls is not linked. For the tests there is a
+//! `cfg` `xmllint` where that program is found.
 
 use std::path::{Path, PathBuf};
 use std::process::Command;
 use std::time::SystemTime;
 use std::{env, fs, io};
 
-const ARCHIVE: &str = "libcalls.a";
-const CALLS: [&str; 4] = ["ixml_check", "ixml_category", "ixml_read", "ixml_convert"];
+/// The crates that are libraries, what each exports, and the variable that tells
+/// the tests where its archive is.
+const LIBRARIES: [(&str, &[&str], &str); 2] = [
+    (
+        "calls",
+        &["ixml_check", "ixml_category", "ixml_read", "ixml_convert"],
+        "IXML_ARCHIVE",
+    ),
+    (
+        "gate",
+        &[
+            "ixml_gate_box",
+            "ixml_gate_band",
+            "ixml_gate_anywhere",
+            "ixml_number",
+        ],
+        "IXML_GATE_ARCHIVE",
+    ),
+];
 
 fn main() {
     println!("cargo:rerun-if-env-changed=IXML_LIB_DIR");
-    let directory = match env::var_os("IXML_LIB_DIR") {
-        Some(directory) => PathBuf::from(directory),
-        None => built(&Path::new(env!("CARGO_MANIFEST_DIR")).join("..")),
-    };
-    let archive = directory.join(ARCHIVE);
-    println!("cargo:rerun-if-changed={}", archive.display());
-    let content = fs::read(&archive)
-        .unwrap_or_else(|error| panic!("cannot read {}: {error}", archive.display()));
-    let symbols = symbols(&content)
-        .unwrap_or_else(|| panic!("{} is no archive with an index", archive.display()));
-    let has = |call: &str| symbols.contains(&call.as_bytes());
-    for call in CALLS {
-        assert!(has(call), "{} has no {call}", archive.display());
+    let lent = env::var_os("IXML_LIB_DIR").map(PathBuf::from);
+    let repository = Path::new(env!("CARGO_MANIFEST_DIR")).join("..");
+    for (library, calls, variable) in LIBRARIES {
+        let directory = lent.clone().unwrap_or_else(|| built(&repository, library));
+        let archive = directory.join(file(library));
+        println!("cargo:rerun-if-changed={}", archive.display());
+        check(&archive, calls);
+        println!("cargo:rustc-env={variable}={}", archive.display());
+        println!("cargo:rustc-link-search=native={}", directory.display());
+        println!("cargo:rustc-link-lib=static={library}");
     }
     if has_xmllint() {
         println!("cargo:rustc-cfg=xmllint");
     }
-    println!("cargo:rustc-env=IXML_ARCHIVE={}", archive.display());
-    println!("cargo:rustc-link-search=native={}", directory.display());
-    println!("cargo:rustc-link-lib=static=calls");
+}
+
+/// The name of a library's archive.
+fn file(library: &str) -> String {
+    format!("lib{library}.a")
+}
+
+/// Panics unless the archive has all of the calls.
+fn check(archive: &Path, calls: &[&str]) {
+    let content = fs::read(archive)
+        .unwrap_or_else(|error| panic!("cannot read {}: {error}", archive.display()));
+    let symbols = symbols(&content)
+        .unwrap_or_else(|| panic!("{} is no archive with an index", archive.display()));
+    for call in calls {
+        let has = symbols.contains(&call.as_bytes());
+        assert!(has, "{} has no {call}", archive.display());
+    }
 }
 
 /// Whether xmllint can be run. If not, it is looked for again at each build.
@@ -45,26 +74,28 @@ fn has_xmllint() -> bool {
     Command::new("xmllint").arg("--version").output().is_ok()
 }
 
-/// The directory of the repository's archive, which is made if need be.
-fn built(repository: &Path) -> PathBuf {
+/// The directory of the repository's archive of a library, which is made if need
+/// be.
+fn built(repository: &Path, library: &str) -> PathBuf {
     let sources = [repository.join("crates"), repository.join("crates.txt")];
     for source in &sources {
         println!("cargo:rerun-if-changed={}", source.display());
     }
     assert!(
-        repository.join("crates/calls").is_dir(),
-        "the repository has no crate `calls` to build the library from; \
-         IXML_LIB_DIR may name a directory with {ARCHIVE}"
+        repository.join("crates").join(library).is_dir(),
+        "the repository has no crate `{library}` to build a library from; \
+         IXML_LIB_DIR may name a directory with {}",
+        file(library)
     );
     let directory = repository.join("target/staticlib");
-    let archive = directory.join(ARCHIVE);
+    let archive = directory.join(file(library));
     if !is_current(&archive, &sources).unwrap_or(false) {
         let mut command = Command::new("rt");
-        command.args(["staticlib", "calls"]).current_dir(repository);
+        command.args(["staticlib", library]).current_dir(repository);
         let status = command
             .status()
             .unwrap_or_else(|error| panic!("cannot run rt, the Rattle kit's tool: {error}"));
-        assert!(status.success(), "`rt staticlib calls` failed");
+        assert!(status.success(), "`rt staticlib {library}` failed");
     }
     directory
 }

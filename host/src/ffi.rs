@@ -1,11 +1,54 @@
-//! The calls as `include/ixml.h` declares them.
+//! The calls as `include/ixml.h` and `include/ixml_gate.h` declare them.
 //!
 //! Each slice is a pointer and a length. The functions at the crate's root are
 //! the same calls, safe for every caller.
 
 use crate::Answer;
 
+/// The answer of a gate: 0 and a verdict (1 inside, 2 swapped, 3 suspect), or
+/// the number of a refusal and 0.
+#[repr(C)]
+#[derive(Clone, Copy, Debug, PartialEq, Eq)]
+pub struct GateAnswer {
+    pub number: u32,
+    pub verdict: u32,
+}
+
+/// The value of a number text: 0 and the value, or 31 and the value 0.
+#[repr(C)]
+#[derive(Clone, Copy, Debug, PartialEq)]
+pub struct NumberAnswer {
+    pub number: u32,
+    pub value: f64,
+}
+
 extern "C" {
+    pub fn ixml_gate_box(
+        south: f64,
+        north: f64,
+        west: f64,
+        east: f64,
+        lat: *const u8,
+        lat_length: usize,
+        lon: *const u8,
+        lon_length: usize,
+    ) -> GateAnswer;
+    pub fn ixml_gate_band(
+        south: f64,
+        north: f64,
+        lat: *const u8,
+        lat_length: usize,
+        lon: *const u8,
+        lon_length: usize,
+    ) -> GateAnswer;
+    pub fn ixml_gate_anywhere(
+        lat: *const u8,
+        lat_length: usize,
+        lon: *const u8,
+        lon_length: usize,
+    ) -> GateAnswer;
+    pub fn ixml_number(text: *const u8, text_length: usize) -> NumberAnswer;
+
     pub fn ixml_check(grammar: *const u8, grammar_length: usize) -> Answer;
     pub fn ixml_category(code: u32) -> u32;
     pub fn ixml_read(

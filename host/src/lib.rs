@@ -16,6 +16,9 @@
 //! for their lengths. An [`Answer`] tells how a call went; [`Answer::ok`] turns
 //! it into a `Result` whose [`Error`] has a sentence for each refusal.
 //!
+//! [`Gate`] judges a position by the texts of its two attributes, and [`number`]
+//! gives the value of such a text.
+//!
 //! A call allocates nothing and needs no more than 1 MB of stack.
 
 mod answer;
@@ -23,6 +26,7 @@ mod calls;
 mod category;
 mod error;
 pub mod ffi;
+mod gate;
 pub mod limits;
 mod reader;
 
@@ -30,4 +34,5 @@ pub use answer::{Answer, Places};
 pub use calls::{check, convert, read};
 pub use category::{category, Category};
 pub use error::{Error, Quote};
+pub use gate::{number, Gate, GateError, Latitude, Longitude, Verdict};
 pub use reader::{Converted, Reader, Reading};

@@ -1,9 +1,10 @@
-//! The header and the example, by the C compiler.
+//! The headers and the examples, by the C compiler.
 
 use std::path::{Path, PathBuf};
 use std::process::{Command, Output};
 
-use ixml::{limits, Answer, Error};
+use ixml::ffi::{GateAnswer, NumberAnswer};
+use ixml::{limits, Answer, Error, GateError};
 
 const HOST: &str = env!("CARGO_MANIFEST_DIR");
 
@@ -24,7 +25,8 @@ fn compile(compiler: &[&str], source: &Path, program: &Path) {
         .args(["-Wall", "-Wextra", "-Wpedantic", "-Werror", "-I"])
         .arg(Path::new(HOST).join("../include"))
         .arg(source)
-        .args(["-x", "none", env!("IXML_ARCHIVE"), "-o"])
+        .args(["-x", "none"])
+        .args([env!("IXML_ARCHIVE"), env!("IXML_GATE_ARCHIVE"), "-o"])
         .arg(program));
     let complaints = String::from_utf8_lossy(&output.stderr);
     assert!(output.status.success(), "{complaints}");
@@ -113,19 +115,88 @@ fn program(assert: &str) -> String {
     )
 }
 
-#[test]
-fn the_header_agrees_with_the_wrapper() {
-    let languages: [(&str, &[&str], &str); 2] = [
-        ("header.c", &["cc", "-std=c11"], "_Static_assert"),
-        ("header.cc", &["c++", "-std=c++11"], "static_assert"),
+/// The same for the gate's header, which stands alone.
+fn gate_program(assert: &str) -> String {
+    let verdict = std::mem::offset_of!(GateAnswer, verdict);
+    let value = std::mem::offset_of!(NumberAnswer, value);
+    let facts = [
+        format!("sizeof(ixml_gate_answer) == {}", size_of::<GateAnswer>()),
+        format!("offsetof(ixml_gate_answer, verdict) == {verdict}"),
+        format!("sizeof(ixml_number_answer) == {}", size_of::<NumberAnswer>()),
+        format!("offsetof(ixml_number_answer, value) == {value}"),
+        "IXML_GATE_ANSWERED == 0 && IXML_NO_VERDICT == 0".to_string(),
+        format!("IXML_UNSOUND_GATE == {}", GateError::UnsoundGate.number()),
+        format!("IXML_NO_NUMBER == {}", GateError::NoNumber.number()),
+        format!("IXML_OUT_OF_RANGE == {}", GateError::OutOfRange.number()),
+        "IXML_INSIDE == 1 && IXML_SWAPPED == 2 && IXML_SUSPECT == 3".to_string(),
     ];
-    for (file, compiler, assert) in languages {
-        let source = temporary(file);
-        std::fs::write(&source, program(assert)).expect("a file");
-        let compiled = temporary(&format!("{file}.out"));
-        compile(compiler, &source, &compiled);
-        let status = run(&mut Command::new(compiled)).status;
-        assert_eq!(status.code(), Some(0), "{file}");
+    let facts: String = facts
+        .iter()
+        .map(|fact| format!("{assert}({fact}, \"{fact}\");\n"))
+        .collect();
+    format!(
+        "#include <ixml_gate.h>\n{facts}\
+         int main(void) {{\n\
+             const uint8_t lat[4] = {{'4', '5', '.', '5'}};\n\
+             const uint8_t lon[3] = {{'-', '1', '2'}};\n\
+             const ixml_gate_answer boxed = ixml_gate_box(45.5, 46, -12, -11, lat, 4, lon, 3);\n\
+             const ixml_gate_answer swapped = ixml_gate_box(-12, -11, 45, 45.5, lat, 4, lon, 3);\n\
+             const ixml_gate_answer band = ixml_gate_band(-12, -11, lat, 4, lon, 3);\n\
+             const ixml_gate_answer backward = ixml_gate_band(2, 1, lat, 4, lon, 3);\n\
+             const ixml_gate_answer anywhere = ixml_gate_anywhere(lat, 4, lon, 3);\n\
+             const ixml_gate_answer no_number = ixml_gate_anywhere(lat, 3, lon, 3);\n\
+             const ixml_number_answer half = ixml_number(lat, 4);\n\
+             const ixml_number_answer minus = ixml_number(lon, 3);\n\
+             const ixml_number_answer none = ixml_number(lon, 1);\n\
+             if (boxed.number != 0 || boxed.verdict != IXML_INSIDE) return 1;\n\
+             if (swapped.number != 0 || swapped.verdict != IXML_SWAPPED) return 2;\n\
+             if (band.number != 0 || band.verdict != IXML_SUSPECT) return 3;\n\
+             if (backward.number != IXML_UNSOUND_GATE || backward.verdict != 0) return 4;\n\
+             if (anywhere.number != 0 || anywhere.verdict != IXML_INSIDE) return 5;\n\
+             if (no_number.number != IXML_NO_NUMBER || no_number.verdict != 0) return 6;\n\
+             if (half.number != 0 || half.value != 45.5) return 7;\n\
+             if (minus.number != 0 || minus.value != -12.0) return 8;\n\
+             return none.number == IXML_NO_NUMBER && none.value == 0.0 ? 0 : 9;\n\
+         }}\n"
+    )
+}
+
+#[test]
+fn the_headers_agree_with_the_wrapper() {
+    let languages: [(&str, &[&str], &str); 2] = [
+        ("c", &["cc", "-std=c11"], "_Static_assert"),
+        ("cc", &["c++", "-std=c++11"], "static_assert"),
+    ];
+    for (ending, compiler, assert) in languages {
+        for (name, text) in [("header", program(assert)), ("gate", gate_program(assert))] {
+            let file = format!("{name}.{ending}");
+            let source = temporary(&file);
+            std::fs::write(&source, text).expect("a file");
+            let compiled = temporary(&format!("{file}.out"));
+            compile(compiler, &source, &compiled);
+            let status = run(&mut Command::new(compiled)).status;
+            assert_eq!(status.code(), Some(0), "{file}");
+        }
+    }
+}
+
+#[test]
+fn the_gate_example_judges_positions() {
+    let compiled = temporary("gate-example");
+    let source = Path::new(HOST).join("gate.c");
+    compile(&["cc", "-std=c99"], &source, &compiled);
+    let fields = ["44", "46.5", "11", "13"];
+    let cases: [(&[&str], &str, i32); 5] = [
+        (&["45.4375", "12.335"], "inside\n", 0),
+        (&["12.335", "45.4375"], "swapped\n", 1),
+        (&["45.4375", "-12.335"], "suspect\n", 1),
+        (&["45,4", "12.335"], "refused 31\n", 1),
+        (&["95.4375", "12.335"], "refused 32\n", 1),
+    ];
+    for (position, expected, status) in cases {
+        let output = run(Command::new(&compiled).args(fields).args(position));
+        let text = String::from_utf8(output.stdout).expect("text");
+        assert_eq!((&*text, output.status.code()), (expected, Some(status)));
     }
 }
 

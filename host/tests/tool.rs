@@ -71,6 +71,20 @@ fn vectors_of_category() {
     run_lines(vectors::categories().into_iter().map(line).collect());
 }
 
+#[test]
+fn vectors_of_gates() {
+    let lines = vectors::lines_of("gate", 5);
+    assert!(lines.len() > 800);
+    run_lines(lines);
+}
+
+#[test]
+fn vectors_of_numbers() {
+    let lines = vectors::lines_of("number", 2);
+    assert!(lines.len() > 200);
+    run_lines(lines);
+}
+
 fn hex(bytes: &[u8]) -> String {
     match bytes {
         [] => "-".to_string(),
@@ -165,6 +179,12 @@ fn lines_that_are_no_jobs_are_refused() {
         "check\t61\t-\t-1\t0\t0",
         "check\t61\t-\t0\t-16385\t0",
         "check\t61\t-\t0\t0\tx",
+        "gate\tbox\t-\t30\t30",
+        "gate\tband\t0,0,0\t30\t30",
+        "gate\tanywhere\tx\t30\t30",
+        "gate\tanywhere\t-\t3\t30",
+        "gate\tanywhere\t-\t30",
+        "number\tx",
     ];
     for line in wrong {
         let right = "check\t-\t-\t0\t0\t0";

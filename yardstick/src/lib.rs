@@ -3,12 +3,14 @@
 //! A grammar text and a record, both as bytes, give a reading (the left parse
 //! of one derivation) and its XML. The modules follow the order of a job:
 //! decode the texts, read the grammar, check it, reduce it to plain rules,
-//! parse the record, choose a reading, write the XML.
+//! parse the record, choose a reading, write the XML. The position gate stands
+//! apart.
 
 pub mod alphabet;
 pub mod category;
 pub mod charset;
 pub mod engine;
+pub mod gate;
 pub mod gen;
 pub mod limits;
 pub mod plain;

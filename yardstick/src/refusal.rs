@@ -12,7 +12,8 @@ pub struct Places {
 }
 
 /// The refusals in the order in which they are judged, which is not the order
-/// of their numbers: 24 stands right after 11, 29 right after 16.
+/// of their numbers: 24 stands right after 11, 29 right after 16. The last
+/// three are the gate's.
 #[derive(Clone, Copy, Debug, PartialEq, Eq, PartialOrd, Ord, Hash)]
 pub enum Refusal {
     GrammarTooLong,
@@ -42,6 +43,9 @@ pub enum Refusal {
     DeletedRoot,
     AttributeXmlns,
     ResultTooLong,
+    UnsoundGate,
+    NoNumber,
+    OutOfRange,
 }
 
 impl Refusal {
@@ -73,6 +77,9 @@ impl Refusal {
             Refusal::DeletedRoot => 21,
             Refusal::AttributeXmlns => 22,
             Refusal::ResultTooLong => 23,
+            Refusal::UnsoundGate => 30,
+            Refusal::NoNumber => 31,
+            Refusal::OutOfRange => 32,
         }
     }
 

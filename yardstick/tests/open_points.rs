@@ -1,4 +1,5 @@
-//! The settled points A.1 to A.36, one test each.
+//! The settled points A.1 to A.36, one test each, and those of the gate, A.80 to
+//! A.85.
 
 mod common;
 
@@ -6,6 +7,7 @@ use common::{
     ample, assert_check, assert_reading, assert_xml, check_number, convert_answer, doublings,
     read_answer, reading, xml, STATE,
 };
+use ixml_yardstick::gate::{judge, number, Gate, Verdict};
 use ixml_yardstick::limits::{GRAMMAR_TABLE, RECORD_CHARACTERS};
 use ixml_yardstick::{category, check, convert, program, read, statics, syntax};
 
@@ -585,4 +587,105 @@ fn a36_categories_outside_the_alphabet_are_not_known() {
     }
     assert!((0..=0x17F).all(|code| category(code).is_some()));
     assert_eq!(reading("a: [Lu].", "A"), "0");
+}
+
+/// A gate around 45 degrees north and 12 degrees east.
+const FIELDS: Gate = Gate::Box {
+    latitude: [44.0, 46.0],
+    longitude: [11.0, 13.0],
+};
+
+/// The verdict on two texts, or the number of the refusal.
+fn ruling(gate: Gate, latitude: &str, longitude: &str) -> Result<Verdict, u32> {
+    judge(gate, latitude.as_bytes(), longitude.as_bytes()).map_err(|refusal| refusal.number())
+}
+
+#[test]
+fn a80_30_then_31_then_32() {
+    let backward = Gate::Band {
+        latitude: [2.0, 1.0],
+    };
+    assert_eq!(ruling(backward, "x", "x"), Err(30));
+    assert_eq!(ruling(FIELDS, "x", "181"), Err(31));
+    assert_eq!(ruling(FIELDS, "91", "12."), Err(31));
+    assert_eq!(ruling(FIELDS, "91", "12"), Err(32));
+    assert_eq!(ruling(FIELDS, "90", "180"), Ok(Verdict::Suspect));
+}
+
+#[test]
+fn a81_limits_beyond_90_and_180_are_no_refusal() {
+    let wide = Gate::Box {
+        latitude: [-400.0, 400.0],
+        longitude: [-400.0, 400.0],
+    };
+    assert_eq!(ruling(wide, "45", "12"), Ok(Verdict::Inside));
+    assert_eq!(ruling(wide, "400", "12"), Err(32));
+    let infinite = Gate::Band {
+        latitude: [f64::NEG_INFINITY, 90.0],
+    };
+    assert_eq!(ruling(infinite, "45", "12"), Err(30));
+    let unordered = Gate::Band {
+        latitude: [f64::NAN, f64::NAN],
+    };
+    assert_eq!(ruling(unordered, "45", "12"), Err(30));
+}
+
+#[test]
+fn a82_minus_zero_compares_as_zero() {
+    let equator = Gate::Band {
+        latitude: [0.0, -0.0],
+    };
+    assert_eq!(ruling(equator, "-0", "0"), Ok(Verdict::Inside));
+    assert_eq!(ruling(equator, "0.000", "0"), Ok(Verdict::Inside));
+    assert_eq!(number(b"-0").map(f64::to_bits), Some((-0.0_f64).to_bits()));
+}
+
+#[test]
+fn a83_an_exchanged_latitude_beyond_90_is_not_inside() {
+    let strip = Gate::Box {
+        latitude: [80.0, 120.0],
+        longitude: [0.0, 20.0],
+    };
+    assert_eq!(ruling(strip, "10", "85"), Ok(Verdict::Swapped));
+    assert_eq!(ruling(strip, "10", "90"), Ok(Verdict::Swapped));
+    assert_eq!(ruling(strip, "10", "100"), Ok(Verdict::Suspect));
+}
+
+#[test]
+fn a84_band_and_anywhere_never_say_swapped() {
+    let band = Gate::Band {
+        latitude: [44.0, 46.0],
+    };
+    assert_eq!(ruling(FIELDS, "12", "45"), Ok(Verdict::Swapped));
+    assert_eq!(ruling(band, "12", "45"), Ok(Verdict::Suspect));
+    assert_eq!(ruling(Gate::Anywhere, "12", "45"), Ok(Verdict::Inside));
+}
+
+#[test]
+fn a85_number_texts() {
+    for text in ["0", "007", "-180.000000001", "999.999999999", "-0.1"] {
+        assert_eq!(number(text.as_bytes()), text.parse().ok(), "{text}");
+    }
+    for text in [
+        "",
+        "-",
+        "+1",
+        "--1",
+        "1000",
+        ".5",
+        "-.5",
+        "1.",
+        "1.0000000000",
+        "1e1",
+        " 1",
+        "1 ",
+        "1,5",
+        "inf",
+        "NaN",
+        "١",
+    ] {
+        assert_eq!(number(text.as_bytes()), None, "{text}");
+    }
+    assert_eq!(number(b"1\n"), None);
+    assert_eq!(number(b"1\xFF"), None);
 }

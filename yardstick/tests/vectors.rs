@@ -1,5 +1,6 @@
 //! Every line of the shared test vectors.
 
+use ixml_yardstick::gate::{self, Gate, Verdict};
 use ixml_yardstick::limits::GRAMMAR_TABLE;
 use ixml_yardstick::{category, check, convert, program, read, Answer, Places};
 
@@ -110,5 +111,52 @@ fn categories() {
         let code = line[1].parse().unwrap();
         let name = category(code).map_or("-", |known| known.code());
         assert_eq!(name, line[2], "{code:#x}");
+    }
+}
+
+/// The doubles of a column, each by its bits in hex.
+fn doubles(column: &str) -> Vec<f64> {
+    let double = |bits| f64::from_bits(u64::from_str_radix(bits, 16).unwrap());
+    column
+        .split(',')
+        .filter(|bits| *bits != "-")
+        .map(double)
+        .collect()
+}
+
+#[test]
+fn gates() {
+    let lines = lines(&["gate"]);
+    assert!(lines.len() > 800);
+    for line in &lines {
+        let limits = doubles(&line[2]);
+        let gate = match (line[1].as_str(), limits.as_slice()) {
+            ("box", &[south, north, west, east]) => Gate::Box {
+                latitude: [south, north],
+                longitude: [west, east],
+            },
+            ("band", &[south, north]) => Gate::Band {
+                latitude: [south, north],
+            },
+            ("anywhere", []) => Gate::Anywhere,
+            _ => panic!("{line:?}"),
+        };
+        let (number, verdict) = match gate::judge(gate, &bytes(&line[3]), &bytes(&line[4])) {
+            Ok(Verdict::Inside) => (0, "inside"),
+            Ok(Verdict::Swapped) => (0, "swapped"),
+            Ok(Verdict::Suspect) => (0, "suspect"),
+            Err(refusal) => (refusal.number(), "-"),
+        };
+        assert_eq!([&number.to_string(), verdict], line[5..], "{line:?}");
+    }
+}
+
+#[test]
+fn numbers() {
+    let lines = lines(&["number"]);
+    assert!(lines.len() > 200);
+    for line in &lines {
+        let value = gate::number(&bytes(&line[1])).map(|value| format!("{:016x}", value.to_bits()));
+        assert_eq!(value.as_deref().unwrap_or("-"), line[2], "{line:?}");
     }
 }

@@ -46,6 +46,13 @@ pub fn categories() -> Vec<(u32, String)> {
     lines("category").into_iter().map(category).collect()
 }
 
+/// The vectors of gates, or of number texts: what the tool that runs calls reads,
+/// and what it must write.
+pub fn lines_of(call: &str, given: usize) -> Vec<(String, String)> {
+    let line = |fields: Vec<String>| (fields[..given].join("\t"), fields[given..].join("\t"));
+    lines(call).into_iter().map(line).collect()
+}
+
 /// The vectors of the program.
 pub fn runs() -> Vec<Run> {
     let run = |fields: Vec<String>| {

@@ -5,8 +5,10 @@
 //! has what it answers, in eight columns, and a ninth with the word `touched` if
 //! the call changed a cell that is not its result's. The last three of the eight
 //! are the places. A line for the category call is answered
-//! by the category's letters alone.
+//! by the category's letters alone, one for a gate by the number and the verdict,
+//! one for a number text by the bits of its value.
 
+mod gate;
 mod lent;
 
 use std::fmt::Write as _;
@@ -60,12 +62,17 @@ enum Call {
 
 /// The answer to a line of input.
 fn answer(line: &str) -> Result<String, String> {
-    match line.strip_prefix("category\t") {
-        Some(fields) => {
-            let code = number(fields.split('\t').next().unwrap_or_default())?;
+    let fields: Vec<&str> = line.split('\t').collect();
+    match fields[..] {
+        ["category", code, ..] => {
+            let code = number(code)?;
             Ok(ixml::category(code).map_or("-".to_string(), |known| known.to_string()))
         }
-        None => Ok(Job::parse(line)?.run()),
+        ["gate", kind, limits, lat, lon, ..] => {
+            gate::ruling(kind, limits, &bytes(lat)?, &bytes(lon)?)
+        }
+        ["number", text, ..] => Ok(gate::value(&bytes(text)?)),
+        _ => Ok(Job::parse(line)?.run()),
     }
 }
 

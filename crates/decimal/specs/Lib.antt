@@ -1,0 +1,5 @@
+pub mod Number
+pub mod Value
+pub mod Compute
+pub mod Nearest
+pub mod Laws

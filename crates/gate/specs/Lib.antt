@@ -1,0 +1,4 @@
+pub mod Gate
+pub mod Compute
+pub mod Calls
+pub mod Laws
