@@ -9,6 +9,7 @@ use Rattle.text.specs.Lists.{Text}
 use Rattle.tree.specs.Tree.{Terminal, Symbol, terminal, Grammar}
 use Rattle.plain.specs.Plain.{alts, fits, width, ruled}
 use Rattle.derive.specs.Derive.{alternative, root}
+use Rattle.derive.specs.Bound.{symbolsOf}
 
 -- The numbers of the dot position p. Kind: 0 the end of an alternative, 1 before a terminal, 2 before a symbol with alternatives.
 abbrev pub nextKind : List ℕ → ℕ → ℕ
@@ -99,6 +100,9 @@ pub record Ruled (At : ℕ → Terminal → Type 0) (c : List ℕ) (g : Grammar)
   -- the symbols that have a rule, and the ends that name one
   pub every : (s : Symbol) → In s (ruled g) → (e : ℕ) × RuleOf c g dots heads s e
   pub only : (e : ℕ) → e < size → nextKind c e ≡ 0 → goesAt c e ≡ 0 → In (headOf g heads e) (ruled g)
+  -- what stands after a dot are symbols of the plain rules, of which there are few
+  pub within : (p : ℕ) → p < size → (s : Symbol) → In s (afterDot dots p) → In s (symbolsOf g)
+  pub few : length (symbolsOf g) ≤ 4 * size + 1
 
 -- c and f are the code of the grammar g on the record r; the root's rule is named top and begins at first
 pub record Coded (c f : List ℕ) (g : Grammar) (r : Text) (size top first : ℕ) : Type 0 where

@@ -198,3 +198,12 @@ module _ (g : Grammar) where
 
   pub ruled-of : {s : Symbol} → In s (ruled g) → (a : ℕ) → Inside (alternative g s a)
   ruled-of {s} h a = inside-get (alts g s) (ruled-inside h) a
+
+  -- the same, symbol by symbol
+  pub inside-in : {s : Symbol} (ss : List Symbol) → Inside ss → In s ss → In s (symbolsOf g)
+  inside-in {s} (x ∷ ss) h (in-head e) = subst (λ (z : Symbol). In z (symbolsOf g)) (sym e) (h .0)
+  inside-in (x ∷ ss) h (in-tail m) = inside-in ss (h .1) m
+
+  pub in-inside : (ss : List Symbol) → ((s : Symbol) → In s ss → In s (symbolsOf g)) → Inside ss
+  in-inside [] h = tt
+  in-inside (x ∷ ss) h = (h x (in-head refl), in-inside ss (λ s m. h s (in-tail m)))

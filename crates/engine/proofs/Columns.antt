@@ -7,10 +7,11 @@ use native.Mathlib.Omega.{arith}
 use lib.ListN.{getD}
 use Rattle.chart.specs.Code.{nextKind, ruleAt, goesAt}
 use Rattle.chart.specs.Heights.{cellAt, none}
-use Rattle.engine.specs.Table.{cellOf, valueOf, splitOf, Shape}
-use Rattle.engine.specs.Sweep.{Steps, stay, Only, Ahead, EndsAt, Any, Settled, Closed, Spread, Given, Bare, ColumnFrom, Before}
-use Rattle.engine.proofs.Values.{value-gap, value-cell, up-none}
-use Rattle.engine.proofs.Lowering.{steps-join, steps-widen, steps-same, value-same, split-same}
+use Rattle.heights.specs.Table.{cellOf, valueOf, splitOf, Shape}
+use Rattle.heights.specs.Filling.{Steps, stay, Only, EndsAt, Any, Settled, Closed, Before}
+use Rattle.engine.specs.Sweep.{Ahead, Spread, Given, Bare, ColumnFrom}
+use Rattle.heights.proofs.Values.{value-gap, value-cell, up-none}
+use Rattle.heights.proofs.Lowering.{steps-join, steps-widen, steps-same, value-same, split-same}
 use Rattle.engine.proofs.Spreading.{on-kept}
 
 -- a stretch with no value so far

@@ -1,9 +1,4 @@
-pub mod Cells
-pub mod Lowering
-pub mod Values
 pub mod Kept
 pub mod Relaxing
 pub mod Spreading
 pub mod Columns
-pub mod Small
-pub mod Exact

@@ -8,10 +8,11 @@ use lib.ListN.{length, getD, set}
 use lib.Seq.{getD-set-same, getD-set-other, set-getD}
 use Rattle.chart.specs.Code.{nextKind, goesAt, ruleAt, fitsAt}
 use Rattle.chart.specs.Heights.{cellAt}
-use Rattle.engine.specs.Table.{cellOf, valueOf, upOf, splitOf, Room, Shape, Place}
-use Rattle.engine.specs.Sweep.{Steps, stay, step, by-terminal, by-split, Ahead, Settled, Lowered, lowered, kept, HandedOn, Spread, Idle, idle-end, idle-none, NextRest}
-use Rattle.engine.proofs.Cells.{in-room, rule-place}
-use Rattle.engine.proofs.Lowering.{in-range, steps-join, steps-le, value-same, split-same}
+use Rattle.heights.specs.Table.{cellOf, valueOf, upOf, splitOf, Room, Shape, Place}
+use Rattle.heights.specs.Filling.{Steps, stay, step, by-terminal, by-split, Settled}
+use Rattle.engine.specs.Sweep.{Ahead, Lowered, lowered, kept, HandedOn, Spread, Idle, idle-end, idle-none, NextRest}
+use Rattle.heights.proofs.Cells.{in-room, rule-place}
+use Rattle.heights.proofs.Lowering.{in-range, steps-join, steps-le, value-same, split-same}
 
 -- nothing to hand on
 module _ (c f : List ℕ) (n m j : ℕ) (t : List ℕ) (p : ℕ) where

@@ -1,5 +1,5 @@
 -- The items of a block: what is after each dot, where alternatives begin, and the chain of a rule's alternatives.
-use mathlib.Core.List.{List, [], _∷_, _++_}
+use mathlib.Core.List.{List, [], _∷_, _++_, List·Memᴰ as In, List·Memᴰ·tail as in-tail}
 use mathlib.Core.Logic.{_⊎_, inl, inr, ⊎-elim}
 use mathlib.Core.Path.{_≡_, refl, sym, ap, _∙_, subst}
 use Prim.Native.Nat.{ℕ, zero, suc, _+_, _*_, _-_, _<_, _≤_}
@@ -34,6 +34,18 @@ suffix-head (s ∷ ss) more = refl
 pub layout-count : (ts : List (List Symbol)) → length (layout ts) ≡ weight ts
 layout-count [] = refl
 layout-count (ss ∷ ts) = omega (arith, length-append (suffixes ss) (layout ts), suffix-count ss, layout-count ts)
+
+-- what holds of all symbols of some alternatives holds of those after any dot in them
+suffixes-in : (P : Symbol → Type 0) (ss : List Symbol) (more : List (List Symbol)) → ((s : Symbol) → In s ss → P s) → ((k : ℕ) (s : Symbol) → In s (getD more k []) → P s)
+    → (k : ℕ) (s : Symbol) → In s (getD (suffixes ss ++ more) k []) → P s
+suffixes-in P [] more h f zero s m = elim m [ ]
+suffixes-in P [] more h f (suc k) s m = f k s m
+suffixes-in P (x ∷ ss) more h f zero s m = h s m
+suffixes-in P (x ∷ ss) more h f (suc k) s m = suffixes-in P ss more (λ y i. h y (in-tail i)) f k s m
+
+pub layout-in : (P : Symbol → Type 0) (ts : List (List Symbol)) → ((a : ℕ) (s : Symbol) → In s (getD ts a []) → P s) → (k : ℕ) (s : Symbol) → In s (getD (layout ts) k []) → P s
+layout-in P [] h k s m = elim m [ ]
+layout-in P (ss ∷ ts) h k s m = suffixes-in P ss (layout ts) (λ y i. h 0 y i) (layout-in P ts (λ a y i. h (suc a) y i)) k s m
 
 pub mark-kind : (m : Mark) → (2 ≤ markKind m) × (markKind m ≤ 4)
 mark-kind unmarked = omega arith

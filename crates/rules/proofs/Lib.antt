@@ -1,4 +1,5 @@
 pub mod Arrays
+pub mod Counts
 pub mod Dots
 pub mod Numbers
 pub mod Whole

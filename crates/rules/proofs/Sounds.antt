@@ -115,4 +115,4 @@ all-sound g p b c x i =
 -- from what is built and what the static rules say
 pub ready : {T : List ℕ} {g : Grammar} {root : ℕ} → Built T g root → ProperRules (rules g) → duplicate g ≡ false → beyond g ≡ false
     → unclassed g ≡ false → Ready T g (size g) root
-ready {g = g} w p d b c = record { built = w; simple = d; sound = all-sound g p b c; count = refl }
+ready {g = g} w p d b c = record { built = w; simple = d; proper = p; sound = all-sound g p b c; count = refl }

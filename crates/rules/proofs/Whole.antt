@@ -18,7 +18,9 @@ use Rattle.tree.specs.Tokens.{encode, terminalTokens}
 use Rattle.plain.specs.Plain.{alts, weight, width, fits, ruleMark, over}
 use Rattle.plain.specs.Plain as plain
 use Rattle.plain.specs.Written.{kind, made, atom}
-use Rattle.derive.specs.Derive.{root}
+use Rattle.derive.specs.Derive.{alternative, root}
+use Rattle.derive.specs.Bound.{symbolsOf}
+use Rattle.derive.proofs.Symbols.{inside-in, ruled-of}
 use Rattle.items.specs.Items.{kindAt, targetAt, tokenAt, Starts, Among, Stands, st-terminal, st-name, st-made, Reads, markKind}
 use Rattle.items.specs.Built.{Cover}
 use Rattle.chart.specs.Code.{afterDot, headOf, Chain, Owned, Ruled, ownerAt, goesAt, ruleAt, fitsAt, flag, at-end, at-terminal, at-symbol}
@@ -28,10 +30,11 @@ use Rattle.terminals.specs.Places.{TerminalAt, TerminalHere}
 use Rattle.tokens.specs.Lengths.{widthAt}
 use Rattle.rules.specs.Ready.{Last, ownerOf, Owners, nextKindOf, goesOf, ruleOf, Reach, Reaches, Codes, Ready, Token}
 use Rattle.terminals.proofs.Places.{term-two, width-is}
-use Rattle.rules.proofs.Dots.{layout, layout-count, Place, pl-end, pl-item, stands-kind, mark-kind, alts-place, alts-inner, alts-last, alts-some, alts-begins, Linked, chain-law}
+use Rattle.rules.proofs.Dots.{layout, layout-count, layout-in, Place, pl-end, pl-item, stands-kind, mark-kind, alts-place, alts-inner, alts-last, alts-some, alts-begins, Linked, chain-law}
 use Rattle.rules.proofs.Numbers.{tab, tab-count, tab-at, Begin, owner-begin, owner-inner, owner-inv, whole, some-tokens, made-not}
 use Rattle.rules.proofs.Numbers.{kind-end, kind-symbol, kind-terminal, goes-terminal, goes-symbol, goes-on, goes-no}
 use Rattle.rules.proofs.Numbers.{rule-symbol}
+use Rattle.rules.proofs.Counts.{symbols-few}
 
 -- the blocks of the items
 module _ {T : List ℕ} {g : Grammar} {size first : ℕ} (r : Ready T g size first) where
@@ -317,6 +320,11 @@ module _ {T : List ℕ} {g : Grammar} {size first : ℕ} (r : Ready T g size fir
     only-by e z = subst (λ (s : Symbol). In s (plain.ruled g)) (sym (ap (headOf g heads) (z .at) ∙ head-is (z .x) (z .s) (z .among) (z .k) (z .inner)))
         (r .built .blocks .only (z .x) (z .s) (z .among))
 
+    within-by : (p : ℕ) → DottedRule p → (s : Symbol) → In s (afterDot dots p) → In s (symbolsOf g)
+    within-by p z s m = layout-in (λ (x : Symbol). In x (symbolsOf g)) (alts g (z .s))
+        (λ a x i. inside-in g (alternative g (z .s) a) (ruled-of g (r .built .blocks .only (z .x) (z .s) (z .among)) a) i) (z .k) s
+        (subst (λ (ss : List Symbol). In s ss) (ap (afterDot dots) (z .at) ∙ dot-is (z .x) (z .s) (z .among) (z .k) (z .inner)) m)
+
     pub coded-rules : (top : ℕ) → top ≡ ownerAt c first - 1 → Ruled (Token T) c g size top first
     coded-rules top e =
         let d : top ≡ end first (root g) (r .built .items .begins) = e ∙ top-is in
@@ -333,4 +341,6 @@ module _ {T : List ℕ} {g : Grammar} {size first : ℕ} (r : Ready T g size fir
           root-inside = rw d (end-below first (root g) (r .built .items .begins));
           every = λ s m. (let v = r .built .blocks .every s m in (end (v .0) s (v .1), rule-of s (v .0) (v .1)));
           only = λ p h k q. only-by p (dotted-rule p h);
+          within = λ p h s m. within-by p (dotted-rule p h) s m;
+          few = omega (arith, symbols-few g (r .proper), r .count);
         }

@@ -8,7 +8,7 @@ use lib.Dec.{ltb, eqb}
 use lib.ListN.{length, getD}
 use Rattle.text.specs.Limits.{mostSize, grammarTable}
 use Rattle.text.specs.Lists.{pick}
-use Rattle.tree.specs.Tree.{Terminal, Grammar}
+use Rattle.tree.specs.Tree.{Terminal, Grammar, rules}
 use Rattle.plain.specs.Written.{terminals}
 use Rattle.plain.specs.Static.{duplicate}
 use Rattle.plain.specs.Plain as plain
@@ -18,6 +18,7 @@ use Rattle.chart.specs.Code.{ownerAt}
 use Rattle.terminals.specs.Sound.{SoundTerminal}
 use Rattle.terminals.specs.Places.{TerminalAt}
 use Rattle.tokens.specs.Lengths.{widthAt}
+use Rattle.tokens.specs.Proper.{ProperRules}
 
 -- the first item from p on that ends a rule
 pub record Last (T : List ℕ) (p e : ℕ) : Type 0 where
@@ -84,6 +85,7 @@ pub record Codes (T : List ℕ) (size : ℕ) (c c' : List ℕ) : Type 0 where
 pub record Ready (T : List ℕ) (g : Grammar) (size root : ℕ) : Type 0 where
   pub built : Built T g root
   pub simple : duplicate g ≡ false
+  pub proper : ProperRules (rules g)
   pub sound : (x : Terminal) → In x (terminals g) → SoundTerminal x
   pub count : size ≡ plain.size g
 

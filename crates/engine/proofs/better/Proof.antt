@@ -1,5 +1,5 @@
 use native.Mathlib.Omega.{arith}
-use Rattle.engine.proofs.Values.{up-above, up-is}
+use Rattle.heights.proofs.Values.{up-above, up-is}
 use borrow.Author.Needs.{needs}
 use Rattle.engine.proofs.better.Statement.{statement}
 use Rattle.engine.proofs.better.Tie as tie

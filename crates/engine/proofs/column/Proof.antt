@@ -2,7 +2,8 @@ use mathlib.Core.Path.{_≡_, refl, subst, _∙_}
 use Prim.Native.Nat.{ℕ, _+_, _≤_}
 use native.Mathlib.Omega.{arith}
 use lib.ListN.{length}
-use Rattle.engine.specs.Sweep.{Settled, EndsAt, ColumnFrom}
+use Rattle.heights.specs.Filling.{Settled, EndsAt}
+use Rattle.engine.specs.Sweep.{ColumnFrom}
 use Rattle.engine.proofs.Columns.{column-start, column-next, column-bare}
 use Rattle.engine.proofs.column.Statement.{statement}
 use Rattle.engine.proofs.column.Tie as tie

@@ -3,11 +3,11 @@ use Prim.Native.Nat.{_+_, _-_, _≤_}
 use native.Mathlib.Omega.{arith}
 use lib.ListN.{length}
 use borrow.Author.Needs.{needs}
-use Rattle.engine.specs.Sweep.{Settled, Any, Before}
+use Rattle.heights.specs.Filling.{Settled, Any, Before}
 use Rattle.chart.proofs.Cells.{square-fits, rows-fit}
 use Rattle.engine.proofs.Columns.{all-start, all-next}
 use Rattle.chart.proofs.Users.{all-zero}
-use Rattle.engine.proofs.Exact.{filled}
+use Rattle.heights.proofs.Exact.{filled}
 use Rattle.engine.proofs.fill.Statement.{statement}
 use Rattle.engine.proofs.fill.Tie as tie
 

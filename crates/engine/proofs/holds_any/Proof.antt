@@ -3,8 +3,8 @@ use mathlib.Core.Path.{_≡_}
 use native.Mathlib.Omega.{arith}
 use borrow.Author.Needs.{needs}
 use Rattle.chart.specs.Heights.{none}
-use Rattle.engine.specs.Table.{cellOf}
-use Rattle.engine.proofs.Cells.{at-room}
+use Rattle.heights.specs.Table.{cellOf}
+use Rattle.heights.proofs.Cells.{at-room}
 use Rattle.engine.proofs.Columns.{bare-next}
 use Rattle.engine.proofs.holds_any.Statement.{statement}
 use Rattle.engine.proofs.holds_any.Tie as tie

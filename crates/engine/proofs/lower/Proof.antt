@@ -4,7 +4,7 @@ use native.Mathlib.Omega.{arith}
 use lib.ListN.{set}
 use Rattle.chart.specs.Heights.{cellAt}
 use Rattle.engine.specs.Sweep.{Lowered, lowered, kept}
-use Rattle.engine.proofs.Cells.{at-room}
+use Rattle.heights.proofs.Cells.{at-room}
 use borrow.Author.Needs.{needs}
 use Rattle.engine.proofs.lower.Statement.{statement}
 use Rattle.engine.proofs.lower.Tie as tie

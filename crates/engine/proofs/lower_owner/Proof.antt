@@ -2,7 +2,7 @@ use Prim.Native.Nat.{_+_, _*_, _-_}
 use native.Mathlib.Omega.{arith}
 use Rattle.chart.specs.Code.{ownerAt}
 use Rattle.engine.specs.Sweep.{free}
-use Rattle.engine.proofs.Cells.{owner-place}
+use Rattle.heights.proofs.Cells.{owner-place}
 use Rattle.engine.proofs.Relaxing.{lower-owner-low, lower-owner-same}
 use borrow.Author.Needs.{needs}
 use Rattle.engine.proofs.lower_owner.Statement.{statement}

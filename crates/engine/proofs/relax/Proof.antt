@@ -1,5 +1,5 @@
 use mathlib.Core.Path.{subst, sym}
-use Rattle.engine.specs.Table.{Shape}
+use Rattle.heights.specs.Table.{Shape}
 use Rattle.engine.proofs.Kept.{relaxed}
 use borrow.Author.Needs.{needs}
 use Rattle.engine.proofs.relax.Statement.{statement}

@@ -1,9 +1,10 @@
 use mathlib.Core.Path.{_≡_, refl, _∙_}
 use native.Mathlib.Omega.{arith}
 use lib.ListN.{length}
-use Rattle.engine.specs.Table.{Safe}
-use Rattle.engine.specs.Sweep.{Steps, stay, Only, AllHeld, potential}
-use Rattle.engine.proofs.Lowering.{steps-join}
+use Rattle.heights.specs.Table.{Safe}
+use Rattle.heights.specs.Filling.{Steps, stay, Only}
+use Rattle.engine.specs.Sweep.{AllHeld, potential}
+use Rattle.heights.proofs.Lowering.{steps-join}
 use Rattle.engine.proofs.Relaxing.{settled}
 use Rattle.engine.proofs.settle.Statement.{statement}
 use Rattle.engine.proofs.settle.Tie as tie

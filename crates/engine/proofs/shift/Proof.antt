@@ -1,4 +1,4 @@
-use Rattle.engine.proofs.Cells.{next-place}
+use Rattle.heights.proofs.Cells.{next-place}
 use native.Mathlib.Omega.{arith}
 use borrow.Author.Needs.{needs}
 use Rattle.engine.proofs.shift.Statement.{statement}

@@ -1,7 +1,7 @@
 use Prim.Native.Nat.{_+_, _*_}
 use native.Mathlib.Omega.{arith}
-use Rattle.engine.proofs.Cells.{at-room, next-place, rule-place}
-use Rattle.engine.proofs.Values.{split-none, split-some}
+use Rattle.heights.proofs.Cells.{at-room, next-place, rule-place}
+use Rattle.heights.proofs.Values.{split-none, split-some}
 use borrow.Author.Needs.{needs}
 use Rattle.engine.proofs.split.Statement.{statement}
 use Rattle.engine.proofs.split.Tie as tie

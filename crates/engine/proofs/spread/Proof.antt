@@ -3,7 +3,8 @@ use Prim.Native.Nat.{_-_, _<_, _≤_}
 use native.Mathlib.Omega.{arith}
 use lib.ListN.{length}
 use Rattle.chart.specs.Code.{nextKind}
-use Rattle.engine.specs.Sweep.{Settled, Ahead, Spread}
+use Rattle.heights.specs.Filling.{Settled}
+use Rattle.engine.specs.Sweep.{Ahead, Spread}
 use Rattle.engine.proofs.Spreading.{spread-start, spread-next}
 use borrow.Author.Needs.{needs}
 use Rattle.engine.proofs.spread.Statement.{statement}

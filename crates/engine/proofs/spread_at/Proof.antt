@@ -1,6 +1,6 @@
 use native.Mathlib.Omega.{arith}
-use Rattle.engine.specs.Sweep.{stay}
-use Rattle.engine.proofs.Cells.{next-place}
+use Rattle.heights.specs.Filling.{stay}
+use Rattle.heights.proofs.Cells.{next-place}
 use Rattle.engine.proofs.Spreading.{other-on}
 use borrow.Author.Needs.{needs}
 use Rattle.engine.proofs.spread_at.Statement.{statement}

@@ -2,7 +2,7 @@ use mathlib.Core.Path.{_≡_, refl, _∙_}
 use Prim.Native.Nat.{_+_, _*_, _-_, _≤_}
 use native.Mathlib.Omega.{arith}
 use lib.ListN.{length, length-set}
-use Rattle.engine.specs.Sweep.{stay}
+use Rattle.heights.specs.Filling.{stay}
 use Rattle.engine.proofs.Spreading.{SpreadBelow, own-cell, rule-cell, symbol-turn, symbol-end}
 use borrow.Author.Needs.{needs}
 use Rattle.engine.proofs.spread_symbol.Statement.{statement}

@@ -2,7 +2,7 @@ use mathlib.Core.Path.{_≡_, subst}
 use Prim.Native.Nat.{ℕ, _+_, _*_, _-_}
 use native.Mathlib.Omega.{arith}
 use Rattle.chart.specs.Code.{goesAt, fitsAt}
-use Rattle.engine.specs.Sweep.{stay}
+use Rattle.heights.specs.Filling.{stay}
 use Rattle.engine.proofs.Spreading.{astray-on, terminal-end}
 use borrow.Author.Needs.{needs}
 use Rattle.engine.proofs.spread_terminal.Statement.{statement}

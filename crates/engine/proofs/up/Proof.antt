@@ -1,5 +1,5 @@
 use mathlib.Core.Path.{sym}
-use Rattle.engine.proofs.Values.{up-is, up-none}
+use Rattle.heights.proofs.Values.{up-is, up-none}
 use borrow.Author.Needs.{needs}
 use Rattle.engine.proofs.up.Statement.{statement}
 use Rattle.engine.proofs.up.Tie as tie

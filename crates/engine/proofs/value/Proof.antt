@@ -2,8 +2,8 @@ use mathlib.Core.Path.{sym, ap, _∙_}
 use Prim.Native.Nat.{ℕ}
 use native.Mathlib.Omega.{arith}
 use lib.ListN.{getD}
-use Rattle.engine.proofs.Cells.{at-room}
-use Rattle.engine.proofs.Values.{value-end, value-gap, value-cell}
+use Rattle.heights.proofs.Cells.{at-room}
+use Rattle.heights.proofs.Values.{value-end, value-gap, value-cell}
 use borrow.Author.Needs.{needs}
 use Rattle.engine.proofs.value.Statement.{statement}
 use Rattle.engine.proofs.value.Tie as tie

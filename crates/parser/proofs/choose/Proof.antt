@@ -1,6 +1,6 @@
 use native.Mathlib.Omega.{arith}
 use mathlib.Core.Path.{refl}
-use Rattle.engine.proofs.Exact.{safe}
+use Rattle.heights.proofs.Exact.{safe}
 use borrow.Author.Needs.{needs}
 use Rattle.parser.proofs.choose.Statement.{statement}
 use Rattle.parser.proofs.choose.Tie as tie

@@ -10,17 +10,17 @@ use lib.Dec.{ltb}
 use borrow.Author.Tests.{lt-ltb, le-ltb}
 use Rattle.chart.specs.Code.{ruleAt, flag}
 use Rattle.chart.specs.Heights.{cellAt, stretches, none}
-use Rattle.engine.specs.Table.{cellOf, valueOf, Shape, Place}
-use Rattle.engine.specs.Sweep.{Gives, by-terminal, by-split, by-owned, Steps, stay, step}
-use Rattle.engine.proofs.Cells.{in-room, next-place, rule-place}
-use Rattle.engine.proofs.Lowering.{in-range, set-le, steps-le}
-use Rattle.engine.proofs.Values.{Value, v-end, v-none, v-cell, value-is, up-is, up-low}
+use Rattle.heights.specs.Table.{cellOf, valueOf, Shape, Place}
+use Rattle.heights.specs.Filling.{Gives, by-terminal, by-split, by-owned, Steps, stay, step}
+use Rattle.heights.proofs.Cells.{in-room, next-place, rule-place}
+use Rattle.heights.proofs.Lowering.{in-range, set-le, steps-le}
+use Rattle.heights.proofs.Values.{Value, v-end, v-none, v-cell, value-is, up-is, up-low}
 
 -- how many of the first k cells have a height
-abbrev heighted : ℕ → ℕ
+abbrev pub heighted : ℕ → ℕ
 heighted h = flag (ltb h none)
 
-abbrev count : List ℕ → ℕ → ℕ
+abbrev pub count : List ℕ → ℕ → ℕ
 count t zero = 0
 count t (suc k) = count t k + heighted (getD t k 0)
 
@@ -36,7 +36,7 @@ grows a b l = elim (decLt a none) as (λ _. heighted a ≤ heighted b) [
   | no h ↦ omega (arith, nil a (omega arith))
 ]
 
-count-le : (t : List ℕ) (k : ℕ) → count t k ≤ k
+pub count-le : (t : List ℕ) (k : ℕ) → count t k ≤ k
 count-le t zero = omega arith
 count-le t (suc k) = elim (decLt (getD t k 0) none) as (λ _. count t (suc k) ≤ suc k) [
   | yes h ↦ omega (arith, count-le t k, one (getD t k 0) h)
@@ -48,7 +48,7 @@ module _ (t u : List ℕ) (low : (x : ℕ) → getD u x 0 ≤ getD t x 0) where
   count-grows zero = omega arith
   count-grows (suc k) = omega (arith, count-grows k, grows (getD t k 0) (getD u k 0) (low k))
 
-  count-more : (x k : ℕ) → x < k → none ≤ getD t x 0 → getD u x 0 < none → suc (count t k) ≤ count u k
+  pub count-more : (x k : ℕ) → x < k → none ≤ getD t x 0 → getD u x 0 < none → suc (count t k) ≤ count u k
   count-more x zero h a b = absurd (omega arith)
   count-more x (suc k) h a b = elim (ℕ-discrete x k) as (λ _. suc (count t (suc k)) ≤ count u (suc k)) [
     | yes e ↦ (let a' : none ≤ getD t k 0 = rw e at a in let b' : getD u k 0 < none = rw e at b in omega (arith, count-grows k, nil (getD t k 0) a', one (getD u k 0) b'))

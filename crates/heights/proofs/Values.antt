@@ -8,7 +8,7 @@ use lib.ListN.{getD}
 use borrow.Author.Tests.{lt-ltb, le-ltb, eq-eqb, ne-eqb}
 use Rattle.chart.specs.Code.{nextKind, ruleAt}
 use Rattle.chart.specs.Heights.{cellAt, none}
-use Rattle.engine.specs.Table.{cellOf, valueOf, upOf, splitOf}
+use Rattle.heights.specs.Table.{cellOf, valueOf, upOf, splitOf}
 
 pub data Value (c t : List ℕ) (n q i j v : ℕ) : Type 0 where
   v-end : nextKind c q ≡ 0 → i ≡ j → v ≡ 0 → Value c t n q i j v

@@ -10,9 +10,9 @@ use lib.Dec.{eqb}
 use Rattle.text.specs.Lists.{pick}
 use Rattle.chart.specs.Code.{nextKind, ruleAt}
 use Rattle.chart.specs.Heights.{cellAt, none}
-use Rattle.engine.specs.Table.{cellOf, valueOf, upOf, splitOf}
-use Rattle.engine.specs.Sweep.{Steps, stay, step, total}
-use Rattle.engine.proofs.Cells.{cell-inj}
+use Rattle.heights.specs.Table.{cellOf, valueOf, upOf, splitOf}
+use Rattle.heights.specs.Filling.{Steps, stay, step, total}
+use Rattle.heights.proofs.Cells.{cell-inj}
 
 pub sum-set : (t : List ℕ) (x v : ℕ) → v < getD t x 0 → total (set t x v) < total t
 sum-set [] x v h = absurd (omega arith)

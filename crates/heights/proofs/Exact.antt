@@ -16,13 +16,13 @@ use Rattle.derive.proofs.Rows.{forward}
 use Rattle.derive.proofs.Levels.{Low}
 use Rattle.chart.specs.Code.{nextKind, goesAt, ruleAt, ownerAt, fitsAt, flag, afterDot, headOf, Stands, at-end, at-terminal, at-symbol, Chain, ch-last, ch-next, Coded}
 use Rattle.chart.specs.Heights.{cellAt, stretches, none, Says, says-none, says-height, SaysRule, rule-none, rule-height, Heights}
-use Rattle.engine.specs.Table.{cellOf, valueOf, upOf, splitOf, Shape, Safe, Place}
-use Rattle.engine.specs.Sweep.{Gives, by-terminal, by-split, by-owned, Steps, stay, step, Any, Closed, Settled, Before}
+use Rattle.heights.specs.Table.{cellOf, valueOf, upOf, splitOf, Shape, Safe, Place}
+use Rattle.heights.specs.Filling.{Gives, by-terminal, by-split, by-owned, Steps, stay, step, Any, Closed, Settled, Before}
 use Rattle.chart.proofs.Cells.{rows-small}
-use Rattle.engine.proofs.Cells.{cell-inj, in-room}
-use Rattle.engine.proofs.Lowering.{in-range, steps-le, steps-length}
-use Rattle.engine.proofs.Values.{Value, v-end, v-none, v-cell, value-is, value-cell, value-end, up-is, up-low}
-use Rattle.engine.proofs.Small.{height-small}
+use Rattle.heights.proofs.Cells.{cell-inj, in-room}
+use Rattle.heights.proofs.Lowering.{in-range, steps-le, steps-length}
+use Rattle.heights.proofs.Values.{Value, v-end, v-none, v-cell, value-is, value-cell, value-end, up-is, up-low}
+use Rattle.heights.proofs.Small.{height-small}
 
 flag-true : (b : Bool) → T b → flag b ≡ 1
 flag-true true h = refl

@@ -9,7 +9,7 @@ use Rattle.chart.specs.Heights.{before, stretches, cellAt}
 use mathlib.Core.List.{List}
 use Rattle.chart.specs.Code.{nextKind, ruleAt, ownerAt}
 use Rattle.chart.proofs.Cells.{before-next}
-use Rattle.engine.specs.Table.{Room, Shape, Place}
+use Rattle.heights.specs.Table.{Room, Shape, Place}
 
 -- 0 + 1 + .. + j
 abbrev triOf : ℕ → ℕ

@@ -1,0 +1,7 @@
+pub mod Cells
+pub mod Values
+pub mod Lowering
+pub mod Small
+pub mod Exact
+pub mod Part
+pub mod PartSays

@@ -1,0 +1,5 @@
+pub mod Closed
+pub mod Queue
+pub mod Keys
+pub mod Steps
+pub mod Stays

@@ -1,0 +1,83 @@
+-- The pass from the left, at one place and from place to place.
+use mathlib.Core.Bool.{Bool, true, false}
+use mathlib.Core.List.{List}
+use mathlib.Core.Logic.{_⊎_}
+use mathlib.Core.Path.{_≡_}
+use Prim.Native.Nat.{ℕ, _+_, _*_, _<_, _≤_}
+use lib.Dec.{T}
+use lib.ListN.{length, getD, drop}
+use Rattle.text.specs.Lists.{Text}
+use Rattle.text.specs.Limits.{grammarTable}
+use Rattle.tree.specs.Tree.{Terminal}
+use Rattle.plain.specs.Plain.{fits}
+use Rattle.items.specs.Items.{tokenAt}
+use Rattle.chart.specs.Code.{nextKind, goesAt, ruleAt, ownerAt}
+use Rattle.terminals.specs.Places.{TerminalHere}
+use Rattle.rules.specs.Ready.{Token}
+use Rattle.reach.specs.Flags.{dotAt, Reached, Fits, Begins, Ends, homeOf, LeftClosed, FitsOnly}
+use Rattle.reach.specs.Work.{tailOf, Seen, Waits, Kept}
+use Rattle.reach.specs.Lists.{Shape, Homes, Members}
+
+-- bytes of the place i grow, dots are opened, and what is lifted is put into the queue
+pub record Stir (size low : ℕ) (M Q M' Q' : List ℕ) (i : ℕ) : Type 0 where
+  pub kept : Kept size low M' Q' i
+  pub grows : (x : ℕ) → getD M x 0 ≤ getD M' x 0
+  pub away : (x : ℕ) → (x < 1536 * i) ⊎ (1536 * i + 1536 ≤ x) → getD M' x 0 ≡ getD M x 0
+  pub seen : (p : ℕ) → Seen Q p → Seen Q' p
+  pub homes : (x : ℕ) → 1024 < x → getD Q' x 0 ≡ getD Q x 0
+  pub more : tailOf Q ≤ tailOf Q'
+  pub same : (k : ℕ) → 0 < k → k ≤ tailOf Q → getD Q' k 0 ≡ getD Q k 0
+  pub fresh : (p : ℕ) → p < 512 → low < dotAt M' p i → (low < dotAt M p i) ⊎ Waits Q' (tailOf Q) p
+
+-- the rules at the place i: one that begins has its alternatives reached; one that ends, the open dots after it
+pub record Rules (c : List ℕ) (size : ℕ) (M Q : List ℕ) (i : ℕ) : Type 0 where
+  pub first : (q e : ℕ) → q < size → ownerAt c q ≡ e + 1 → Begins M e i → Reached M q i
+  pub over : (p : ℕ) → p < size → nextKind c p ≡ 2 → Ends M (ruleAt c p) i → Seen Q (p + 1) → Reached M (p + 1) i
+  pub begins-open : (q e : ℕ) → q < size → ownerAt c q ≡ e + 1 → Seen Q q
+  pub after-open : (p : ℕ) → p + 1 < size → nextKind c p ≡ 1 → Seen Q (p + 1)
+  pub homes : Homes c size Q
+
+-- what a step at a dot is given, and what it promises
+pub record At (c : List ℕ) (size : ℕ) (M Q : List ℕ) (i p : ℕ) : Type 0 where
+  pub shape : Shape c size
+  pub kept : Kept size 0 M Q i
+  pub rules : Rules c size M Q i
+  pub inside : p < size
+  pub reached : Reached M p i
+
+pub record AtList (c : List ℕ) (w size : ℕ) (L M Q : List ℕ) (i p : ℕ) : Type 0 where
+  pub at : At c size M Q i p
+  pub list : Members c w size L
+
+pub record Stepped (c : List ℕ) (size : ℕ) (M Q M' Q' : List ℕ) (i : ℕ) : Type 0 where
+  pub stir : Stir size 0 M Q M' Q' i
+  pub rules : Rules c size M' Q' i
+  pub only : (p : ℕ) → p < size → nextKind c p ≡ 1 → Fits M' p i → Fits M p i ⊎ (goesAt c p ≡ 0)
+
+-- what follows from a dot that is reached is so
+abbrev pub SymbolDone : List ℕ → List ℕ → List ℕ → ℕ → ℕ → Type 0
+SymbolDone c M Q i p = nextKind c p ≡ 2 → Begins M (ruleAt c p) i × Seen Q (p + 1) × Fits M p i
+
+abbrev pub EndDone : List ℕ → List ℕ → ℕ → ℕ → Type 0
+EndDone c M i p = nextKind c p ≡ 0 → Ends M (homeOf c p) i × Fits M p i
+
+abbrev pub EmptyDone : List ℕ → List ℕ → ℕ → ℕ → Type 0
+EmptyDone c M i p = nextKind c p ≡ 1 → goesAt c p ≡ 0 → Fits M p i × Reached M (p + 1) i
+
+pub record Done (c : List ℕ) (M Q : List ℕ) (i p : ℕ) : Type 0 where
+  pub symbol : SymbolDone c M Q i p
+  pub end : EndDone c M i p
+  pub empty : EmptyDone c M i p
+
+-- a place is closed, but for terminals that take characters
+pub record Closing (c : List ℕ) (size : ℕ) (F A M Q : List ℕ) (i : ℕ) : Type 0 where
+  pub shape : Shape c size
+  pub firsts : Members c 0 size F
+  pub afters : Members c 1 size A
+  pub kept : Kept size 0 M Q i
+  pub rules : Rules c size M Q i
+  pub listed : (p : ℕ) → p < size → Reached M p i → Waits Q 0 p
+
+pub record Closed (c : List ℕ) (size : ℕ) (M Q M' Q' : List ℕ) (i : ℕ) : Type 0 where
+  pub stepped : Stepped c size M Q M' Q' i
+  pub done : (p : ℕ) → p < size → Reached M' p i → Done c M' Q' i p

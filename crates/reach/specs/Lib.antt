@@ -1,0 +1,4 @@
+pub mod Flags
+pub mod Work
+pub mod Lists
+pub mod Left

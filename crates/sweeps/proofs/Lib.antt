@@ -1,0 +1,5 @@
+pub mod Storing
+pub mod Visits
+pub mod Passes
+pub mod Ending
+pub mod Offers
