@@ -1,0 +1,1 @@
+// The tidy layout of a grammar: definitions and laws, see specs/ and proofs/.
