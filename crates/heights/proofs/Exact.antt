@@ -24,7 +24,7 @@ use Rattle.heights.proofs.Lowering.{in-range, steps-le, steps-length}
 use Rattle.heights.proofs.Values.{Value, v-end, v-none, v-cell, value-is, value-cell, value-end, up-is, up-low}
 use Rattle.heights.proofs.Small.{height-small}
 
-flag-true : (b : Bool) → T b → flag b ≡ 1
+pub flag-true : (b : Bool) → T b → flag b ≡ 1
 flag-true true h = refl
 flag-true false h = absurd h
 
@@ -32,18 +32,18 @@ true-flag : (b : Bool) → flag b ≡ 1 → T b
 true-flag true h = tt
 true-flag false h = absurd (omega arith)
 
-none-in : {c : List ℕ} {dots : List (List Symbol)} {e q : ℕ} {ts : List (List Symbol)} → Chain c dots e q ts → ts ≡ [] → ⊥
+pub none-in : {c : List ℕ} {dots : List (List Symbol)} {e q : ℕ} {ts : List (List Symbol)} → Chain c dots e q ts → ts ≡ [] → ⊥
 none-in (ch-last h o b z) e = let z : _≡_ {A = ℕ} 0 1 = cc in omega arith
 none-in (ch-next h o b r) e = let z : _≡_ {A = ℕ} 0 1 = cc in omega arith
 
 -- where an alternative of a chain stands
-record Found (c : List ℕ) (dots : List (List Symbol)) (e : ℕ) (ss : List Symbol) : Type 0 where
-  place : ℕ
-  inside : place < length dots
-  owned : ownerAt c place ≡ e + 1
-  is : afterDot dots place ≡ ss
+pub record Found (c : List ℕ) (dots : List (List Symbol)) (e : ℕ) (ss : List Symbol) : Type 0 where
+  pub place : ℕ
+  pub inside : place < length dots
+  pub owned : ownerAt c place ≡ e + 1
+  pub is : afterDot dots place ≡ ss
 
-find : {c : List ℕ} {dots : List (List Symbol)} {e q : ℕ} {ts : List (List Symbol)} → Chain c dots e q ts → (a : ℕ) → a < length ts → Found c dots e (getD ts a [])
+pub find : {c : List ℕ} {dots : List (List Symbol)} {e q : ℕ} {ts : List (List Symbol)} → Chain c dots e q ts → (a : ℕ) → a < length ts → Found c dots e (getD ts a [])
 find (ch-last {q} h o b z) zero l = record { place = q; inside = h; owned = o; is = refl }
 find (ch-last h o b z) (suc a) l = absurd (omega arith)
 find (ch-next {q} h o b r) zero l = record { place = q; inside = h; owned = o; is = refl }
@@ -171,6 +171,14 @@ module _ (c f : List ℕ) (g : Grammar) (r : Text) (size top first : ℕ) (k : C
     steps-sound (step {t = t} p i j v s ha hp hi hj d l) =
         let h : Place size n p i j = record { inside = hp; order = hi; stop = hj } in
         set-sound t (steps-sound s) p i j v h d l (omega (arith, steps-most s h))
+
+    -- a rule's height has a row of its symbol
+    pub rule-sound : {t : List ℕ} → Steps c f size n A t₀ t → (p e i j : ℕ) → p < size → ownerAt c p ≡ e + 1 → i ≤ j → j ≤ n → cellOf n t e i j < none
+        → Low g r (suc (cellOf n t e i j)) (headOf g (k .heads) e ∷ []) i j
+    rule-sound s p e i j hp o hi hj l =
+        let own = k .owned p e hp o in
+        let u = steps-sound s e i j (record { inside = omega (arith, own .inside, k .count); order = hi; stop = hj }) l .rule (own .last) in
+        record { row = node (u .number) j (u .low .row) end; derives = d-node (u .exists) (u .low .derives) d-end; low = omega (arith, u .low .low) }
 
   -- no derivation is lower
   module _ (t : List ℕ) (closed : Before c f size n (n + 1) t) (small : (p i j : ℕ) → Place size n p i j → cellOf n t p i j < none → cellOf n t p i j ≤ size * stretches n) where

@@ -5,3 +5,4 @@ pub mod Small
 pub mod Exact
 pub mod Part
 pub mod PartSays
+pub mod Same

@@ -60,9 +60,10 @@ pub record HomesTo (c : List ℕ) (size : ℕ) (Q₀ Q : List ℕ) (p last : ℕ
   pub homes : (q : ℕ) → q < p → getD Q (1025 + q) 0 ≡ homeOf c q
   pub before : (q : ℕ) → p ≡ q + 1 → last ≡ homeOf c q
   pub start : p ≡ 0 → last ≡ 0
+  pub rest : (x : ℕ) → x < 1025 → getD Q x 0 ≡ getD Q₀ x 0
 
 pub homes-start : (c : List ℕ) (size : ℕ) (Q : List ℕ) → HomesTo c size Q Q 0 0
-homes-start c size Q = record { below = omega arith; long = refl; homes = λ q h. absurd (omega arith); before = λ q e. absurd (omega arith); start = λ e. refl }
+homes-start c size Q = record { below = omega arith; long = refl; homes = λ q h. absurd (omega arith); before = λ q e. absurd (omega arith); start = λ e. refl; rest = λ x h. refl }
 
 pub homes-next : {c : List ℕ} {size p last v : ℕ} {Q₀ Q : List ℕ} → HomesTo c size Q₀ Q p last → length Q₀ ≡ 1537 → size ≤ 512 → p < size → v ≡ homeOf c p
     → HomesTo c size Q₀ (set Q (1025 + p) v) (p + 1) v
@@ -75,10 +76,11 @@ homes-next {c} {p = p} {v = v} {Q = Q} h l z s e = record {
   ];
   before = λ q w. e ∙ ap (homeOf c) (let y : p ≡ q = omega arith in y);
   start = λ w. absurd (omega arith);
+  rest = λ x a. getD-set-other Q (1025 + p) x v 0 (λ y. omega arith) ∙ h .rest x a;
 }
 
 pub homes-end : {c : List ℕ} {size p last : ℕ} {Q₀ Q : List ℕ} → HomesTo c size Q₀ Q p last → size ≤ p → Homed c size Q₀ Q
-homes-end h l = record { long = h .long; homes = λ q a. h .homes q (omega arith) }
+homes-end h l = record { long = h .long; homes = λ q a. h .homes q (omega arith); rest = h .rest }
 
 -- keys
 module _ (c : List ℕ) (p : ℕ) where
@@ -157,13 +159,13 @@ module _ {c : List ℕ} {size : ℕ} (s : Shape c size) where
 pub record Opening (c : List ℕ) (w : ℕ) (Q₀ Q : List ℕ) (p : ℕ) : Type 0 where
   pub long : length Q ≡ length Q₀
   pub opened : (q : ℕ) → q < p → keyOf c w q ≡ 0 → Seen Q q
-  pub rest : (x : ℕ) → 1024 < x → getD Q x 0 ≡ getD Q₀ x 0
+  pub rest : (x : ℕ) → (x < 513) ⊎ (1024 < x) → getD Q x 0 ≡ getD Q₀ x 0
 
 pub opening-start : (c : List ℕ) (w : ℕ) (Q : List ℕ) → Opening c w Q Q 0
 opening-start c w Q = record { long = refl; opened = λ q h. absurd (omega arith); rest = λ x h. refl }
 
 pub opening-keying : {c : List ℕ} {size w p : ℕ} {Q₀ Q : List ℕ} → Keying c size Q₀ → Opening c w Q₀ Q p → Keying c size Q
-opening-keying k o = record { shape = k .shape; long = o .long ∙ k .long; homes = λ p h. o .rest (1025 + p) (omega arith) ∙ k .homes p h }
+opening-keying k o = record { shape = k .shape; long = o .long ∙ k .long; homes = λ p h. o .rest (1025 + p) (inr (omega arith)) ∙ k .homes p h }
 
 pub opening-next : {c : List ℕ} {w p v : ℕ} {Q₀ Q : List ℕ} → Opening c w Q₀ Q p → length Q₀ ≡ 1537 → p < 512 → (keyOf c w p ≡ 0 → v ≡ 1)
     → Opening c w Q₀ (set Q (513 + p) v) (p + 1)
@@ -174,7 +176,7 @@ opening-next {c} {w} {p} {v} {Q = Q} o l h e = record {
         omega (arith, ap (λ (x : ℕ). getD (set Q (513 + p) v) (513 + x) 0) z, getD-set-same Q (513 + p) v 0 (omega (arith, o .long)), e k'))
     | no z ↦ omega (arith, getD-set-other Q (513 + p) (513 + q) v 0 (λ y. z (omega arith)), o .opened q (omega arith) k)
   ];
-  rest = λ x a. getD-set-other Q (513 + p) x v 0 (λ y. omega arith) ∙ o .rest x a;
+  rest = λ x a. getD-set-other Q (513 + p) x v 0 (λ y. ⊎-elim (λ b. omega arith) (λ b. omega arith) a) ∙ o .rest x a;
 }
 
 pub opening-end : {c : List ℕ} {size w p : ℕ} {Q₀ Q : List ℕ} → Opening c w Q₀ Q p → size ≤ p → Opened c size w Q₀ Q

@@ -1,5 +1,4 @@
 pub mod Closed
 pub mod Queue
 pub mod Keys
-pub mod Steps
 pub mod Stays

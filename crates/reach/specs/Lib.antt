@@ -1,4 +1,3 @@
 pub mod Flags
 pub mod Work
 pub mod Lists
-pub mod Left

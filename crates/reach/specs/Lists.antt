@@ -28,6 +28,7 @@ keyOf c w p = pick (eqb w 0) (ownerAt c p) (pick (eqb w 1) (afterKey c p) (pick 
 pub record Shape (c : List ℕ) (size : ℕ) : Type 0 where
   pub small : size ≤ 512
   pub room : 4 * size ≤ length c
+  pub kinds : (p : ℕ) → p < size → nextKind c p ≤ 2
   pub owner : (p : ℕ) → p < size → ownerAt c p ≤ size
   pub after : (p : ℕ) → p < size → (nextKind c p ≡ 0 → ⊥) → p + 1 < size
   pub inner : (p : ℕ) → p + 1 < size → (nextKind c p ≡ 0 → ⊥) → ownerAt c (p + 1) ≡ 0
@@ -44,6 +45,7 @@ pub record Homing (c : List ℕ) (size : ℕ) (Q : List ℕ) : Type 0 where
 pub record Homed (c : List ℕ) (size : ℕ) (Q Q' : List ℕ) : Type 0 where
   pub long : length Q' ≡ length Q
   pub homes : Homes c size Q'
+  pub rest : (x : ℕ) → x < 1025 → getD Q' x 0 ≡ getD Q x 0
 
 pub record Keying (c : List ℕ) (size : ℕ) (Q : List ℕ) : Type 0 where
   pub shape : Shape c size
@@ -54,7 +56,7 @@ pub record Keying (c : List ℕ) (size : ℕ) (Q : List ℕ) : Type 0 where
 pub record Opened (c : List ℕ) (size w : ℕ) (Q Q' : List ℕ) : Type 0 where
   pub long : length Q' ≡ length Q
   pub opened : (p : ℕ) → p < size → keyOf c w p ≡ 0 → Seen Q' p
-  pub rest : (x : ℕ) → 1024 < x → getD Q' x 0 ≡ getD Q x 0
+  pub rest : (x : ℕ) → (x < 513) ⊎ (1024 < x) → getD Q' x 0 ≡ getD Q x 0
 
 -- each dot is in the list of its rule
 pub record Members (c : List ℕ) (w size : ℕ) (L : List ℕ) : Type 0 where

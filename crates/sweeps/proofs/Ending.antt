@@ -1,21 +1,20 @@
 -- Sweeps from a clear table, until one adds no rule.
 use mathlib.Core.Bool.{Bool, true, false}
-use mathlib.Core.Path.{_≡_, refl, sym, ap, subst, _∙_}
+use mathlib.Core.Path.{_≡_, refl, subst}
 use mathlib.Core.List.{List}
 use Prim.Native.Nat.{ℕ, suc, _+_, _-_, _*_, _<_, _≤_}
-use native.Mathlib.Decide.{decLt, ℕ-discrete}
+use native.Mathlib.Decide.{decLt}
 use native.Mathlib.Omega.{arith}
-use lib.ListN.{getD}
-use Rattle.chart.specs.Code.{nextKind, goesAt, ruleAt, ownerAt, fitsAt}
+use Rattle.chart.specs.Code.{nextKind, goesAt, ruleAt, ownerAt}
 use Rattle.chart.specs.Heights.{cellAt, stretches, none, Clear}
-use Rattle.heights.specs.Table.{cellOf, valueOf, splitOf, Room, Shape, Place}
-use Rattle.heights.specs.Filling.{Gives, by-terminal, by-split, by-owned, Steps, stay, Any, Closed, Before, Settled}
+use Rattle.heights.specs.Table.{cellOf, valueOf, splitOf, Shape, Place}
+use Rattle.heights.specs.Filling.{by-terminal, by-split, by-owned, Steps, stay, Any, Closed, Before, Settled}
 use Rattle.heights.proofs.Cells.{in-room, next-place, rule-place, owner-place}
 use Rattle.heights.proofs.Lowering.{steps-join, steps-le}
 use Rattle.heights.proofs.Small.{count, count-le, count-more}
 use Rattle.heights.proofs.Values.{Value, v-end, v-none, v-cell, value-is, up-is, up-none}
 use Rattle.chart.proofs.Cells.{rows-small}
-use Rattle.sweeps.specs.Layers.{Capped, Upto, Adds, added, same, Swept}
+use Rattle.sweeps.specs.Layers.{Upto, Adds, added, same, Swept}
 
 module _ (c f : List ℕ) (size n len : ℕ) (sh : Shape c size n len) where
   in-cells : {p i j : ℕ} → Place size n p i j → cellAt n p i j < size * stretches n

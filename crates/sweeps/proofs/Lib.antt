@@ -3,3 +3,4 @@ pub mod Visits
 pub mod Passes
 pub mod Ending
 pub mod Offers
+pub mod Rounds

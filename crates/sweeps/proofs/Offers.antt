@@ -1,16 +1,16 @@
 -- Whether the table offers a dot a value of at most the height of the sweep.
 use mathlib.Core.Bool.{Bool, true, false}
-use mathlib.Core.Path.{_≡_, refl, sym, ap, _∙_}
+use mathlib.Core.Path.{_≡_, refl, sym, ap}
 use mathlib.Core.List.{List}
 use Prim.Native.Nat.{ℕ, _+_, _<_, _≤_}
 use native.Mathlib.Decide.{decLt, ℕ-discrete}
 use native.Mathlib.Omega.{arith}
-use lib.Dec.{leb}
+use lib.Dec.{leb, ltb}
 use lib.ListN.{getD}
-use borrow.Author.Tests.{leb-true, leb-false}
-use Rattle.chart.specs.Code.{nextKind, goesAt, ruleAt, ownerAt, fitsAt}
+use borrow.Author.Tests.{leb-true, leb-false, ltb-true, ltb-false}
+use Rattle.chart.specs.Code.{nextKind, goesAt, ruleAt, fitsAt}
 use Rattle.chart.specs.Heights.{cellAt, none}
-use Rattle.heights.specs.Table.{cellOf, valueOf, upOf, splitOf, Shape}
+use Rattle.heights.specs.Table.{cellOf, valueOf, splitOf, Shape}
 use Rattle.heights.specs.Filling.{Gives, by-terminal, by-split, by-owned}
 use Rattle.heights.proofs.Values.{up-is, up-none}
 use Rattle.sweeps.specs.Layers.{Low, Offer, Offered}
@@ -19,24 +19,24 @@ never : {P : Type 0} → true ≡ false → P
 never e = absurd (let z : _≡_ {A = ℕ} 0 1 = cc in omega arith)
 
 -- a split by its two tests
-module _ (c t : List ℕ) (n p i j m h x : ℕ) (at : x ≡ cellAt n (ruleAt c p) i m) where
+pub rest-above : (c t : List ℕ) (n p i j m h v : ℕ) → v ≡ valueOf c t n (p + 1) m j → h < v → Low h (splitOf c t n p i j m) false
+rest-above c t n p i j m h v e l = record { yes = λ r. never (sym r); no = λ _ _. omega arith }
+
+module _ (c t : List ℕ) (n p i j m h v x : ℕ) (rest : v ≡ valueOf c t n (p + 1) m j) (low : v ≤ h) (at : x ≡ cellAt n (ruleAt c p) i m) where
   rule-is : getD t x 0 ≡ cellOf n t (ruleAt c p) i m
   rule-is = ap (λ (z : ℕ). getD t z 0) at
 
-  pub split-tested : (v : ℕ) → v ≡ valueOf c t n (p + 1) m j → getD t x 0 < h → h ≤ none → Low h (splitOf c t n p i j m) (leb v h)
-  split-tested v e l b =
-      let a = cellOf n t (ruleAt c p) i m in
-      let u = up-is a (omega (arith, rule-is)) in
-      record { yes = λ r. omega (arith, rule-is, leb-true v h r); no = λ _ r. omega (arith, leb-false v h r) }
+  rule-above : h < none → h ≤ getD t x 0 → h < splitOf c t n p i j m
+  rule-above z l = let a = cellOf n t (ruleAt c p) i m in elim (decLt a none) as (λ _. h < splitOf c t n p i j m) [
+    | yes k ↦ omega (arith, rule-is, up-is a k)
+    | no k ↦ omega (arith, up-none a (omega arith))
+  ]
 
-  pub split-above : (getD t x 0 < h → ⊥) → Low h (splitOf c t n p i j m) false
-  split-above l = record { yes = λ r. never (sym r); no = λ z _. above z }
-    where
-      above : h < none → h < splitOf c t n p i j m
-      above z = let a = cellOf n t (ruleAt c p) i m in elim (decLt a none) as (λ _. h < splitOf c t n p i j m) [
-        | yes k ↦ omega (arith, rule-is, up-is a k)
-        | no k ↦ omega (arith, up-none a (omega arith))
-      ]
+  rule-below : h ≤ none → getD t x 0 < h → splitOf c t n p i j m ≤ h
+  rule-below b l = omega (arith, rule-is, up-is (cellOf n t (ruleAt c p) i m) (omega (arith, rule-is)))
+
+  pub split-tested : h ≤ none → Low h (splitOf c t n p i j m) (ltb (getD t x 0) h)
+  split-tested b = record { yes = λ r. rule-below b (ltb-true (getD t x 0) h r); no = λ z r. rule-above z (ltb-false (getD t x 0) h r) }
 
 module _ (c f : List ℕ) (size n h len : ℕ) (sh : Shape c size n len) (t : List ℕ) (p i j : ℕ) where
   -- at a symbol

@@ -1,16 +1,16 @@
 -- Stretches one after another, up to a whole sweep.
-use mathlib.Core.Bool.{Bool, true, false, _||_}
-use mathlib.Core.Path.{_≡_, refl, sym, ap, subst, _∙_}
+use mathlib.Core.Bool.{Bool, false, _||_}
+use mathlib.Core.Path.{_≡_, sym, subst, _∙_}
 use mathlib.Core.List.{List}
 use Prim.Native.Nat.{ℕ, _+_, _-_, _<_, _≤_}
 use native.Mathlib.Decide.{decLt, ℕ-discrete}
 use native.Mathlib.Omega.{arith}
-use Rattle.chart.specs.Code.{nextKind, goesAt, ruleAt, ownerAt}
+use Rattle.chart.specs.Code.{goesAt}
 use Rattle.chart.specs.Heights.{none}
-use Rattle.heights.specs.Table.{cellOf, valueOf, splitOf, Place}
+use Rattle.heights.specs.Table.{cellOf, Place}
 use Rattle.heights.specs.Filling.{Gives, by-terminal, by-split, by-owned, Steps, stay, Only, EndsAt, Any}
 use Rattle.heights.proofs.Lowering.{steps-widen, steps-same, value-same, split-same}
-use Rattle.sweeps.specs.Layers.{Capped, Upto, Running, Done, DoneAll, Passed, Visited, Swept}
+use Rattle.sweeps.specs.Layers.{Upto, Running, Done, DoneAll, Passed, Visited, Swept}
 use Rattle.sweeps.proofs.Visits.{adds-stay, passed-join}
 
 module _ (c f : List ℕ) (size n h : ℕ) where

@@ -1,5 +1,4 @@
 -- What a cell that takes the height of the sweep leaves as it was.
-use mathlib.Core.Bool.{Bool, true, false}
 use mathlib.Core.Path.{_≡_, refl, sym, ap, subst, _∙_}
 use mathlib.Core.List.{List}
 use Prim.Native.Nat.{ℕ, _+_, _<_, _≤_}
@@ -7,14 +6,14 @@ use native.Mathlib.Decide.{decLt, ℕ-discrete}
 use native.Mathlib.Omega.{arith}
 use lib.ListN.{getD, set}
 use lib.Seq.{getD-set-same, getD-set-other}
-use Rattle.chart.specs.Code.{nextKind, ruleAt, goesAt, ownerAt}
+use Rattle.chart.specs.Code.{nextKind, ruleAt, goesAt}
 use Rattle.chart.specs.Heights.{cellAt, none}
 use Rattle.heights.specs.Table.{cellOf, valueOf, upOf, splitOf, Shape, Place}
 use Rattle.heights.specs.Filling.{Gives, by-terminal, by-split, by-owned, Steps, stay, step, Only}
-use Rattle.heights.proofs.Cells.{cell-inj, next-place, owner-place}
+use Rattle.heights.proofs.Cells.{cell-inj}
 use Rattle.heights.proofs.Lowering.{in-range, set-le}
-use Rattle.heights.proofs.Values.{Value, v-end, v-none, v-cell, value-is, value-cell, value-end, value-gap, up-is, up-low}
-use Rattle.sweeps.specs.Layers.{Capped, Running, Offer, Done}
+use Rattle.heights.proofs.Values.{value-cell, value-end, value-gap, up-is, up-low}
+use Rattle.sweeps.specs.Layers.{Running, Offer, Done}
 
 -- a value of an end does not look at the table
 value-ends : (c t u : List ℕ) (n q i j : ℕ) → nextKind c q ≡ 0 → valueOf c u n q i j ≡ valueOf c t n q i j

@@ -3,16 +3,15 @@ use mathlib.Core.Bool.{Bool, true, false, _||_}
 use mathlib.Core.Path.{_≡_, refl, sym, ap, subst, _∙_}
 use mathlib.Core.List.{List}
 use Prim.Native.Nat.{ℕ, _+_, _-_, _<_, _≤_}
-use native.Mathlib.Decide.{decLt, ℕ-discrete}
 use native.Mathlib.Omega.{arith}
-use lib.ListN.{length, getD, set}
+use lib.ListN.{getD, set}
 use Rattle.chart.specs.Code.{nextKind, ownerAt}
 use Rattle.chart.specs.Heights.{cellAt, none}
 use Rattle.heights.specs.Table.{cellOf, valueOf, Shape, Place}
-use Rattle.heights.specs.Filling.{Gives, by-owned, Steps, stay, Only}
+use Rattle.heights.specs.Filling.{Gives, by-owned, stay, Only}
 use Rattle.heights.proofs.Cells.{owner-place}
 use Rattle.heights.proofs.Lowering.{steps-join, steps-le}
-use Rattle.sweeps.specs.Layers.{Running, Offer, Offered, Adds, added, same, Done, Passed, DotAdded, dot-held, dot-free, dot-added}
+use Rattle.sweeps.specs.Layers.{Running, Offered, Adds, added, same, Done, Passed, DotAdded, dot-held, dot-free, dot-added}
 use Rattle.sweeps.specs.Layers.{RuleAdded, no-rule, rule-held, rule-above, rule-added, Visited}
 use Rattle.sweeps.proofs.Storing.{taken, cell-other, stored, still, dot-kept, done-kept}
 

@@ -47,17 +47,18 @@ fn value(code: &[u32], main: &[u32], layer: Layer, q: usize, i: usize, j: usize)
     main[x]
 }
 
-// Whether the symbol at p derives the characters from i to m, and the rest those from m to j, with the layer's height or less.
+// Whether the symbol at p derives the characters from i to m, and the rest those from m to j, with the layer's height or less. The rest is
+// looked up first: its cells for neighbouring m are neighbours.
 fn split(code: &[u32], main: &[u32], layer: Layer, p: usize, i: usize, j: usize, m: usize) -> bool
     requires { ⌜ Shape (now code) (layer .size) (layer .n) (length (now main)) × Place (layer .size) (layer .n) p i j × (i ≤ m) × (m ≤ j) × (nextKind (now code) p ≡ 2) ⌝ }
     ensures { λ r. ⌜ Low (layer .height) (splitOf (now (code .entry)) (now (main .entry)) (layer .n) p i j m) r ⌝ }
 {
+    if layer.height < value(code, main, layer, p + 1, m, j) {
+        return false;
+    }
     let rule = code[CODE_COLUMNS * p + CODE_RULE] as usize;
     let x = cell(layer.n, rule, i, m);
-    if main[x] < layer.height {
-        return value(code, main, layer, p + 1, m, j) <= layer.height;
-    }
-    false
+    main[x] < layer.height
 }
 
 // Whether the symbol at p and the rest derive the stretch so, split at some place.

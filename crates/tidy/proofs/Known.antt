@@ -130,7 +130,8 @@ hex-known : (k n : ℕ) → Known (hexDigits k n)
 hex-known zero n = all-known tt
 hex-known (suc k) n = go (ltb n 16) refl (hex-known k (n / 16))
   where
-    go : (b : Bool) → ltb n 16 ≡ b → Known (hexDigits k (n / 16)) → Known (pick b (lowerDigit n ∷ []) (hexDigits k (n / 16) ++ lowerDigit (n % 16) ∷ []))
+    go : (b : Bool) → ltb n 16 ≡ b → Known (hexDigits k (n / 16))
+        → Known (elim b as (λ _. Text) [ true ↦ lowerDigit n ∷ [] | false ↦ hexDigits k (n / 16) ++ lowerDigit (n % 16) ∷ [] ])
     go true e h = lower-known n (ltb-true n 16 e)
     go false e h = known-append (hexDigits k (n / 16)) (lowerDigit (n % 16) ∷ []) h (lower-known (n % 16) (omega arith))
 

@@ -102,7 +102,7 @@ hex-reads zero n w h = absurd (omega arith)
 hex-reads (suc k) n w h = go (ltb n 16) refl (λ l. hex-reads k (n / 16) (lowerDigit (n % 16) ∷ w) (omega arith))
   where
     go : (b : Bool) → ltb n 16 ≡ b → (16 ≤ n → Tells n (hexDigits k (n / 16)) (lowerDigit (n % 16) ∷ w) (n / 16))
-        → Tells n (pick b (lowerDigit n ∷ []) (hexDigits k (n / 16) ++ lowerDigit (n % 16) ∷ [])) w n
+        → Tells n (elim b as (λ _. Text) [ true ↦ lowerDigit n ∷ [] | false ↦ hexDigits k (n / 16) ++ lowerDigit (n % 16) ∷ [] ]) w n
     go true e f =
         let l : n < 16 = ltb-true n 16 e in
         let v : 16 * 0 + digitValue (lowerDigit n) ≡ n = omega (arith, lower-value n l) in

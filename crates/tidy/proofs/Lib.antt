@@ -4,4 +4,8 @@ pub mod ReadBack
 pub mod Known
 pub mod Answers
 pub mod Same
+pub mod Scan
+pub mod Written
+pub mod Numbers
+pub mod Cases
 pub mod Laws

@@ -1,4 +1,5 @@
 -- Laws of the tidy layout. Statements alone: proofs/Laws.antt has their proof, `laws-hold`.
+use mathlib.Core.Bool.{true}
 use mathlib.Core.Path.{_≡_}
 use mathlib.Core.List.{List, []}
 use Prim.Native.Nat.{ℕ, _≤_}
@@ -8,11 +9,14 @@ use Rattle.text.specs.Limits.{grammarBytes}
 use Rattle.text.specs.Lists.{Text, all}
 use Rattle.text.specs.Utf8.{known}
 use Rattle.tree.specs.Tree.{Grammar}
+use Rattle.tree.specs.Tokens.{grammarTokens}
 use Rattle.syntax.specs.Syntax.{Ixml}
 use Rattle.answer.specs.Answer.{GrammarTree, grammarLines, job, Answer}
 use Rattle.answer.specs.Compute.{checkOf, readOf, convertOf}
 use Rattle.answer.specs.Demands.{None}
 use Rattle.tidy.specs.Tidy.{tidyText}
+use Rattle.tidy.specs.Cases.{table, Holds, Every}
+use Rattle.tidy.specs.Scan.{scan}
 use Rattle.tidy.specs.Call.{tidyBytes, Tidies, tidyOf}
 
 -- bytes of an accepted grammar, whose tidy text is no longer than a grammar may be
@@ -22,11 +26,14 @@ pub record Tidiable (bs : List ℕ) (g : Grammar) : Type 0 where
   pub short : length (tidyBytes g) ≤ grammarBytes
 
 pub record Laws : Type 0 where
+  pub cases : Every Holds table
   -- "Reading the output gives the same plain rules, names and marks": it gives the same tree, and no other
   pub reads : (t : Text) (g : Grammar) → Ixml t g → Ixml (tidyText g) g
   pub one : (t : Text) (g h : Grammar) → Ixml t g → Ixml (tidyText g) h → h ≡ g
   -- it has no character that the grammar's text may not have
   pub known : (t : Text) (g : Grammar) → Ixml t g → T (all known t) → T (all known (tidyText g))
+  -- the text can be written by one scan over the grammar's tokens
+  pub scans : (t : Text) (g : Grammar) → Ixml t g → scan true (grammarTokens g) ≡ tidyText g
   -- each grammar and buffer have exactly one answer, and it is the computed one
   pub answers : (bs old : List ℕ) → Tidies bs old (tidyOf bs old .answer) (tidyOf bs old .buffer)
   pub settled : (bs old : List ℕ) (a : Answer) (new : List ℕ) → Tidies bs old a new → (a ≡ tidyOf bs old .answer) × (new ≡ tidyOf bs old .buffer)

@@ -1,4 +1,5 @@
 -- The tidy text of a grammar: its syntax tree in the one layout.
+use mathlib.Core.Bool.{true, false}
 use mathlib.Core.List.{List, [], _∷_, _++_}
 use Prim.Native.Nat.{ℕ, zero, suc, _+_, _/_, _%_}
 use lib.Dec.{ltb, eqb}
@@ -22,7 +23,7 @@ lowerDigit d = pick (ltb d 10) (0x30 + d) (0x57 + d)
 -- at most so many digits; a number has fewer digits than it is large, but for 0
 abbrev pub hexDigits : ℕ → ℕ → Text
 hexDigits zero n = []
-hexDigits (suc k) n = pick (ltb n 16) (lowerDigit n ∷ []) (hexDigits k (n / 16) ++ lowerDigit (n % 16) ∷ [])
+hexDigits (suc k) n = elim (ltb n 16) [ true ↦ lowerDigit n ∷ [] | false ↦ hexDigits k (n / 16) ++ lowerDigit (n % 16) ∷ [] ]
 
 abbrev pub hexText : ℕ → Text
 hexText n = hexDigits (suc n) n

@@ -27,7 +27,7 @@ loop-holds c =
 column-requires : tie.Need-column-requires Inv-loop μ-loop
 column-requires c κs =
     let start = c .before .before .before .before .before .before in
-    (rw (c .before .before .loop .inv .1) (start .pre), c .before .loop-test .taken)
+    (rw (c .before .before .loop .inv .1) (start .pre), omega (arith, c .before .loop-test .taken))
 
 either-requires : tie.Need-either-requires Inv-loop μ-loop
 either-requires c κs = search needs
@@ -52,7 +52,8 @@ loop-again c =
     let a = start .args in (
       omega (arith, at-loop-test .loop-test .taken),
       at-column .column .kept .1 .1 .0 ∙ at-loop .loop .inv .1,
-      λ run. told (c .either .ensures) (ends-next (a .code .now) (a .fits .now) (a .size) (a .n) (a .height) (at-loop .loop .j) (at-loop-test .loop-test .taken)
+      λ run. told (c .either .ensures) (ends-next (a .code .now) (a .fits .now) (a .size) (a .n) (a .height) (at-loop .loop .j)
+          (omega (arith, at-loop-test .loop-test .taken))
           (at-loop .loop .inv .2 run) (at-column .column .ensures (at-loop .loop .inv .2 run .running))),
     )
 

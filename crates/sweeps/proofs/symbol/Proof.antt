@@ -21,7 +21,7 @@ loop-holds c =
 split-requires : tie.Need-split-requires Inv-loop μ-loop
 split-requires c κs =
     let start = c .before .before .before .before in
-    (start .pre .0, start .pre .1, c .before .loop .inv .0, c .loop-test .taken, start .pre .2)
+    (start .pre .0, start .pre .1, c .before .loop .inv .0, omega (arith, c .loop-test .taken), start .pre .2)
 
 returns : tie.Need-returns Inv-loop μ-loop
 returns c =
@@ -29,7 +29,7 @@ returns c =
     let start = at-loop .before .before .before in
     let a = start .args in
     λ f. symbol-yes (a .code .now) f (a .layer .size) (a .layer .n) (a .layer .height) _ (start .pre .0) (a .main .now) (a .p) (a .i) (a .j) (start .pre .2)
-    (at-loop .loop .m) (c .before .split .result) (at-loop .loop .inv .0) (c .before .before .loop-test .taken) (c .before .split .ensures) (c .if1 .taken)
+    (at-loop .loop .m) (c .before .split .result) (at-loop .loop .inv .0) (omega (arith, c .before .before .loop-test .taken)) (c .before .split .ensures) (c .if1 .taken)
 
 add-m : tie.Need-add-m Inv-loop μ-loop
 add-m c =

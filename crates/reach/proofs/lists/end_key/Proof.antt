@@ -29,7 +29,13 @@ shared-slice-read-result : tie.Need-shared-slice-read-result
 shared-slice-read-result c = search needs
 
 add-result-2 : tie.Need-add-result-2
-add-result-2 c = omega (arith, c .before .before .before .pre .0 .homes (c .before .before .before .args .p) (c .before .before .before .pre .1), home-below (c .before .before .before .pre .0 .shape) (c .before .before .before .args .p) (c .before .before .before .pre .1), c .before .before .before .pre .0 .shape .small)
+add-result-2 c = omega (
+  arith,
+  c .before .before .before .pre .0 .homes (c .before .before .before .args .p) (c .before .before .before .pre .1),
+  home-below
+      (c .before .before .before .pre .0 .shape) (c .before .before .before .args .p) (c .before .before .before .pre .1),
+  c .before .before .before .pre .0 .shape .small,
+)
 
 returns-2 : tie.Need-returns-2
 returns-2 c = ap (λ (x : ℕ). x + 1) (c .before .before .before .pre .0 .homes (c .before .before .before .args .p) (c .before .before .before .pre .1)) ∙ sym (end-some _ _ (c .before .if1 .left))

@@ -24,7 +24,14 @@ mul-work : tie.Need-mul-work Inv-loop μ-loop
 mul-work c = omega (arith, c .before .loop-test .taken, c .before .before .before .before .before .pre .shape .small)
 
 slice-write-work : tie.Need-slice-write-work Inv-loop μ-loop
-slice-write-work c = omega (arith, c .before .loop-test .taken, c .before .before .before .before .before .pre .shape .small, c .before .before .loop .inv .long, c .before .before .before .before .before .pre .long)
+slice-write-work c = omega (
+  arith,
+  c .before .loop-test .taken,
+  c .before .before .before .before .before .pre .shape .small,
+  c .before .before .loop .inv .long,
+  c .before .before
+      .before .before .before .pre .long,
+)
 
 add-p : tie.Need-add-p Inv-loop μ-loop
 add-p c = omega (arith, c .before .loop-test .taken, c .before .before .before .before .before .pre .shape .small)
@@ -33,7 +40,8 @@ loop-less : tie.Need-loop-less Inv-loop μ-loop
 loop-less c = omega (arith, c .before .loop-test .taken)
 
 loop-again : tie.Need-loop-again Inv-loop μ-loop
-loop-again c = homes-next (c .before .before .loop .inv) (c .before .before .before .before .before .pre .long) (c .before .before .before .before .before .pre .shape .small) (c .before .loop-test .taken) (c .home-at .ensures)
+loop-again c = homes-next (c .before .before .loop .inv) (c .before .before .before .before .before .pre .long) (c .before .before .before .before .before .pre .shape .small)
+    (c .before .loop-test .taken) (c .home-at .ensures)
 
 same-length : tie.Need-same-length Inv-loop μ-loop
 same-length c = c .before .loop .inv .long

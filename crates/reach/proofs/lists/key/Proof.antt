@@ -21,19 +21,24 @@ shared-slice-read-result : tie.Need-shared-slice-read-result
 shared-slice-read-result c = search needs
 
 returns : tie.Need-returns
-returns c = sym (ap (λ (w : ℕ). keyOf (c .before .before .before .before .args .code .now) w (c .before .before .before .before .args .p)) (c .before .if1 .taken) ∙ key-first (c .before .before .before .before .args .code .now) (c .before .before .before .before .args .p))
+returns c = sym (ap (λ (w : ℕ). keyOf (c .before .before .before .before .args .code .now) w (c .before .before .before .before .args .p)) (c .before .if1 .taken) ∙ key-first
+    (c .before .before .before .before .args .code .now) (c .before .before .before .before .args .p))
 
 after-key-requires : tie.Need-after-key-requires
 after-key-requires c κs = search needs
 
 returns-2 : tie.Need-returns-2
-returns-2 c = c .after-key .ensures ∙ sym (ap (λ (w : ℕ). keyOf (c .before .before .before .before .before .args .code .now) w (c .before .before .before .before .before .args .p)) (c .before .if2 .taken) ∙ key-after (c .before .before .before .before .before .args .code .now) (c .before .before .before .before .before .args .p))
+returns-2 c = c .after-key .ensures ∙ sym (ap (λ (w : ℕ). keyOf (c .before .before .before .before .before .args .code .now) w
+    (c .before .before .before .before .before .args .p)) (c .before .if2 .taken) ∙ key-after (c .before .before .before .before .before .args .code .now)
+    (c .before .before .before .before .before .args .p))
 
 end-key-requires : tie.Need-end-key-requires
 end-key-requires c κs = search needs
 
 returns-3 : tie.Need-returns-3
-returns-3 c = c .end-key .ensures ∙ sym (ap (λ (w : ℕ). keyOf (c .before .before .before .before .before .before .args .code .now) w (c .before .before .before .before .before .before .args .p)) (c .before .if3 .taken) ∙ key-end (c .before .before .before .before .before .before .args .code .now) (c .before .before .before .before .before .before .args .p))
+returns-3 c = c .end-key .ensures ∙ sym (ap (λ (w : ℕ). keyOf (c .before .before .before .before .before .before .args .code .now) w
+    (c .before .before .before .before .before .before .args .p)) (c .before .if3 .taken) ∙ key-end (c .before .before .before .before .before .before .args .code .now)
+    (c .before .before .before .before .before .before .args .p))
 
 use-key-requires : tie.Need-use-key-requires
 use-key-requires c κs = search needs

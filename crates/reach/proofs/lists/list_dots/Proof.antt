@@ -22,7 +22,12 @@ same-length : tie.Need-same-length
 same-length c = search needs
 
 returns : tie.Need-returns
-returns c = members (c .before .before .list-uses .ensures) (omega (arith, c .before .before .list-uses .kept .1 .0, c .before .before .before .before .before .before .before .before .before .before .before .pre .room)) (c .before .before .before .before .before .before .put-keys .ensures)
+returns c = members (c .before .before .list-uses .ensures) (omega (
+  arith,
+  c .before .before .list-uses .kept .1 .0,
+  c .before .before .before .before .before .before .before
+      .before .before .before .before .pre .room,
+)) (c .before .before .before .before .before .before .put-keys .ensures)
 
 pub list-dots-spec : {M : Type 1} → statement M
 list-dots-spec =

@@ -28,7 +28,14 @@ mul-work : tie.Need-mul-work Inv-loop μ-loop
 mul-work c = omega (arith, c .before .before .before .loop-test .taken, c .before .before .before .before .before .before .before .pre .shape .small)
 
 slice-write-work : tie.Need-slice-write-work Inv-loop μ-loop
-slice-write-work c = omega (arith, c .before .before .before .loop-test .taken, c .before .before .before .before .before .before .before .pre .shape .small, c .before .before .before .before .loop .inv .0 .long, c .before .before .before .before .before .before .before .pre .long)
+slice-write-work c = omega (
+  arith,
+  c .before .before .before .loop-test .taken,
+  c .before .before .before .before .before .before .before .pre .shape .small,
+  c .before .before
+      .before .before .loop .inv .0 .long,
+  c .before .before .before .before .before .before .before .pre .long,
+)
 
 add-p : tie.Need-add-p Inv-loop μ-loop
 add-p c = omega (arith, c .before .before .before .loop-test .taken, c .before .before .before .before .before .before .before .pre .shape .small)
@@ -38,8 +45,16 @@ loop-less c = omega (arith, c .before .before .before .loop-test .taken)
 
 loop-again : tie.Need-loop-again Inv-loop μ-loop
 loop-again c =
-    let z : (c .before .before .before .before .loop .p) < 512 = omega (arith, c .before .before .before .loop-test .taken, c .before .before .before .before .before .before .before .pre .shape .small) in
-    (opening-next (c .before .before .before .before .loop .inv .0) (c .before .before .before .before .before .before .before .pre .long) z (λ k. c .is-zero .ensures (c .before .key .ensures ∙ k)), omega (arith, c .before .before .before .loop-test .taken))
+    let z : (c .before .before .before .before .loop .p) < 512 = omega (
+      arith,
+      c .before .before .before .loop-test .taken,
+      c .before .before .before .before .before .before
+          .before .pre .shape .small,
+    ) in (
+      opening-next (c .before .before .before .before .loop .inv .0) (c .before .before .before .before .before .before .before .pre .long) z
+          (λ k. c .is-zero .ensures (c .before .key .ensures ∙ k)),
+      omega (arith, c .before .before .before .loop-test .taken),
+    )
 
 same-length : tie.Need-same-length Inv-loop μ-loop
 same-length c = c .before .loop .inv .0 .long

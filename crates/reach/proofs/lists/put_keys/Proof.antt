@@ -18,7 +18,16 @@ key-requires : tie.Need-key-requires Inv-loop μ-loop
 key-requires c κs = (c .before .before .before .before .before .before .pre .0, c .before .loop-test .taken)
 
 put-key-requires : tie.Need-put-key-requires Inv-loop μ-loop
-put-key-requires c κs = (omega (arith, c .before .before .loop-test .taken, c .before .before .before .before .before .before .before .pre .1, c .before .before .before .loop .inv .long), omega (arith, c .before .before .loop-test .taken, c .before .before .before .before .before .before .before .pre .0 .shape .small))
+put-key-requires c κs = (
+  omega (
+    arith,
+    c .before .before .loop-test .taken,
+    c .before .before .before .before .before .before .before .pre .1,
+    c .before .before .before .loop .inv
+        .long,
+  ),
+  omega (arith, c .before .before .loop-test .taken, c .before .before .before .before .before .before .before .pre .0 .shape .small),
+)
 
 add-p : tie.Need-add-p Inv-loop μ-loop
 add-p c = omega (arith, c .before .before .before .before .before .loop-test .taken, c .before .before .before .before .before .before .before .before .before .before .pre .0 .shape .small)
@@ -27,7 +36,9 @@ loop-less : tie.Need-loop-less Inv-loop μ-loop
 loop-less c = omega (arith, c .before .before .before .before .before .loop-test .taken)
 
 loop-again : tie.Need-loop-again Inv-loop μ-loop
-loop-again c = keys-next (c .before .before .before .before .before .before .before .before .before .before .pre .0 .shape) (c .before .before .before .before .before .before .loop .inv) (c .before .before .before .before .before .loop-test .taken) (c .before .before .before .key .ensures) (c .before .before .put-key .ensures)
+loop-again c = keys-next (c .before .before .before .before .before .before .before .before .before .before .pre .0 .shape)
+    (c .before .before .before .before .before .before .loop .inv) (c .before .before .before .before .before .loop-test .taken) (c .before .before .before .key .ensures)
+    (c .before .before .put-key .ensures)
 
 same-length : tie.Need-same-length Inv-loop μ-loop
 same-length c = c .before .loop .inv .long

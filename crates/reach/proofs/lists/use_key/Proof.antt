@@ -31,7 +31,12 @@ shared-slice-read-result : tie.Need-shared-slice-read-result
 shared-slice-read-result c = search needs
 
 add-result-2 : tie.Need-add-result-2
-add-result-2 c = omega (arith, c .before .before .before .pre .0 .rule (c .before .before .before .args .p) (c .before .before .before .pre .1) (c .before .if1 .left), c .before .before .before .pre .0 .small)
+add-result-2 c = omega (
+  arith,
+  c .before .before .before .pre .0 .rule (c .before .before .before .args .p) (c .before .before .before .pre .1) (c .before .if1 .left),
+  c .before
+      .before .before .pre .0 .small,
+)
 
 returns-2 : tie.Need-returns-2
 returns-2 c = sym (use-some _ _ (c .before .if1 .left))

@@ -41,13 +41,21 @@ mul-work c = search needs
 slice-write-work-2 : tie.Need-slice-write-work-2
 slice-write-work-2 c =
     let Q = c .before .before .before .before .before .before .args .work .now in
-    omega (arith, c .wide .ensures, length-set Q 0 (tailOf Q + 1), c .before .before .before .before .before .before .pre .0 .work-long, gather-tail (c .before .before .before .before .before .before .pre .0) (c .before .before .before .before .before .before .pre .1))
+    omega (
+      arith,
+      c .wide .ensures,
+      length-set Q 0 (tailOf Q + 1),
+      c .before .before .before .before .before .before .pre .0 .work-long,
+      gather-tail
+          (c .before .before .before .before .before .before .pre .0) (c .before .before .before .before .before .before .pre .1),
+    )
 
 same-length : tie.Need-same-length
 same-length c = search needs
 
 returns-2 : tie.Need-returns-2
-returns-2 c = rw (c .wide .ensures) (gather-new (c .before .before .before .before .before .before .pre .0) (c .before .before .before .before .before .before .pre .1) (omega (arith, c .before .before .if1 .left)))
+returns-2 c = rw (c .wide .ensures) (gather-new (c .before .before .before .before .before .before .pre .0) (c .before .before .before .before .before .before .pre .1)
+    (omega (arith, c .before .before .if1 .left)))
 
 pub gather-spec : {M : Type 1} → statement M
 gather-spec =

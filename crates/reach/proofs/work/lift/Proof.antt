@@ -59,7 +59,14 @@ mul-work c = search needs
 slice-write-work-2 : tie.Need-slice-write-work-2
 slice-write-work-2 c =
     let Q = c .before .before .before .before .before .before .before .before .args .work .now in
-    omega (arith, c .wide .ensures, length-set Q 0 (tailOf Q + 1), c .before .before .before .before .before .before .before .before .pre .0 .work-long, tail-below (c .before .before .before .before .before .before .before .before .pre .0) (c .before .before .before .before .before .before .before .before .pre .1) (c .before .before .if2 .left))
+    omega (
+      arith,
+      c .wide .ensures,
+      length-set Q 0 (tailOf Q + 1),
+      c .before .before .before .before .before .before .before .before .pre .0 .work-long,
+      tail-below
+          (c .before .before .before .before .before .before .before .before .pre .0) (c .before .before .before .before .before .before .before .before .pre .1) (c .before .before .if2 .left),
+    )
 
 same-length : tie.Need-same-length
 same-length c = search needs
@@ -68,7 +75,8 @@ same-length-2 : tie.Need-same-length-2
 same-length-2 c = search needs
 
 returns-3 : tie.Need-returns-3
-returns-3 c = rw (c .wide .ensures) (lift-new (c .before .before .before .before .before .before .before .before .pre .0) (c .before .before .before .before .before .before .before .before .pre .1) (c .before .before .if2 .left))
+returns-3 c = rw (c .wide .ensures) (lift-new (c .before .before .before .before .before .before .before .before .pre .0)
+    (c .before .before .before .before .before .before .before .before .pre .1) (c .before .before .if2 .left))
 
 pub lift-spec : {M : Type 1} → statement M
 lift-spec =

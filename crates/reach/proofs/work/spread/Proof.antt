@@ -33,25 +33,49 @@ lift-requires : tie.Need-lift-requires Inv-loop μ-loop
 lift-requires c κs = (c .before .before .before .loop .inv .grown .kept, omega (arith, c .before .before .before .loop .inv .below, c .before .before .loop-test .taken))
 
 mul-wide-3 : tie.Need-mul-wide-3 Inv-loop μ-loop
-mul-wide-3 c = omega (arith, c .before .before .before .before .before .before .before .before .loop .inv .below, c .before .before .before .before .before .before .before .before .before .before .before .before .before .before .pre .kept .small)
+mul-wide-3 c = omega (
+  arith,
+  c .before .before .before .before .before .before .before .before .loop .inv .below,
+  c .before .before .before .before .before .before .before .before
+      .before .before .before .before .before .before .pre .kept .small,
+)
 
 sub-wide : tie.Need-sub-wide Inv-loop μ-loop
 sub-wide c = omega (arith, c .before .before .before .before .before .before .before .loop-test .taken)
 
 mul-wide-4 : tie.Need-mul-wide-4 Inv-loop μ-loop
-mul-wide-4 c = omega (arith, c .before .before .before .before .before .before .before .before .loop .inv .below, c .before .before .before .before .before .before .before .before .before .before .before .before .before .before .pre .kept .small)
+mul-wide-4 c = omega (
+  arith,
+  c .before .before .before .before .before .before .before .before .loop .inv .below,
+  c .before .before .before .before .before .before .before .before
+      .before .before .before .before .before .before .pre .kept .small,
+)
 
 shared-slice-read-wide-2 : tie.Need-shared-slice-read-wide-2 Inv-loop μ-loop
-shared-slice-read-wide-2 c = omega (arith, c .before .before .before .before .before .before .before .before .before .loop .inv .below, c .before .before .before .before .before .before .before .before .loop-test .taken, c .before .before .before .before .before .before .before .before .before .before .before .before .before .before .before .pre .linked .room)
+shared-slice-read-wide-2 c = omega (
+  arith,
+  c .before .before .before .before .before .before .before .before .before .loop .inv .below,
+  c .before .before .before .before .before
+      .before .before .before .loop-test .taken,
+  c .before .before .before .before .before .before .before .before .before .before .before .before .before .before .before .pre .linked .room,
+)
 
 wide-requires-2 : tie.Need-wide-requires-2 Inv-loop μ-loop
 wide-requires-2 c κs = search needs
 
 loop-less : tie.Need-loop-less Inv-loop μ-loop
-loop-less c = omega (arith, c .wide2 .ensures, spread-less (c .before .before .before .before .before .before .before .before .before .before .loop .inv) (c .before .before .before .before .before .before .before .before .before .before .before .before .before .before .before .before .pre .linked) (c .before .before .before .before .before .before .before .before .before .loop-test .taken))
+loop-less c = omega (
+  arith,
+  c .wide2 .ensures,
+  spread-less (c .before .before .before .before .before .before .before .before .before .before .loop .inv)
+      (c .before .before .before .before .before .before .before .before .before .before .before .before .before .before .before .before .pre .linked)
+      (c .before .before .before .before .before .before .before .before .before .loop-test .taken),
+)
 
 loop-again : tie.Need-loop-again Inv-loop μ-loop
-loop-again c = rw (c .wide2 .ensures) (spread-next (c .before .before .before .before .before .before .before .before .before .before .loop .inv) (c .before .before .before .before .before .before .before .before .before .before .before .before .before .before .before .before .pre .linked) (c .before .before .before .before .before .before .before .before .before .loop-test .taken) (c .before .before .before .before .before .before .lift .ensures))
+loop-again c = rw (c .wide2 .ensures) (spread-next (c .before .before .before .before .before .before .before .before .before .before .loop .inv)
+    (c .before .before .before .before .before .before .before .before .before .before .before .before .before .before .before .before .pre .linked)
+    (c .before .before .before .before .before .before .before .before .before .loop-test .taken) (c .before .before .before .before .before .before .lift .ensures))
 
 same-length : tie.Need-same-length Inv-loop μ-loop
 same-length c = c .before .loop .inv .grown .kept .marks-long ∙ sym (c .before .before .before .before .before .before .before .pre .kept .marks-long)

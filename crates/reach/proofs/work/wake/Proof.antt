@@ -27,7 +27,8 @@ raise-requires : tie.Need-raise-requires
 raise-requires c κs = search needs
 
 spread-requires : tie.Need-spread-requires
-spread-requires c κs = wake-spreads (c .before .before .before .before .before .before .before .before .before .before .before .before .before .before .pre) (c .before .before .before .before .before .before .before .if1 .left) (c .before .before .before .before .raise .ensures)
+spread-requires c κs = wake-spreads (c .before .before .before .before .before .before .before .before .before .before .before .before .before .before .pre)
+    (c .before .before .before .before .before .before .before .if1 .left) (c .before .before .before .before .raise .ensures)
 
 same-length : tie.Need-same-length
 same-length c = search needs
@@ -36,7 +37,9 @@ same-length-2 : tie.Need-same-length-2
 same-length-2 c = search needs
 
 returns-2 : tie.Need-returns-2
-returns-2 c = wake-some (c .before .before .before .before .before .before .before .before .before .before .before .before .before .before .before .before .before .before .before .pre) (c .before .before .before .before .before .before .before .before .before .before .before .before .if1 .left) (c .before .before .before .before .before .before .before .before .before .raise .ensures) (c .before .before .before .before .spread .ensures)
+returns-2 c = wake-some (c .before .before .before .before .before .before .before .before .before .before .before .before .before .before .before .before .before .before .before
+    .pre) (c .before .before .before .before .before .before .before .before .before .before .before .before .if1 .left)
+    (c .before .before .before .before .before .before .before .before .before .raise .ensures) (c .before .before .before .before .spread .ensures)
 
 pub wake-spec : {M : Type 1} → statement M
 wake-spec =

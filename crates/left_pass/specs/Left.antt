@@ -9,14 +9,14 @@ use lib.ListN.{length, getD, drop}
 use Rattle.text.specs.Lists.{Text}
 use Rattle.text.specs.Limits.{grammarTable}
 use Rattle.tree.specs.Tree.{Terminal}
-use Rattle.plain.specs.Plain.{fits}
+use Rattle.plain.specs.Plain.{fits, width}
 use Rattle.items.specs.Items.{tokenAt}
 use Rattle.chart.specs.Code.{nextKind, goesAt, ruleAt, ownerAt}
-use Rattle.terminals.specs.Places.{TerminalHere}
+use Rattle.terminals.specs.Places.{TerminalHere, TerminalAt}
 use Rattle.rules.specs.Ready.{Token}
-use Rattle.reach.specs.Flags.{dotAt, Reached, Fits, Begins, Ends, homeOf, LeftClosed, FitsOnly}
+use Rattle.reach.specs.Flags.{dotAt, beginAt, endAt, Reached, Fits, Begins, Ends, homeOf, LeftClosed, FitsOnly}
 use Rattle.reach.specs.Work.{tailOf, Seen, Waits, Kept}
 use Rattle.reach.specs.Lists.{Shape, Homes, Members}
 
 -- bytes of the place i grow, dots are opened, and what is lifted is put into the queue
 pub record Stir (size low : ℕ) (M Q M' Q' : List ℕ) (i : ℕ) : Type 0 where
@@ -81,3 +81,38 @@ pub record Closing (c : List ℕ) (size : ℕ) (F A M Q : List ℕ) (i : ℕ) : 
 pub record Closed (c : List ℕ) (size : ℕ) (M Q M' Q' : List ℕ) (i : ℕ) : Type 0 where
   pub stepped : Stepped c size M Q M' Q' i
   pub done : (p : ℕ) → p < size → Reached M' p i → Done c M' Q' i p
+
+-- what the pass is given of the grammar and the record
+pub record Given (Tb c : List ℕ) (R : Text) (size : ℕ) (M : List ℕ) : Type 0 where
+  pub table-long : length Tb ≡ grammarTable
+  pub shape : Shape c size
+  pub here : (p : ℕ) → p < size → nextKind c p ≡ 1 → TerminalHere Tb (tokenAt Tb p)
+  pub token : (p : ℕ) (x : Terminal) → p < size → nextKind c p ≡ 1 → TerminalAt Tb (tokenAt Tb p) x → Token Tb p x
+  pub goes : (p : ℕ) (x : Terminal) → p < size → nextKind c p ≡ 1 → Token Tb p x → goesAt c p ≡ width x
+  pub short : length R ≤ 200
+  pub marks-long : length M ≡ 308736
+
+-- terminals of the dots from a on before b take their characters at the place i
+pub record Shifted (Tb c : List ℕ) (R : Text) (size : ℕ) (M M' : List ℕ) (i a b : ℕ) : Type 0 where
+  pub long : length M' ≡ length M
+  pub grows : (x : ℕ) → getD M x 0 ≤ getD M' x 0
+  pub before : (x : ℕ) → x < 1536 * i → getD M' x 0 ≡ getD M x 0
+  pub rules : (k e : ℕ) → i ≤ k → e < 512 → (beginAt M' e k ≡ beginAt M e k) × (endAt M' e k ≡ endAt M e k)
+  pub dots : (p : ℕ) → p < 512 → Reached M' p i → Reached M p i
+  pub ahead : (p k : ℕ) → p < 512 → i < k → dotAt M p k ≤ 1 → dotAt M' p k ≤ 1
+  pub fit : (p : ℕ) (x : Terminal) → a ≤ p → p < b → p < size → nextKind c p ≡ 1 → (goesAt c p ≡ 0 → ⊥) → Reached M p i → Token Tb p x → T (fits x (drop i R))
+      → Fits M' p i × Reached M' (p + 1) (i + goesAt c p)
+  pub only : (p : ℕ) → p < size → nextKind c p ≡ 1 → Fits M' p i → Fits M p i ⊎ ((x : Terminal) → Token Tb p x → T (fits x (drop i R)))
+
+pub record Lefting (Tb c : List ℕ) (R : Text) (size top : ℕ) (M : List ℕ) : Type 0 where
+  pub given : Given Tb c R size M
+  pub inside : top < size
+  pub none : (x : ℕ) → getD M x 0 ≡ 0
+
+-- the pass is done; it answers whether the root's rule may end at the record's end
+pub record Lefted (Tb c : List ℕ) (R : Text) (size top : ℕ) (M : List ℕ) (r : Bool) : Type 0 where
+  pub long : length M ≡ 308736
+  pub closed : LeftClosed (Token Tb) c R size top M
+  pub only : FitsOnly (Token Tb) c R size M
+  pub ends : r ≡ true → Ends M top (length R)
+  pub fails : r ≡ false → Ends M top (length R) → ⊥

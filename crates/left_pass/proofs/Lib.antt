@@ -1,0 +1,3 @@
+pub mod Steps
+pub mod Shifts
+pub mod Places
