@@ -10,7 +10,7 @@ use borrow.Author.Tests.{eq-eqb, ne-eqb}
 use lib.Dec.{T, eqb}
 use lib.ListN.{length, getD, drop}
 use Rattle.text.specs.Lists.{Text}
-use Rattle.text.proofs.Tests.{clash}
+use Rattle.text.proofs.Tests.{clash, split}
 use Rattle.tree.specs.Tree.{Terminal}
 use Rattle.plain.specs.Plain.{fits, width}
 use Rattle.chart.specs.Code.{nextKind, goesAt, ruleAt, ownerAt}
@@ -62,6 +62,7 @@ pub record Passing (Tb c : List ℕ) (R : Text) (size top : ℕ) (M Q : List ℕ
   pub first : (q e k : ℕ) → q < size → ownerAt c q ≡ e + 1 → i ≤ k → Begins M e k → Reached M q k
   pub none : (e k : ℕ) → e < 512 → i ≤ k → endAt M e k ≡ 0
   pub ones : (p k : ℕ) → p < 512 → i ≤ k → dotAt M p k ≤ 1
+  pub level : (e k : ℕ) → e < 512 → (beginAt M e k ≤ 1) × (endAt M e k ≤ 1)
 
 module _ {Tb c : List ℕ} {R : Text} {size top i : ℕ} {M₀ M Q : List ℕ} (g : Given Tb c R size M₀) (a : Passing Tb c R size top M Q i) (on : i ≤ length R) where
   pub place-collects : Collects size 0 M Q i
@@ -159,6 +160,21 @@ module _ {Tb c : List ℕ} {R : Text} {size top i : ℕ} {M₀ M Q : List ℕ} (
         later : (k x : ℕ) → i + 1 ≤ k → 1536 * k ≤ x → getD M₂ x 0 ≡ getD M x 0
         later k x h b = d .stepped .stir .away x (inr (omega arith))
 
+        rule-level : (k y : ℕ) → 512 ≤ y → y < 1536 → getD M (1536 * k + y) 0 ≤ 1 → getD M₂ (1536 * k + y) 0 ≤ 1
+        rule-level k y h b v = elim (ℕ-discrete k i) as (λ _. getD M₂ (1536 * k + y) 0 ≤ 1) [
+          | yes z ↦ d .stepped .level (1536 * k + y) (omega arith) v
+          | no z ↦ ⊎-elim
+              (λ n. omega (arith, d .stepped .stir .away (1536 * k + y) (inl (omega arith))))
+              (λ n. omega (arith, d .stepped .stir .away (1536 * k + y) (inr (omega arith))))
+              (split k i)
+        ]
+
+        shift-level : (k e : ℕ) → e < 512 → (beginAt M₃ e k ≡ beginAt M₂ e k) × (endAt M₃ e k ≡ endAt M₂ e k)
+        shift-level k e h = ⊎-elim
+            (λ n. (s .before (1536 * k + (512 + e)) (omega arith), s .before (1536 * k + (1024 + e)) (omega arith)))
+            (λ n. s .rules k e n h)
+            (split k i)
+
         pub place-next : Passing Tb c R size top M₃ Q₂ (i + 1)
         place-next = record {
           long = s .long ∙ d .stepped .stir .kept .marks-long;
@@ -179,6 +195,10 @@ module _ {Tb c : List ℕ} {R : Text} {size top i : ℕ} {M₀ M Q : List ℕ} (
                 grows (1536 * k + q),
               ));
           none = λ e k h b. s .rules k e (omega arith) h .1 ∙ later k (1536 * k + (1024 + e)) b (omega arith) ∙ a .none e k h (omega arith);
+          level = λ e k h. (let v = shift-level k e h in (
+            omega (arith, v .0, rule-level k (512 + e) (omega arith) (omega arith) (a .level e k h .0)),
+            omega (arith, v .1, rule-level k (1024 + e) (omega arith) (omega arith) (a .level e k h .1)),
+          ));
           ones = λ p k h b. s .ahead p k h (omega arith) (omega (arith, later k (1536 * k + p) b (omega arith), a .ones p k h (omega arith)));
         }
 
@@ -264,6 +284,10 @@ module _ {Tb c : List ℕ} {R : Text} {size top : ℕ} {M Q₀ Q₁ Q F : List �
       closed = λ k b. absurd (omega arith);
       first = firsts;
       none = λ e k l b. ⊎-elim (λ z. z) (⊎-elim (λ z. absurd (omega (arith, z .0))) (λ z. absurd (omega (arith, z .0, g .inside, shape .small)))) (byte (1536 * k + (1024 + e)));
+      level = λ e k l. (
+        ⊎-elim (λ z. omega arith) (⊎-elim (λ z. omega (arith, z .1)) (λ z. omega (arith, z .1))) (byte (1536 * k + (512 + e))),
+        ⊎-elim (λ z. omega arith) (⊎-elim (λ z. omega (arith, z .1)) (λ z. omega (arith, z .1))) (byte (1536 * k + (1024 + e))),
+      );
       ones = λ p k l b. ⊎-elim (λ z. omega arith) (⊎-elim (λ z. omega (arith, z .1)) (λ z. omega (arith, z .1))) (byte (1536 * k + p));
     }
 
@@ -281,6 +305,7 @@ place-end {top = top} {n = n} {M} a e l = record {
   long = a .long;
   closed = places-closed a (omega arith);
   only = places-only a (omega arith);
+  level = a .level;
   ends = λ h. subst (λ (k : ℕ). Ends M top k) e (some-of (endAt M top n) h);
   fails = λ h f. none-of (endAt M top n) h (subst (λ (k : ℕ). Ends M top k) (sym e) f);
 }

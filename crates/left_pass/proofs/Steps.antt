@@ -151,12 +151,15 @@ lift-same g x h = ⊎-elim (λ a. a) (λ a. absurd (omega (arith, a .to))) (g .c
 lift-two : {size i : ℕ} {M Q M' Q' : List ℕ} → Grown size 0 M Q M' Q' i → (x : ℕ) → 2 ≤ getD M' x 0 → 2 ≤ getD M x 0
 lift-two g x h = ⊎-elim (λ a. omega arith) (λ a. absurd (omega (arith, a .now-is))) (g .cell x)
 
+woken-level : {size column i e : ℕ} {L M Q M' Q' : List ℕ} → Woken size 0 0 column L M Q M' Q' i e → (x : ℕ) → getD M x 0 ≤ 1 → getD M' x 0 ≤ 1
+woken-level w x h = ⊎-elim (⊎-elim (λ a. omega arith) (λ a. omega (arith, a .now-is))) (λ a. omega (arith, a .2)) (w .cell x)
+
 woken-two : {size column i e : ℕ} {L M Q M' Q' : List ℕ} → Woken size 0 0 column L M Q M' Q' i e → (x : ℕ) → 2 ≤ getD M' x 0 → 2 ≤ getD M x 0
 woken-two w x h = ⊎-elim (⊎-elim (λ a. omega arith) (λ a. absurd (omega (arith, a .now-is)))) (λ a. absurd (omega (arith, a .2))) (w .cell x)
 
 module _ {c : List ℕ} {size i p : ℕ} {M Q : List ℕ} (a : At c size M Q i p) where
   pub stepped-none : Stepped c size M Q M Q i
-  stepped-none = record { stir = stir-none (a .kept); rules = a .rules; only = λ q h k f. inl f }
+  stepped-none = record { stir = stir-none (a .kept); rules = a .rules; only = λ q h k f. inl f; level = λ x h l. l }
 
 -- at a symbol
 module _ {c : List ℕ} {size i p : ℕ} {F M Q : List ℕ} (t : AtList c 0 size F M Q i p) (kind : nextKind c p ≡ 2) where
@@ -227,6 +230,13 @@ module _ {c : List ℕ} {size i p : ℕ} {F M Q : List ℕ} (t : AtList c 0 size
         (λ y. absurd (let z : q ≡ p = omega (arith, y .0) in omega (arith, ap (nextKind c) z)))
         (r .cell (1536 * i + q))
 
+    level : (x : ℕ) → 1536 * i + 512 ≤ x → getD M x 0 ≤ 1 → getD M₃ x 0 ≤ 1
+    level x h l = omega (
+      arith,
+      raise-other (waking .kept) (omega (arith, a .inside, a .shape .small)) still r x (λ z. omega (arith, a .inside, a .shape .small)),
+      woken-level w x l,
+    )
+
     pub symbol-done : SymbolDone c M₃ Q₂ i p
     symbol-done _ = (
       omega (arith, w .there (omega arith), raising .grows (1536 * i + (512 + ruleAt c p))),
@@ -240,6 +250,7 @@ module _ {c : List ℕ} {size i p : ℕ} {F M Q : List ℕ} (t : AtList c 0 size
       rules = rules-next (a .rules) stirred begins
           (λ q h k e v. inl (ends q (λ y. omega (arith, ap (λ (x : ℕ). endAt M₃ (ruleAt c x) i) y)) e v));
       only = λ q h k f. inl (only q h k f);
+      level = level;
     }
 
     module _ {M₄ Q₄ : List ℕ} (l : Lift size 0 M₃ Q₂ M₄ Q₄ i (p + 1)) where
@@ -257,6 +268,7 @@ module _ {c : List ℕ} {size i p : ℕ} {F M Q : List ℕ} (t : AtList c 0 size
               | no y ↦ inl (ends q y (omega (arith, lift-same (l .grown) (1536 * i + (1024 + ruleAt c q)) (omega arith))) (omega (arith, l .grown .rest (513 + (q + 1)) (omega arith))))
             ]);
         only = λ q h k f. inl (only q h k (lift-two (l .grown) (1536 * i + q) f));
+        level = λ x h v. omega (arith, lift-same (l .grown) x h, level x h v);
       }
 
       pub symbol-over-done : SymbolDone c M₄ Q₄ i p
@@ -323,6 +335,11 @@ module _ {c : List ℕ} {size i p : ℕ} {A M Q : List ℕ} (t : AtList c 1 size
       only = λ q h k f. ⊎-elim (λ y. inl (woken-two w (1536 * i + q) (omega arith)))
           (λ y. absurd (let z : q ≡ p = omega (arith, y .0) in omega (arith, ap (nextKind c) z)))
           (r .cell (1536 * i + q));
+      level = λ x h v. omega (
+        arith,
+        raise-other (waked .kept) (omega (arith, at .inside, at .shape .small)) here r x (λ z. omega (arith, at .inside, at .shape .small)),
+        woken-level w x v,
+      );
     }
 
     pub end-done : EndDone c M₃ i p
@@ -357,6 +374,7 @@ module _ {c : List ℕ} {size i p : ℕ} {M Q : List ℕ} (t : At c size M Q i p
         only = λ q h k f. ⊎-elim (λ y. inl (omega (arith, lift-two (l .grown) (1536 * i + q) f)))
             (λ y. inr (let z : q ≡ p = omega (arith, y .0) in ap (goesAt c) z ∙ goes))
             (r .cell (1536 * i + q));
+        level = λ x h v. omega (arith, same-byte x h);
       }
 
       pub empty-done : EmptyDone c M₃ i p
@@ -371,6 +389,7 @@ stepped-join a b = record {
   stir = stir-join (a .stir) (b .stir);
   rules = b .rules;
   only = λ p h k f. ⊎-elim (λ y. a .only p h k y) inr (b .only p h k f);
+  level = λ x h v. b .level x h (a .level x h v);
 }
 
 pub at-next : {c : List ℕ} {size i p : ℕ} {M Q M' Q' : List ℕ} → At c size M Q i p → Stepped c size M Q M' Q' i → At c size M' Q' i p
@@ -403,7 +422,7 @@ pub record Draining (c : List ℕ) (size : ℕ) (M₀ Q₀ M Q : List ℕ) (i h 
 
 pub drain-start : {c : List ℕ} {size i : ℕ} {F A M Q : List ℕ} → Closing c size F A M Q i → Draining c size M Q M Q i 0
 drain-start k = record {
-  stepped = record { stir = stir-none (k .kept); rules = k .rules; only = λ q h z f. inl f };
+  stepped = record { stir = stir-none (k .kept); rules = k .rules; only = λ q h z f. inl f; level = λ x h l. l };
   pending = λ p h r. inl (k .listed p h r);
   low = omega arith;
 }

@@ -53,6 +53,7 @@ pub record Stepped (c : List ℕ) (size : ℕ) (M Q M' Q' : List ℕ) (i : ℕ) 
   pub stir : Stir size 0 M Q M' Q' i
   pub rules : Rules c size M' Q' i
   pub only : (p : ℕ) → p < size → nextKind c p ≡ 1 → Fits M' p i → Fits M p i ⊎ (goesAt c p ≡ 0)
+  pub level : (x : ℕ) → 1536 * i + 512 ≤ x → getD M x 0 ≤ 1 → getD M' x 0 ≤ 1
 
 -- what follows from a dot that is reached is so
 abbrev pub SymbolDone : List ℕ → List ℕ → List ℕ → ℕ → ℕ → Type 0
@@ -114,5 +115,6 @@ pub record Lefted (Tb c : List ℕ) (R : Text) (size top : ℕ) (M : List ℕ) (
   pub long : length M ≡ 308736
   pub closed : LeftClosed (Token Tb) c R size top M
   pub only : FitsOnly (Token Tb) c R size M
+  pub level : (e k : ℕ) → e < 512 → (beginAt M e k ≤ 1) × (endAt M e k ≤ 1)
   pub ends : r ≡ true → Ends M top (length R)
   pub fails : r ≡ false → Ends M top (length R) → ⊥

@@ -2,6 +2,8 @@
 // looks only at what is flagged.
 pub use lists::AFTERS;
 pub use lists::FIRSTS;
+pub use lists::LAST_DOTS;
+pub use lists::USES;
 pub use lists::homes;
 pub use lists::list_dots;
 pub use lists::open_dots;

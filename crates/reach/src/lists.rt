@@ -13,7 +13,7 @@ pub const FIRSTS: u32 = 0;
 
 pub const AFTERS: u32 = 1;
 
-pub const ENDS: u32 = 2;
+pub const LAST_DOTS: u32 = 2;
 
 pub const USES: u32 = 3;
 
@@ -83,7 +83,7 @@ fn key(code: &[u32], work: &[u32], size: usize, which: u32, p: usize) -> u32
     if which == AFTERS {
         return after_key(code, size, p);
     }
-    if which == ENDS {
+    if which == LAST_DOTS {
         return end_key(code, work, size, p);
     }
     use_key(code, size, p)

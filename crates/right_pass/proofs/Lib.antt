@@ -1,0 +1,4 @@
+pub mod Given
+pub mod Back
+pub mod Drains
+pub mod Rightward
