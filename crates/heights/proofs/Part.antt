@@ -57,10 +57,19 @@ module _ {At : ℕ → Terminal → Type 0} {c : List ℕ} {g : Grammar} {size t
   end-after p z (at-terminal x q l _ _ _) = absurd (omega arith)
   end-after p z (at-symbol s q l _ _ _ _) = absurd (omega arith)
 
-  -- heights that are attained: of a rule by a row of one of its alternatives, of a dot by one of what stands after it
+  -- heights that are attained: of a rule by a row of one of its alternatives, of a dot inside one by a row of what stands after it
   pub record Attained (rule rest : ℕ → ℕ → ℕ → ℕ) (i j : ℕ) : Type 0 where
-    pub rules : (e : ℕ) → e < size → rule e i j < none → RuleLow g r (rule e i j) (headOf g (k .heads) e) i j
-    pub rests : (p : ℕ) → p < size → rest p i j < none → Low g r (rest p i j) (afterDot dots p) i j
+    pub rules : (q e : ℕ) → q < size → ownerAt c q ≡ e + 1 → rule e i j < none → RuleLow g r (rule e i j) (headOf g (k .heads) e) i j
+    pub rests : (p : ℕ) → p < size → ownerAt c p ≡ 0 → rest p i j < none → Low g r (rest p i j) (afterDot dots p) i j
+
+  -- a chain begins with an alternative of its rule
+  pub chain-first : {e q : ℕ} {ts : List (List Symbol)} → Chain c dots e q ts → (q < size) × (ownerAt c q ≡ e + 1)
+  chain-first (ch-last h o b z) = (omega (arith, k .count), o)
+  chain-first (ch-next h o b y) = (omega (arith, k .count), o)
+
+  -- the rule of a symbol has a first alternative
+  pub rule-first : (p : ℕ) → p < size → nextKind c p ≡ 2 → (goesAt c p < size) × (ownerAt c (goesAt c p) ≡ ruleAt c p + 1)
+  rule-first p h z = chain-first (k .chains p h z)
 
   -- what is offered by heights that are attained is attained
   module _ (rule rest : ℕ → ℕ → ℕ → ℕ)
@@ -75,7 +84,8 @@ module _ {At : ℕ → Terminal → Type 0} {c : List ℕ} {g : Grammar} {size t
         go (at-end q _) = absurd (omega arith)
         go (at-symbol _ q _ _ _ _ _) = absurd (omega arith)
         go (at-terminal x q hp be gw ax) =
-            let u = below (i + goesAt c p) j (omega arith) b (omega arith) .rests (p + 1) (omega (arith, k .count)) (omega arith) in
+            let inside : p + 1 < size = omega (arith, k .count) in
+            let u = below (i + goesAt c p) j (omega arith) b (omega arith) .rests (p + 1) inside (k .inner p inside (λ q. omega arith)) (omega arith) in
             let d : Derives g r (u .row) (afterDot dots (p + 1)) (i + width x) j = subst (λ (a : ℕ). Derives g r (u .row) (afterDot dots (p + 1)) (i + a) j) gw (u .derives) in
             record { row = leaf (i + width x) (u .row); derives = rw be (d-leaf (fits-only p i x h (omega arith) z y ax) d); low = omega (arith, u .low) }
     offered p v h (by-split m z hm lm y o) l = go (k .stands p h)
@@ -87,8 +97,10 @@ module _ {At : ℕ → Terminal → Type 0} {c : List ℕ} {g : Grammar} {size t
             let a = rule (ruleAt c p) i m in
             let la = up-low a (omega arith) in
             let ua = up-is a la in
-            let one = below i m (omega arith) hm lm .rules (ruleAt c p) (omega (arith, k .count)) la in
-            let x = below m j hm lm (omega arith) .rests (p + 1) (omega (arith, k .count)) (omega arith) in
+            let first = rule-first p h z in
+            let one = below i m (omega arith) hm lm .rules (goesAt c p) (ruleAt c p) (first .0) (first .1) la in
+            let inside : p + 1 < size = omega (arith, k .count) in
+            let x = below m j hm lm (omega arith) .rests (p + 1) inside (k .inner p inside (λ q. omega arith)) (omega arith) in
             let ex : one .number < length (alts g s) = rw ea at (one .exists) in
             let d : Derives g r (one .low .row) (alternative g s (one .number)) i m = subst
             (λ (ts : List (List Symbol)). Derives g r (one .low .row) (getD ts (one .number) []) i m) ea (one .low .derives) in
@@ -124,8 +136,16 @@ module _ {At : ℕ → Terminal → Type 0} {c : List ℕ} {g : Grammar} {size t
       pub low : toward c rule rest p i j ≤ h
       pub some : toward c rule rest p i j < none
 
-    by-offer : (p i j v : ℕ) → i ≤ j → {ss : List Symbol} → Spot p i j ss → Offers c size home Fit Use Live rule rest p i j v → v < none → (h : ℕ) → v ≤ h → Reached p i j h
-    by-offer p i j v l b o m h q = let y = least i j l (b .stop) p v (b .inside) (b .used) (b .live) o m in record { low = omega arith; some = omega arith }
+    -- a value of at most h is offered
+    pub record Offered (p i j h : ℕ) : Type 0 where
+      pub value : ℕ
+      pub offer : Offers c size home Fit Use Live rule rest p i j value
+      pub some : value < none
+      pub low : value ≤ h
+
+    by-offer : (p i j h : ℕ) → i ≤ j → {ss : List Symbol} → Spot p i j ss → Offered p i j h → Reached p i j h
+    by-offer p i j h l b o = let y = least i j l (b .stop) p (o .value) (b .inside) (b .used) (b .live) (o .offer) (o .some) in
+        record { low = omega (arith, o .low); some = omega (arith, o .some) }
 
     -- a dot inside an alternative has its own height
     inner : (p i j h : ℕ) → p + 1 < size → (nextKind c p ≡ 0 → ⊥) → Reached (p + 1) i j h → (rest (p + 1) i j ≤ h) × (rest (p + 1) i j < none)
@@ -141,7 +161,7 @@ module _ {At : ℕ → Terminal → Type 0} {c : List ℕ} {g : Grammar} {size t
     }
 
     shifted : (p i j h : ℕ) (x : Terminal) (ss : List Symbol) → i + width x ≤ j → T (fits x (drop i r)) → Spot p i j (terminal x ∷ ss)
-        → (Spot (p + 1) (i + width x) j ss → Reached (p + 1) (i + width x) j h) → On At c g dots (k .heads) p → Reached p i j h
+        → (Spot (p + 1) (i + width x) j ss → Reached (p + 1) (i + width x) j h) → On At c g dots (k .heads) p → Offered p i j h
     shifted p i j h x ss l fit b d (at-end z y) = let e = b .is in let q : _≡_ {A = ℕ} 0 1 = cc in absurd (omega arith)
     shifted p i j h x ss l fit b d (at-symbol s z _ y nt _ _) = let e = b .is in absurd (nt x cc)
     shifted p i j h x ss l fit b d (at-terminal y z ln e' gw ax) =
@@ -153,12 +173,12 @@ module _ {At : ℕ → Terminal → Type 0} {c : List ℕ} {g : Grammar} {size t
         let u = inner p (i + width x) j h (omega (arith, k .count)) (λ q. omega arith)
         (d (next b ln (λ q. omega arith) after (subst (λ (a : ℕ). Use (p + 1) (i + a)) eg (go .1)))) in
         let v = rest (p + 1) (i + width x) j in
-        by-offer p i j v (omega arith) b (by-terminal z (go .0) (omega arith) (ap (λ (o : ℕ). rest (p + 1) (i + o) j) (sym eg))) (u .1) h (u .0)
+        record { value = v; offer = by-terminal z (go .0) (omega arith) (ap (λ (o : ℕ). rest (p + 1) (i + o) j) (sym eg)); some = u .1; low = u .0 }
 
     noded : {e d : Row} (p i m j a hc hd : ℕ) (s : Symbol) (ss : List Symbol) → i ≤ m → m ≤ j → suc hc < none → a < length (alts g s) → Spot p i j (s ∷ ss)
         → Derives g r e (alternative g s a) i m → Derives g r d ss m j
         → ((q : ℕ) → Spot q i m (alternative g s a) → Reached q i m hc) → (Spot (p + 1) m j ss → Reached (p + 1) m j hd)
-        → On At c g dots (k .heads) p → Reached p i j (max (suc hc) hd)
+        → On At c g dots (k .heads) p → Offered p i j (max (suc hc) hd)
     noded p i m j a hc hd s ss hi hm hn la b de dd fc fd (at-end z y) = let e = b .is in let q : _≡_ {A = ℕ} 0 1 = cc in absurd (omega arith)
     noded p i m j a hc hd s ss hi hm hn la b de dd fc fd (at-terminal y z _ e' _ _) =
         let is = b .is in
@@ -181,19 +201,24 @@ module _ {At : ℕ → Terminal → Type 0} {c : List ℕ} {g : Grammar} {size t
         (fd (next b ln (λ q. omega arith) after (w .passes p i m (b .inside) is la de (omega (arith, b .stop)) (b .used)))) in
         let x = rule (ruleAt c p) i m in
         let ux : upOf x ≡ x + 1 = up-is x (omega (arith, one .some)) in
-        by-offer p i j (max (upOf x) (rest (p + 1) m j)) (omega arith) b (by-split m z hi hm live refl) (omega (arith, one .low, u .1)) (max (suc hc) hd)
-        (omega (arith, one .low, u .0))
+        record { value = max (upOf x) (rest (p + 1) m j); offer = by-split m z hi hm live refl; some = omega (arith, one .low, u .1); low = omega (arith, one .low, u .0) }
 
-    ended : (p i : ℕ) → Spot p i i [] → On At c g dots (k .heads) p → Reached p i i 0
-    ended p i b (at-end z _) = by-offer p i i 0 (omega arith) b (by-end z refl refl) (omega arith) 0 (omega arith)
+    ended : (p i : ℕ) → Spot p i i [] → On At c g dots (k .heads) p → Offered p i i 0
+    ended p i b (at-end z _) = record { value = 0; offer = by-end z refl refl; some = omega arith; low = omega arith }
     ended p i b (at-terminal x z _ y _ _) = let e = b .is in let q : _≡_ {A = ℕ} 0 1 = cc in absurd (omega arith)
     ended p i b (at-symbol s z _ y _ _ _) = let e = b .is in let q : _≡_ {A = ℕ} 0 1 = cc in absurd (omega arith)
 
-    -- no derivation is lower
-    pub complete : {d : Row} {ss : List Symbol} {i j : ℕ} → Derives g r d ss i j → height d < none → (p : ℕ) → Spot p i j ss → Reached p i j (height d)
-    complete (d-end {i}) hn p b = ended p i b (k .stands p (b .inside))
-    complete (d-leaf {x} {ss} {t = d} {i = i} {j = j} fit dd) hn p b =
-        shifted p i j (height d) x ss (forward g r dd) fit b (λ q. complete dd hn (p + 1) q) (k .stands p (b .inside))
-    complete (d-node {s} {ss} {c = e} {t = d} {a = a} {i = i} {m = m} {j = j} la de dd) hn p b =
+    -- no derivation is lower than what is offered
+    pub offers-low : {d : Row} {ss : List Symbol} {i j : ℕ} → Derives g r d ss i j → height d < none → (p : ℕ) → Spot p i j ss → Offered p i j (height d)
+    offers-low (d-end {i}) hn p b = ended p i b (k .stands p (b .inside))
+    offers-low (d-leaf {x} {ss} {t = d} {i = i} {j = j} fit dd) hn p b =
+        shifted p i j (height d) x ss (forward g r dd) fit b
+        (λ q. by-offer (p + 1) (i + width x) j (height d) (forward g r dd) q (offers-low dd hn (p + 1) q)) (k .stands p (b .inside))
+    offers-low (d-node {s} {ss} {c = e} {t = d} {a = a} {i = i} {m = m} {j = j} la de dd) hn p b =
         noded p i m j a (height e) (height d) s ss (forward g r de) (forward g r dd) (omega arith) la b de dd
-        (λ q y. complete de (omega arith) q y) (λ y. complete dd (omega arith) (p + 1) y) (k .stands p (b .inside))
+        (λ q y. by-offer q i m (height e) (forward g r de) y (offers-low de (omega arith) q y))
+        (λ y. by-offer (p + 1) m j (height d) (forward g r dd) y (offers-low dd (omega arith) (p + 1) y)) (k .stands p (b .inside))
+
+    -- nor than what is kept
+    pub complete : {d : Row} {ss : List Symbol} {i j : ℕ} → Derives g r d ss i j → height d < none → (p : ℕ) → Spot p i j ss → Reached p i j (height d)
+    complete {d} {i = i} {j = j} dd hn p b = by-offer p i j (height d) (forward g r dd) b (offers-low dd hn p b)

@@ -18,7 +18,7 @@ use Rattle.derive.proofs.Levels.{Low}
 use Rattle.chart.specs.Code.{nextKind, ownerAt, afterDot, headOf, Chain, ch-last, ch-next, Ruled}
 use Rattle.chart.specs.Heights.{none, Says, says-none, says-height, SaysRule, rule-none, rule-height}
 use Rattle.heights.specs.Part.{toward, Offers, Least}
-use Rattle.heights.proofs.Part.{Found, find, Attained, Stays, Spot, Reached, complete, toward-rest, toward-rule}
+use Rattle.heights.proofs.Part.{Found, find, Attained, chain-first, Stays, Spot, Reached, complete, toward-rest, toward-rule}
 
 -- a height that is always enough is no "none"
 pub top-small : {At : ℕ → Terminal → Type 0} {c : List ℕ} {g : Grammar} {size root first : ℕ} → Ruled At c g size root first → (r : Text) → size ≤ mostSize
@@ -59,7 +59,7 @@ module _ {At : ℕ → Terminal → Type 0} {c : List ℕ} {g : Grammar} {size r
       let here = subst (λ (ts : List Symbol). Spot k r home Fit Use Live p i j ts) (sym (b .is)) b in
       elim (decLt (rest p i j) none) as (λ _. Says g r (afterDot (k .dots) p) i j (rest p i j)) [
         | yes m ↦
-            (let u = a .rests p (b .inside) m in
+            (let u = a .rests p (b .inside) o m in
             says-height {h = rest p i j} (u .row) (u .derives) (omega (arith, u .low, lower (u .derives) p here .low)) (λ d dd. omega (arith, lower dd p here .low)) m)
         | no m ↦
             (let z : rest p i j ≡ none = omega arith in
@@ -94,7 +94,8 @@ module _ {At : ℕ → Terminal → Type 0} {c : List ℕ} {g : Grammar} {size r
       let s = headOf g (k .heads) e in
       elim (decLt (rule e i j) none) as (λ _. SaysRule g r s i j (rule e i j)) [
         | yes l ↦
-            (let u = a .rules e (b .inside) l in
+            (let f = chain-first k r home Fit Use Live (b .chain) in
+            let u = a .rules (b .from) e (f .0) (f .1) l in
             let d = node (u .number) j (u .low .row) end in
             let dd : Derives g r d (s ∷ []) i j = d-node (u .exists) (u .low .derives) d-end in
             rule-height {h = rule e i j} (record { tree = d; derives = dd; attained = omega (arith, u .low .low, lower-rule e i j b dd .0); least = λ x dx. lower-rule e i j b dx .0 }) l)
