@@ -187,8 +187,10 @@ module _ (g : Grammar) where
     held = all-append known (v .text) (w .text) (v .held) (w .held);
     tree = λ p u. beside (v .tree p (w .text ++ u)) (w .tree (p ++ v .text) u);
     derives = λ p u.
-        (let one = subst (λ (t : Text). Derives g (p ++ t) (v .tree p (w .text ++ u)) (s ∷ []) (length p) (length p + length (v .text))) (sym (append-assoc (v .text) (w .text) u)) (v .derives p (w .text ++ u)) in
-        let whole : (p ++ v .text) ++ (w .text ++ u) ≡ p ++ ((v .text ++ w .text) ++ u) = append-assoc p (v .text) (w .text ++ u) ∙ ap (λ (t : Text). p ++ t) (sym (append-assoc (v .text) (w .text) u)) in
+        (let one = subst (λ (t : Text). Derives g (p ++ t) (v .tree p (w .text ++ u)) (s ∷ []) (length p) (length p + length (v .text))) (sym (append-assoc (v .text) (w .text) u))
+        (v .derives p (w .text ++ u)) in
+        let whole : (p ++ v .text) ++ (w .text ++ u) ≡ p ++ ((v .text ++ w .text) ++ u) = append-assoc p (v .text) (w .text ++ u) ∙ ap (λ (t : Text). p ++ t)
+        (sym (append-assoc (v .text) (w .text) u)) in
         let two = subst (λ (t : Text). Derives g t (w .tree (p ++ v .text) u) ss (length (p ++ v .text)) (length (p ++ v .text) + length (w .text))) whole (w .derives (p ++ v .text) u) in
         let here : length (p ++ v .text) ≡ length p + length (v .text) = length-append p (v .text) in
         let there : length (p ++ v .text) + length (w .text) ≡ length p + length (v .text ++ w .text) = omega (arith, length-append p (v .text), length-append (v .text) (w .text)) in

@@ -7,7 +7,29 @@ use mathlib.Core.List.{List·Memᴰ·append-cases as in-cases, Memᴰ·append-le
 use Prim.Native.Nat.{ℕ, zero, suc}
 use lib.ListN.{getD}
 use Rattle.text.specs.Lists.{Text, pick, same, concatMap}
-use Rattle.tree.specs.Tree.{unmarked, Terminal, Symbol, terminal, nonterminal, group, option, repeat0, repeat1, repeat0sep, repeat1sep, rest, Alternative, nil, cons, Body, one, also, Rule, Grammar, rules}
+use Rattle.tree.specs.Tree.{
+  unmarked,
+  Terminal,
+  Symbol,
+  terminal,
+  nonterminal,
+  group,
+  option,
+  repeat0,
+  repeat1,
+  repeat0sep,
+  repeat1sep,
+  rest,
+  Alternative,
+  nil,
+  cons,
+  Body,
+  one,
+  also,
+  Rule,
+  Grammar,
+  rules,
+}
 use Rattle.plain.specs.Written.{within, withinAlternative, withinBody, written, terminalsIn}
 use Rattle.plain.specs.Plain.{symbols, alternatives, ruleFor, alts, makes, ruled}
 use Rattle.derive.specs.Derive.{root, alternative}

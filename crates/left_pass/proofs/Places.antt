@@ -19,9 +19,9 @@ use Rattle.reach.specs.Flags.{dotAt, beginAt, endAt, Reached, Fits, Begins, End
 use Rattle.reach.specs.Work.{tailOf, Seen, Waits, Kept, Waking, Woken, Collects, Collected}
 use Rattle.reach.specs.Lists.{keyOf, afterKey, Shape, Homes, Homed, Keying, Opened, Members}
 use Rattle.left_pass.specs.Left.{Rules, Closing, Closed, Given, Shifted, Lefting, Lefted}
+use Rattle.reach.proofs.Widths.{empty-fits}
 use Rattle.reach.proofs.Queue.{count-most}
 use Rattle.reach.proofs.Keys.{key-first, key-after, after-none, after-some, use-none}
-use Rattle.left_pass.proofs.Shifts.{empty-fits}
 
 -- the place k is closed
 record ClosedAt (Tb c : List ℕ) (R : Text) (size : ℕ) (M : List ℕ) (k : ℕ) : Type 0 where

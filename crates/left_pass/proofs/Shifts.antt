@@ -3,22 +3,21 @@ use mathlib.Core.Bool.{Bool, true, false}
 use mathlib.Core.List.{List, [], _∷_}
 use mathlib.Core.Logic.{_⊎_, inl, inr, ⊎-elim}
 use mathlib.Core.Path.{_≡_, refl, sym, subst, ap, _∙_}
-use Prim.Native.Nat.{ℕ, zero, suc, _+_, _*_, _-_, _<_, _≤_}
+use Prim.Native.Nat.{ℕ, _+_, _*_, _-_, _<_, _≤_}
 use native.Mathlib.Decide.{ℕ-discrete}
 use native.Mathlib.Omega.{arith}
 use lib.Dec.{T, eqb}
 use lib.ListN.{length, getD, drop, length-drop}
 use Rattle.text.specs.Lists.{Text, begins}
-use Rattle.text.proofs.Tests.{isT, notT, T-true, split, and-left, and-right}
+use Rattle.text.proofs.Tests.{isT, notT, split, and-right}
 use Rattle.tree.specs.Tree.{Terminal, literal, inclusion, exclusion, insertion, codes}
 use Rattle.plain.specs.Plain.{fits, width}
 use Rattle.chart.specs.Code.{nextKind, goesAt}
 use Rattle.items.specs.Items.{tokenAt}
-use Rattle.terminals.specs.Places.{TerminalHere, TerminalAt}
+use Rattle.terminals.specs.Places.{TerminalAt}
 use Rattle.rules.specs.Ready.{Token}
-use Rattle.reach.specs.Flags.{dotAt, beginAt, endAt, Reached, Fits, Begins, Ends}
+use Rattle.reach.specs.Flags.{Reached, Fits}
 use Rattle.reach.specs.Work.{Raised}
-use Rattle.reach.specs.Lists.{Shape}
 use Rattle.left_pass.specs.Left.{Given, Shifted}
 use Rattle.reach.proofs.Queue.{raised-le}
 
@@ -38,17 +37,6 @@ fits-length (insertion k) t f = omega arith
 
 pub fits-within : (x : Terminal) (R : Text) (i : ℕ) → i ≤ length R → T (fits x (drop i R)) → i + width x ≤ length R
 fits-within x R i h f = omega (arith, fits-length x (drop i R) f, length-drop i R)
-
--- a terminal that takes no character fits
-begins-none : (cs t : Text) → length cs ≡ 0 → T (begins cs t)
-begins-none [] t e = tt
-begins-none (x ∷ cs) t e = absurd (omega arith)
-
-pub empty-fits : (x : Terminal) (t : Text) → width x ≡ 0 → T (fits x t)
-empty-fits (literal m k) t e = begins-none (codes k) t e
-empty-fits (inclusion m ms) t e = absurd (omega arith)
-empty-fits (exclusion m ms) t e = absurd (omega arith)
-empty-fits (insertion k) t e = tt
 
 -- what a test says
 module _ {Tb : List ℕ} (R : Text) (i p at : ℕ) {r : Bool} (e : at ≡ tokenAt Tb p) (f : (x : Terminal) → TerminalAt Tb at x → r ≡ fits x (drop i R)) where

@@ -5,13 +5,15 @@ ghost use Rattle.tree.specs.Tree.{Grammar};
 ghost use Rattle.rules.specs.Ready.{Ready};
 ghost use Rattle.reading.specs.Answer.{Answers};
 ghost use Rattle.parser.specs.Choose.{Choosable};
+use reading::Root;
+use reading::Rule;
 use reading::Walked;
 use text::CharPlace;
 
 // The stack of the walk: three numbers for each of a reading's.
 const STACK_LENGTH: usize = 3 * text::limits::READING_NUMBERS;
 
-// The left parse goes to `parse`. What one stage leaves for the next, but for the main table, is local: 160,256 bytes.
+// The left parse goes to `parse`. What one stage leaves for the next, but for the main table, is local: 374,272 bytes.
 pub fn choose(
     table: &[u32],
     size: usize,
@@ -24,10 +26,24 @@ pub fn choose(
     ensures { λ r. ⌜ ((g : Grammar) → Ready (now (table .entry)) g size root → Answers g (now (text .entry)) (now (parse .exit)) r) ⌝ }
 {
     let mut code = [0u32; chart::CODE_LENGTH];
-    let mut fits = [0u8; chart::FITS_LENGTH];
+    let mut marks = [0u8; sparse::MARKS];
+    let top = rules::code_rules(table, size, root, &mut code);
+    if !left_pass::left(table, text, &code, &mut marks, size, top) {
+        return Walked::NoReading;
+    }
+    right_pass::right(table, text, &code, &mut marks, size, top);
+    let mut notes = [0u32; sparse::NOTES];
+    empties::note_rules(&code, &mut notes, size);
+    let n = CharPlace(text.len());
+    quick::fill(&code, &marks, &notes, size, n, main);
     let mut stack = [0u32; STACK_LENGTH];
-    let top = prepare::prepare(table, size, root, text, &mut code, &mut fits);
-    engine::fill(&code, &fits, size, text.len(), main);
-    let end = CharPlace(text.len());
-    reading::walk(&code, main, end, top, root, parse, &mut stack)
+    let root = Root {
+        size: size,
+        n: n,
+        rule: Rule {
+            name: top,
+            first: root,
+        },
+    };
+    reading::walk(&code, &marks, &notes, main, root, parse, &mut stack)
 }

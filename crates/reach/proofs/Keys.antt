@@ -17,7 +17,7 @@ use Rattle.chart.specs.Code.{nextKind, ruleAt, ownerAt}
 use Rattle.chart.specs.Uses.{LastUse, Uses}
 use Rattle.reach.specs.Flags.{homeOf}
 use Rattle.reach.specs.Work.{Seen, Listed, l-here, l-next, Linked}
-use Rattle.reach.specs.Lists.{useKey, afterKey, endKey, keyOf, Shape, Homes, Homed, Keying, Opened, Members, Listing, Keyed, PutKey}
+use Rattle.reach.specs.Lists.{useKey, afterKey, endKey, keyOf, Shape, Homes, HomesFrom, Homed, Keying, Opened, Members, Listing, Keyed, PutKey}
 
 pub home-first : (c : List ℕ) (p e : ℕ) → ownerAt c p ≡ e + 1 → homeOf c p ≡ e
 unfolding homeOf
@@ -32,15 +32,18 @@ home-zero : (c : List ℕ) → ownerAt c 0 ≡ 0 → homeOf c 0 ≡ 0
 unfolding homeOf
 home-zero c o = omega arith
 
-pub home-below : {c : List ℕ} {size : ℕ} → Shape c size → (p : ℕ) → p < size → homeOf c p < size
-home-below {c} {size} s zero h = elim (ℕ-discrete (ownerAt c 0) 0) as (λ _. homeOf c 0 < size) [
+pub home-most : (c : List ℕ) (size : ℕ) → ((q : ℕ) → q < size → ownerAt c q ≤ size) → (p : ℕ) → p < size → homeOf c p < size
+home-most c size s zero h = elim (ℕ-discrete (ownerAt c 0) 0) as (λ _. homeOf c 0 < size) [
   | yes e ↦ omega (arith, home-zero c e)
-  | no e ↦ omega (arith, home-first c 0 (ownerAt c 0 - 1) (omega arith), s .owner 0 h)
+  | no e ↦ omega (arith, home-first c 0 (ownerAt c 0 - 1) (omega arith), s 0 h)
 ]
-home-below {c} {size} s (suc p) h = elim (ℕ-discrete (ownerAt c (suc p)) 0) as (λ _. homeOf c (suc p) < size) [
-  | yes e ↦ omega (arith, home-below s p (omega arith), rw add-one at (home-next c p (rw add-one e)))
-  | no e ↦ omega (arith, home-first c (suc p) (ownerAt c (suc p) - 1) (omega arith), s .owner (suc p) h)
+home-most c size s (suc p) h = elim (ℕ-discrete (ownerAt c (suc p)) 0) as (λ _. homeOf c (suc p) < size) [
+  | yes e ↦ omega (arith, home-most c size s p (omega arith), rw add-one at (home-next c p (rw add-one e)))
+  | no e ↦ omega (arith, home-first c (suc p) (ownerAt c (suc p) - 1) (omega arith), s (suc p) h)
 ]
+
+pub home-below : {c : List ℕ} {size : ℕ} → Shape c size → (p : ℕ) → p < size → homeOf c p < size
+home-below {c} {size} s = home-most c size (s .owner)
 
 -- one dot's rule after the other
 module _ (c : List ℕ) (p last : ℕ) (before : (q : ℕ) → p ≡ q + 1 → last ≡ homeOf c q) (start : p ≡ 0 → last ≡ 0) where
@@ -54,33 +57,43 @@ module _ (c : List ℕ) (p last : ℕ) (before : (q : ℕ) → p ≡ q + 1 → l
   pub home-new : (ownerAt c p ≡ 0 → ⊥) → ownerAt c p - 1 ≡ homeOf c p
   home-new n = sym (home-first c p (ownerAt c p - 1) (omega (arith, n)))
 
-pub record HomesTo (c : List ℕ) (size : ℕ) (Q₀ Q : List ℕ) (p last : ℕ) : Type 0 where
-  pub below : p ≤ size
+pub record HomesTo (c : List ℕ) (size from : ℕ) (Q₀ Q : List ℕ) (p last : ℕ) : Type 0 where
+  pub bound : p ≤ size
   pub long : length Q ≡ length Q₀
-  pub homes : (q : ℕ) → q < p → getD Q (1025 + q) 0 ≡ homeOf c q
+  pub homes : (q : ℕ) → q < p → getD Q (from + q) 0 ≡ homeOf c q
   pub before : (q : ℕ) → p ≡ q + 1 → last ≡ homeOf c q
   pub start : p ≡ 0 → last ≡ 0
-  pub rest : (x : ℕ) → x < 1025 → getD Q x 0 ≡ getD Q₀ x 0
+  pub below : (x : ℕ) → x < from → getD Q x 0 ≡ getD Q₀ x 0
+  pub above : (x : ℕ) → from + size ≤ x → getD Q x 0 ≡ getD Q₀ x 0
 
-pub homes-start : (c : List ℕ) (size : ℕ) (Q : List ℕ) → HomesTo c size Q Q 0 0
-homes-start c size Q = record { below = omega arith; long = refl; homes = λ q h. absurd (omega arith); before = λ q e. absurd (omega arith); start = λ e. refl; rest = λ x h. refl }
+pub homes-start : (c : List ℕ) (size from : ℕ) (Q : List ℕ) → HomesTo c size from Q Q 0 0
+homes-start c size from Q = record {
+  bound = omega arith;
+  long = refl;
+  homes = λ q h. absurd (omega arith);
+  before = λ q e. absurd (omega arith);
+  start = λ e. refl;
+  below = λ x h. refl;
+  above = λ x h. refl;
+}
 
-pub homes-next : {c : List ℕ} {size p last v : ℕ} {Q₀ Q : List ℕ} → HomesTo c size Q₀ Q p last → length Q₀ ≡ 1537 → size ≤ 512 → p < size → v ≡ homeOf c p
-    → HomesTo c size Q₀ (set Q (1025 + p) v) (p + 1) v
-homes-next {c} {p = p} {v = v} {Q = Q} h l z s e = record {
-  below = omega arith;
-  long = length-set Q (1025 + p) v ∙ h .long;
-  homes = λ q a. elim (ℕ-discrete q p) as (λ _. getD (set Q (1025 + p) v) (1025 + q) 0 ≡ homeOf c q) [
-    | yes w ↦ ap (λ (x : ℕ). getD (set Q (1025 + p) v) (1025 + x) 0) w ∙ getD-set-same Q (1025 + p) v 0 (omega (arith, h .long)) ∙ e ∙ ap (homeOf c) (sym w)
-    | no w ↦ getD-set-other Q (1025 + p) (1025 + q) v 0 (λ y. w (omega arith)) ∙ h .homes q (omega arith)
+pub homes-next : {c : List ℕ} {size from p last v : ℕ} {Q₀ Q : List ℕ} → HomesTo c size from Q₀ Q p last → from + size ≤ length Q₀ → p < size → v ≡ homeOf c p
+    → HomesTo c size from Q₀ (set Q (from + p) v) (p + 1) v
+homes-next {c} {from = from} {p = p} {v = v} {Q = Q} h l s e = record {
+  bound = omega arith;
+  long = length-set Q (from + p) v ∙ h .long;
+  homes = λ q a. elim (ℕ-discrete q p) as (λ _. getD (set Q (from + p) v) (from + q) 0 ≡ homeOf c q) [
+    | yes w ↦ ap (λ (x : ℕ). getD (set Q (from + p) v) (from + x) 0) w ∙ getD-set-same Q (from + p) v 0 (omega (arith, h .long)) ∙ e ∙ ap (homeOf c) (sym w)
+    | no w ↦ getD-set-other Q (from + p) (from + q) v 0 (λ y. w (omega arith)) ∙ h .homes q (omega arith)
   ];
   before = λ q w. e ∙ ap (homeOf c) (let y : p ≡ q = omega arith in y);
   start = λ w. absurd (omega arith);
-  rest = λ x a. getD-set-other Q (1025 + p) x v 0 (λ y. omega arith) ∙ h .rest x a;
+  below = λ x a. getD-set-other Q (from + p) x v 0 (λ y. omega arith) ∙ h .below x a;
+  above = λ x a. getD-set-other Q (from + p) x v 0 (λ y. omega arith) ∙ h .above x a;
 }
 
-pub homes-end : {c : List ℕ} {size p last : ℕ} {Q₀ Q : List ℕ} → HomesTo c size Q₀ Q p last → size ≤ p → Homed c size Q₀ Q
-homes-end h l = record { long = h .long; homes = λ q a. h .homes q (omega arith); rest = h .rest }
+pub homes-end : {c : List ℕ} {size from p last : ℕ} {Q₀ Q : List ℕ} → HomesTo c size from Q₀ Q p last → size ≤ p → HomesFrom c size from Q₀ Q
+homes-end h l = record { long = h .long; homes = λ q a. h .homes q (omega arith); below = h .below; above = h .above }
 
 -- keys
 module _ (c : List ℕ) (p : ℕ) where

@@ -2,3 +2,4 @@ pub mod Closed
 pub mod Queue
 pub mod Keys
 pub mod Stays
+pub mod Widths

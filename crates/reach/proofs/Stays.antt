@@ -6,17 +6,23 @@ use native.Mathlib.Omega.{arith}
 use lib.ListN.{length}
 use Rattle.text.specs.Lists.{Text}
 use Rattle.tree.specs.Tree.{Terminal, Symbol, Grammar}
-use Rattle.chart.specs.Code.{nextKind, On, at-end, at-terminal, at-symbol, Ruled}
+use Rattle.chart.specs.Code.{nextKind, ruleAt, On, at-end, at-terminal, at-symbol, Ruled}
 use Rattle.heights.proofs.Part.{Stays}
 use Rattle.reach.specs.Flags.{Reached, Fits, Wanted, homeOf, LeftClosed, RightClosed}
 use Rattle.reach.proofs.Closed.{home-first, home-next, steps-over, wants}
 
--- a dot that is no end has a next one
-goes-on : {At : ℕ → Terminal → Type 0} {c : List ℕ} {g : Grammar} {dots : List (List Symbol)} {heads : List Symbol} {p : ℕ} → On At c g dots heads p
-    → (nextKind c p ≡ 0 → ⊥) → p + 1 < length dots
-goes-on (at-end q _) z = absurd (z q)
-goes-on (at-terminal x q l _ _ _) z = l
-goes-on (at-symbol s q l _ _ _ _) z = l
+module _ {At : ℕ → Terminal → Type 0} {c : List ℕ} {g : Grammar} {dots : List (List Symbol)} {heads : List Symbol} {p : ℕ} where
+  -- a dot that is no end has a next one
+  pub goes-on : On At c g dots heads p → (nextKind c p ≡ 0 → ⊥) → p + 1 < length dots
+  goes-on (at-end q _) z = absurd (z q)
+  goes-on (at-terminal x q l _ _ _) z = l
+  goes-on (at-symbol s q l _ _ _ _) z = l
+
+  -- a symbol's rule is named by a dot
+  pub named : On At c g dots heads p → nextKind c p ≡ 2 → ruleAt c p < length dots
+  named (at-end q _) z = absurd (omega arith)
+  named (at-terminal x q _ _ _ _) z = absurd (omega arith)
+  named (at-symbol s q _ _ _ l _) z = l
 
 pub stays : {At : ℕ → Terminal → Type 0} {c : List ℕ} {g : Grammar} {r : Text} {size top first : ℕ} {M : List ℕ} (w : Ruled At c g size top first) → LeftClosed At c r size top M
     → RightClosed c (length r) size top M → Stays w r (homeOf c) (Fits M) (Reached M) (Wanted M)

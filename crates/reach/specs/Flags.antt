@@ -62,7 +62,7 @@ FitsOnly At c r size M = (p i : ℕ) (x : Terminal) → p < size → i ≤ lengt
 
 -- What is wanted from the right, of what is reached from the left on a record of n characters.
 pub record RightClosed (c : List ℕ) (n size top : ℕ) (M : List ℕ) : Type 0 where
-  pub root : Ends M top n → Wanted M top n
+  pub root : Wanted M top n
   pub end : (p j : ℕ) → p < size → j ≤ n → nextKind c p ≡ 0 → Reached M p j → Wanted M (homeOf c p) j → Continued M p j
   pub shift : (p i : ℕ) → p < size → i + goesAt c p ≤ n → nextKind c p ≡ 1 → Fits M p i → Continued M (p + 1) (i + goesAt c p) → Continued M p i
   pub want : (p j : ℕ) → p < size → j ≤ n → nextKind c p ≡ 2 → Continued M (p + 1) j → Ends M (ruleAt c p) j → Wanted M (ruleAt c p) j

@@ -38,6 +38,13 @@ pub record Shape (c : List ℕ) (size : ℕ) : Type 0 where
 abbrev pub Homes : List ℕ → ℕ → List ℕ → Type 0
 Homes c size Q = (p : ℕ) → p < size → getD Q (1025 + p) 0 ≡ homeOf c p
 
+-- a table has it from one of its cells on; others stay
+pub record HomesFrom (c : List ℕ) (size from : ℕ) (Q Q' : List ℕ) : Type 0 where
+  pub long : length Q' ≡ length Q
+  pub homes : (p : ℕ) → p < size → getD Q' (from + p) 0 ≡ homeOf c p
+  pub below : (x : ℕ) → x < from → getD Q' x 0 ≡ getD Q x 0
+  pub above : (x : ℕ) → from + size ≤ x → getD Q' x 0 ≡ getD Q x 0
+
 pub record Homing (c : List ℕ) (size : ℕ) (Q : List ℕ) : Type 0 where
   pub shape : Shape c size
   pub long : length Q ≡ 1537

@@ -5,6 +5,7 @@ pub use lists::FIRSTS;
 pub use lists::LAST_DOTS;
 pub use lists::USES;
 pub use lists::homes;
+pub use lists::homes_from;
 pub use lists::list_dots;
 pub use lists::open_dots;
 pub use work::BEGINS;

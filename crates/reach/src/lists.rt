@@ -4,7 +4,7 @@ ghost use Prim.Native.Nat.{ℕ, _+_, _*_, _<_, _≤_};
 ghost use lib.ListN.{length, getD};
 ghost use Rattle.chart.specs.Code.{nextKind};
 ghost use Rattle.reach.specs.Flags.{homeOf};
-ghost use Rattle.reach.specs.Lists.{useKey, afterKey, endKey, keyOf, Shape, Homing, Homed, Keying, Opened, Listing, Members, Keyed, PutKey};
+ghost use Rattle.reach.specs.Lists.{useKey, afterKey, endKey, keyOf, Shape, HomesFrom, Homing, Homed, Keying, Opened, Listing, Members, Keyed, PutKey};
 use crate::work::HOME;
 use crate::work::OPEN;
 
@@ -18,8 +18,8 @@ pub const LAST_DOTS: u32 = 2;
 pub const USES: u32 = 3;
 
 // The rule of a dot, if `last` is that of the dot before it.
-fn home_at(code: &[u32], size: usize, p: usize, last: u32) -> u32
-    requires { ⌜ Shape (now code) size × (p < size) × ((q : ℕ) → p ≡ q + 1 → last ≡ homeOf (now code) q) × (p ≡ 0 → last ≡ 0) ⌝ }
+fn home_at(code: &[u32], p: usize, last: u32) -> u32
+    requires { ⌜ (4 * p + 3 < length (now code)) × (p < 512) × ((q : ℕ) → p ≡ q + 1 → last ≡ homeOf (now code) q) × (p ≡ 0 → last ≡ 0) ⌝ }
     ensures { λ r. ⌜ r ≡ homeOf (now (code .entry)) p ⌝ }
 {
     let owner = code[chart::CODE_COLUMNS * p + chart::CODE_OWNER];
@@ -29,18 +29,26 @@ fn home_at(code: &[u32], size: usize, p: usize, last: u32) -> u32
     owner - 1
 }
 
-// The rule of each dot.
-pub fn homes(code: &[u32], size: usize, work: &mut [u32])
-    requires { ⌜ Homing (now code) size (now work) ⌝ }
-    ensures { λ _. ⌜ Homed (now (code .entry)) size (now (work .entry)) (now (work .exit)) ⌝ }
+// The rule of each dot, from a cell of the table on.
+pub fn homes_from(code: &[u32], size: usize, table: &mut [u32], from: usize)
+    requires { ⌜ (size ≤ 512) × (4 * size ≤ length (now code)) × (from < 2048) × (from + size ≤ length (now table)) ⌝ }
+    ensures { λ _. ⌜ HomesFrom (now (code .entry)) size from (now (table .entry)) (now (table .exit)) ⌝ }
 {
     let mut p = 0;
     let mut last = 0;
     while p < size {
-        last = home_at(code, size, p, last);
-        work[HOME + p] = last;
+        last = home_at(code, p, last);
+        table[from + p] = last;
         p += 1;
     }
+}
+
+// The same in the work of a pass.
+pub fn homes(code: &[u32], size: usize, work: &mut [u32])
+    requires { ⌜ Homing (now code) size (now work) ⌝ }
+    ensures { λ _. ⌜ Homed (now (code .entry)) size (now (work .entry)) (now (work .exit)) ⌝ }
+{
+    homes_from(code, size, work, HOME);
 }
 
 fn use_key(code: &[u32], size: usize, p: usize) -> u32

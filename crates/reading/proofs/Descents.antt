@@ -19,11 +19,13 @@ use Rattle.derive.proofs.Twice.{Twice, tw-place, tw-number, tw-inside, tw-later
 use Rattle.derive.proofs.Parts.{node-row, NodeRow}
 use Rattle.chart.specs.Code.{nextKind, goesAt, ruleAt, afterDot}
 use Rattle.chart.specs.Heights.{none}
-use Rattle.chart.proofs.Says.{says-low, low-says, says-some, some-says, rule-least, least-rule, rule-some}
+use Rattle.chart.proofs.Says.{says-low, low-says, says-some, some-says, rule-least, least-rule}
+use Rattle.sparse.specs.Cells.{ruleOf, restOf}
 use Rattle.reading.specs.declared.Cursor.{Cursor}
-use Rattle.reading.specs.Walk.{Tells, heightAt, LowEnd, SomeEnd, FirstEnd, OtherEnd, pushed, descended, CanDescend}
+use Rattle.reading.specs.Walk.{Tells, splitAt, LowEnd, SomeEnd, FirstEnd, OtherEnd, pushed, descended, CanDescend}
 use Rattle.reading.specs.Answer.{Finished}
-use Rattle.reading.proofs.Tables.{position, value-says, SymbolAt, symbol-at}
+use Rattle.reading.proofs.Tables.{Known, Placed, SymbolAt, symbol-at, Halves, halves-of, halves-at}
+use Rattle.reading.proofs.Values.{joined-some, both, split-most, rest-most}
 use Rattle.reading.proofs.PendingRows.{marked, unmarked, tells-by, Pending, parses, AnyTwice, push-pending, pushed-length}
 use Rattle.reading.proofs.Walks.{Ambiguous, Going, Before, some-low}
 
@@ -72,114 +74,132 @@ later : {A B C : Type 0} → (B → C) → A ⊎ B → A ⊎ C
 later f (inl x) = inl x
 later f (inr x) = inr (f x)
 
-module _ {c M : List ℕ} {n top first : ℕ} (t : Finished c M n top first) where
-  -- the symbol at p on i to j with its row
-  module _ {p i j k : ℕ} {row : Row} (S : SymbolAt t p) (l : j ≤ n) (small : k < none) (N : NodeRow (t .g) (t .r) k (S .s) (afterDot (t .code .dots) (p + 1)) i j row) where
-    node-before : i ≤ N .place
-    node-before = forward (t .g) (t .r) (chosen-derives (t .g) (t .r) (N .inside))
+below-most : {x : ℕ} → x ≤ none → (x ≡ none → ⊥) → x < none
+below-most {x} l f = elim (decLt x none) as (λ _. x < none) [ yes k ↦ k | no k ↦ absurd (f (omega arith)) ]
 
-    node-after : N .place ≤ j
-    node-after = forward (t .g) (t .r) (chosen-derives (t .g) (t .r) (N .picked .chosen))
+module _ {c M F H : List ℕ} {size n top first : ℕ} (K : Known c M F H size n top first) where
+  abbrev t : Finished c M F H size n top first
+  t = K .of
 
-    own-end : LowEnd c M n (p + 1) (ruleAt c p) i j k (N .place)
-    own-end =
-        let y = way-row (t .g) (t .r) (N .picked .way) in
-        let q = node-after in
-        let e = least-rule (t .g) (t .r) (S .rule .says i (N .place) node-before (omega arith)) (N .choice .lowest) in
-        let v = low-says (t .g) (t .r) (value-says t (p + 1) (N .place) j (S .next) q l) (y .derives) in
-        record { one = omega (arith, N .low); others = omega (arith, y .high, N .picked .low) }
+  module _ {p i j : ℕ} (S : SymbolAt K p) (B : Placed K p i j) where
+    abbrev later-symbols : List Symbol
+    later-symbols = afterDot (t .code .dots) (p + 1)
 
-    end-late : (m : ℕ) → i ≤ m → m ≤ j → LowEnd c M n (p + 1) (ruleAt c p) i j k m → N .place ≤ m
-    end-late m a b w =
-        let u = rule-least (t .g) (t .r) (S .rule .says i m a (omega arith)) (λ e. omega (arith, w .one)) in
-        let v = says-low (t .g) (t .r) k (value-says t (p + 1) m j (S .next) b l) (w .others) small in
-        let y = row-way (t .g) (t .r) (v .derives) in
-        N .smallest m (suc (heightAt M n (ruleAt c p) i m)) (y .k) (Rattle.derive.specs.Chosen.ends (v .row)) u (w .one) (y .way) (omega (arith, y .below, v .low))
+    -- the symbol with its row
+    module _ {k : ℕ} {row : Row} (small : k < none) (N : NodeRow (t .g) (t .r) k (S .s) later-symbols i j row) where
+      node-before : i ≤ N .place
+      node-before = forward (t .g) (t .r) (chosen-derives (t .g) (t .r) (N .inside))
 
-    pub end-same : (m : ℕ) → FirstEnd c M n (p + 1) (ruleAt c p) i j k m → m ≡ N .place
-    end-same m w = elim (decLt (N .place) m) as (λ _. m ≡ N .place) [
-      | yes q ↦ absurd (w .first (N .place) node-before q own-end)
-      | no q ↦ omega (arith, end-late m (w .after) (w .before) (w .low))
-    ]
+      pub node-after : N .place ≤ j
+      node-after = forward (t .g) (t .r) (chosen-derives (t .g) (t .r) (N .picked .chosen))
 
-    pub some-end : SomeEnd c M n (p + 1) (ruleAt c p) i j k
-    some-end = record { place = N .place; after = node-before; before = node-after; low = own-end }
+      pub node-halves : Halves K p i j (N .place) (S .s)
+      node-halves = halves-of K B S node-before node-after (N .choice .lowest .derives) (chosen-derives (t .g) (t .r) (N .picked .chosen))
 
-  -- other end places, in the tables and in derivations
-  other-place : {p i j m : ℕ} (S : SymbolAt t p) → j ≤ n → OtherEnd c M n (p + 1) (ruleAt c p) i j m → OtherPlace (t .g) (t .r) (S .s) (afterDot (t .code .dots) (p + 1)) i j m
-  other-place {p} {i} {j} S l o =
-      let b = o .before in
-      let u = rule-least (t .g) (t .r) (S .rule .says i (o .place) (o .after) (omega arith)) (o .too .one) in
-      let v = says-some (t .g) (t .r) (value-says t (p + 1) (o .place) j (S .next) b l) (o .too .others) in
-      record { place = o .place; other = o .too .other; tree = u .tree; row = v .row; one = u .derives; others = v .derives }
+      own-end : LowEnd c M F size n H p i j k (N .place)
+      own-end =
+          let y = way-row (t .g) (t .r) (N .picked .way) in
+          let P = node-halves in
+          omega (
+            arith,
+            least-rule (t .g) (t .r) (P .one) (N .choice .lowest),
+            low-says (t .g) (t .r) (P .others) (y .derives),
+            joined-some (ruleOf c M F n H (ruleAt c p) i (N .place)) (restOf c M F n H (p + 1) (N .place) j) (omega (arith, P .cut)),
+            N .low,
+            y .high,
+            N .picked .low,
+          )
 
-  other-end : {p i j m : ℕ} (S : SymbolAt t p) → j ≤ n → OtherPlace (t .g) (t .r) (S .s) (afterDot (t .code .dots) (p + 1)) i j m → OtherEnd c M n (p + 1) (ruleAt c p) i j m
-  other-end {p} {i} {j} S l o =
-      let a = forward (t .g) (t .r) (o .one) in
-      let b = forward (t .g) (t .r) (o .others) in
-      record {
-        place = o .place;
-        after = a;
-        before = b;
-        too = record {
-          other = o .other;
-          one = rule-some (t .g) (t .r) (S .rule .says i (o .place) a (omega arith)) (o .one);
-          others = some-says (t .g) (t .r) (value-says t (p + 1) (o .place) j (S .next) b l) (o .others);
-        };
-      }
+      end-late : (m : ℕ) → i ≤ m → m ≤ j → LowEnd c M F size n H p i j k m → N .place ≤ m
+      end-late m a b w =
+          let P = halves-at K B S a b (omega arith) in
+          let x = both (ruleOf c M F n H (ruleAt c p) i m) (restOf c M F n H (p + 1) m j) (omega arith) in
+          let u = rule-least (t .g) (t .r) (P .one) (λ e. omega (arith, x .one)) in
+          let v = says-low (t .g) (t .r) k (P .others) (omega (arith, x .is)) small in
+          let y = row-way (t .g) (t .r) (v .derives) in
+          N .smallest m (suc (ruleOf c M F n H (ruleAt c p) i m)) (y .k) (Rattle.derive.specs.Chosen.ends (v .row)) u (omega (arith, x .is)) (y .way) (omega (arith, y .below, v .low))
+
+      pub end-same : (m : ℕ) → FirstEnd c M F size n H p i j k m → m ≡ N .place
+      end-same m w = elim (decLt (N .place) m) as (λ _. m ≡ N .place) [
+        | yes q ↦ absurd (w .first (N .place) node-before q own-end)
+        | no q ↦ omega (arith, end-late m (w .after) (w .before) (w .low))
+      ]
+
+      pub some-end : SomeEnd c M F size n H p i j k
+      some-end = record { place = N .place; after = node-before; before = node-after; low = own-end }
+
+    -- other end places, in the tables and in derivations
+    other-place : {m : ℕ} → OtherEnd c M F size n H p i j m → OtherPlace (t .g) (t .r) (S .s) later-symbols i j m
+    other-place o =
+        let z : splitAt c M F n H p i j (o .place) ≡ none → ⊥ = o .too .derives in
+        let l : splitAt c M F n H p i j (o .place) < none = below-most (split-most c M F n H (K .small) p i j (o .place)) z in
+        let P = halves-at K B S (o .after) (o .before) l in
+        let x = both (ruleOf c M F n H (ruleAt c p) i (o .place)) (restOf c M F n H (p + 1) (o .place) j) l in
+        let u = rule-least (t .g) (t .r) (P .one) (λ e. omega (arith, x .one)) in
+        let v = says-some (t .g) (t .r) (P .others) (λ e. omega (arith, x .others)) in
+        record { place = o .place; other = o .too .other; tree = u .tree; row = v .row; one = u .derives; others = v .derives }
+
+    other-end : {m : ℕ} → OtherPlace (t .g) (t .r) (S .s) later-symbols i j m → OtherEnd c M F size n H p i j m
+    other-end o =
+        let a = forward (t .g) (t .r) (o .one) in
+        let b = forward (t .g) (t .r) (o .others) in
+        let P = halves-of K B S a b (o .one) (o .others) in
+        let l = below-most (rest-most c M F n H (K .small) (p + 1) (o .place) j) (some-says (t .g) (t .r) (P .others) (o .others)) in
+        let e = joined-some (ruleOf c M F n H (ruleAt c p) i (o .place)) (restOf c M F n H (p + 1) (o .place) j) (omega (arith, P .cut)) in
+        record { place = o .place; after = a; before = b; too = record { other = o .other; derives = λ z. omega (arith, P .cut) } }
 
   -- the symbol at the walk's place, and its node
-  pub symbol-of : {out st : List ℕ} {h : Cursor} {w : Row} → Going t out st h w → (nextKind c (h .p) ≡ 0 → ⊥) → (nextKind c (h .p) ≡ 1 → ⊥) → SymbolAt t (h .p)
-  symbol-of {h = h} G x y = symbol-at t (h .p) (G .inside) x y
+  pub symbol-of : {out st : List ℕ} {h : Cursor} {w : Row} → Going K out st h w → nextKind c (h .p) ≡ 2 → SymbolAt K (h .p)
+  symbol-of {h = h} G x = symbol-at K (h .p) (G .placed .inside) x
 
-  pub node-of : {out st : List ℕ} {h : Cursor} {w : Row} (G : Going t out st h w) (S : SymbolAt t (h .p))
+  pub node-of : {out st : List ℕ} {h : Cursor} {w : Row} (G : Going K out st h w) (S : SymbolAt K (h .p))
       → NodeRow (t .g) (t .r) (h .k) (S .s) (afterDot (t .code .dots) (h .p + 1)) (h .i .0) (h .j .0) (G .row)
   node-of {h = h} G S = node-row (t .g) (t .r) (S .rule .other) (subst (λ (ss : List Symbol). PickedRow (t .g) (t .r) (h .k) ss (h .i .0) (h .j .0) (G .row)) (S .is) (G .picked))
 
-  pub can-descend : {out st : List ℕ} {h : Cursor} {w : Row} → Going t out st h w → (nextKind c (h .p) ≡ 0 → ⊥) → (nextKind c (h .p) ≡ 1 → ⊥) → CanDescend c M n h
-  can-descend {h = h} G x y =
-      let S = symbol-of G x y in
-      let small = G .small in
-      let within = G .within in
+  pub can-descend : {out st : List ℕ} {h : Cursor} {w : Row} → Going K out st h w → nextKind c (h .p) ≡ 2 → CanDescend c M F size n H h
+  can-descend {h = h} G x =
+      let S = symbol-of G x in
       record {
-        next = position t (h .p + 1) (S .next);
-        row = position t (ruleAt c (h .p)) (S .rule .inside) .row;
-        ends = some-end S within small (node-of G S);
-        lows = λ m a b l. some-low t (S .rule) a (omega arith) (λ e. omega arith);
+        ends = some-end S (G .placed) (G .small) (node-of G S);
+        lows = λ m a b l.
+            let P = halves-at K (G .placed) S a b (omega (arith, G .small)) in
+            some-low K (S .rule) (P .started) a (λ e. omega (arith, P .cut));
       }
 
   row-list : (xs ys : List ℕ) (a m : ℕ) (c' u row w : Row) → row ≡ node a m c' u → xs ++ (leftParse row ++ ys) ≡ leftParse w → xs
       ++ (a ∷ (leftParse c' ++ (leftParse u ++ ys))) ≡ leftParse w
   row-list xs ys a m c' u row w e f = rw (← append-assoc (leftParse c') (leftParse u) ys) (subst (λ (z : Row). xs ++ (leftParse z ++ ys) ≡ leftParse w) e f)
 
-  pub descend-before : {out st : List ℕ} {h : Cursor} {w : Row} → Going t out st h w → (nextKind c (h .p) ≡ 0 → ⊥) → (nextKind c (h .p) ≡ 1 → ⊥)
-      → (m : ℕ) (b : Bool) → FirstEnd c M n (h .p + 1) (ruleAt c (h .p)) (h .i .0) (h .j .0) (h .k) m
-      → Tells b (OtherEnd c M n (h .p + 1) (ruleAt c (h .p)) (h .i .0) (h .j .0) m)
-      → Before t (ruleAt c (h .p)) (goesAt c (h .p)) out (pushed st (h .depth) (h .p + 1) (h .j .0) (h .k)) (descended h m b) w
-  descend-before {out} {st} {h} {w} G x y m b f o =
-      let S = symbol-of G x y in
+  pub descend-before : {out st : List ℕ} {h : Cursor} {w : Row} → Going K out st h w → nextKind c (h .p) ≡ 2
+      → (m : ℕ) (b : Bool) → FirstEnd c M F size n H (h .p) (h .i .0) (h .j .0) (h .k) m
+      → Tells b (OtherEnd c M F size n H (h .p) (h .i .0) (h .j .0) m)
+      → Before K (ruleAt c (h .p)) (goesAt c (h .p)) out (pushed st (h .depth) (h .p + 1) (h .j .0) (h .k)) (descended h m b) w
+  descend-before {out} {st} {h} {w} G x m b f o =
+      let S = symbol-of G x in
       let N = node-of G S in
-      let e = end-same S (G .within) (G .small) N m f in
+      let e = end-same S (G .placed) (G .small) N m f in
       let ss = afterDot (t .code .dots) (h .p + 1) in
-      let q = node-after S (G .within) (G .small) N in
-      let o' = subst (λ (z : ℕ). Tells b (OtherEnd c M n (h .p + 1) (ruleAt c (h .p)) (h .i .0) (h .j .0) z)) e o in
-      let told = tells-by o' (other-place S (G .within)) (other-end S (G .within)) in
+      let P = node-halves S (G .placed) (G .small) N in
+      let o' = subst (λ (z : ℕ). Tells b (OtherEnd c M F size n H (h .p) (h .i .0) (h .j .0) z)) e o in
+      let told = tells-by o' (other-place S (G .placed)) (other-end S (G .placed)) in
       let row-is = N .is in
-      let before = subst (λ (ss : List Symbol). Ambiguous t w ↔ (T (h .mark) ⊎ (Twice (t .g) (t .r) (G .row) ss (h .i .0) (h .j .0) ⊎ AnyTwice t (G .pending)))) (S .is) (G .marks) in
-      let before' = subst (λ (z : Row). Ambiguous t w ↔ (T (h .mark) ⊎ (Twice (t .g) (t .r) z (S .s ∷ ss) (h .i .0) (h .j .0) ⊎ AnyTwice t (G .pending)))) row-is before in
-      let waiting : Pending t = record { place = h .p + 1; from = N .place; to = h .j .0; bound = h .k; row = N .others; inside = S .next; within = G .within; small = G .small; picked = N .picked } in
+      let before = subst (λ (ss : List Symbol). Ambiguous K w ↔ (T (h .mark) ⊎ (Twice (t .g) (t .r) (G .row) ss (h .i .0) (h .j .0) ⊎ AnyTwice K (G .pending)))) (S .is) (G .marks) in
+      let before' = subst (λ (z : Row). Ambiguous K w ↔ (T (h .mark) ⊎ (Twice (t .g) (t .r) z (S .s ∷ ss) (h .i .0) (h .j .0) ⊎ AnyTwice K (G .pending)))) row-is before in
+      let waiting : Pending K = record { place = h .p + 1; from = N .place; to = h .j .0; bound = h .k; row = N .others; placed = P .placed; small = G .small; picked = N .picked } in
       let room : 3 * h .depth + 2 < length st = omega (arith, G .written, G .most, G .stack) in
       rw e (record {
         s = S .s;
+        sized = G .sized;
+        ended = G .ended;
         rule = S .rule;
+        started = P .started;
         number = N .number;
         children = N .children;
         choice = N .choice;
         inside = N .inside;
-        within = omega (arith, G .within);
         pending = waiting ∷ G .pending;
-        stacked = push-pending t waiting room (G .stacked);
-        list = row-list (take (h .at) out) (parses t (G .pending)) (N .number) (N .place) (N .children) (N .others) (G .row) w row-is (G .list);
+        stacked = push-pending K waiting room (G .stacked);
+        list = row-list (take (h .at) out) (parses K (G .pending)) (N .number) (N .place) (N .children) (N .others) (G .row) w row-is (G .list);
         marks = (
           marked (h .mark) b told (λ a. later (λ z. regroup (first-of (twice-parts (t .g) (t .r)) z)) (before' .0 a)),
           unmarked (h .mark) b told (λ a. before' .1 (later (λ z. first-from (parts-twice (t .g) (t .r)) (ungroup z)) a)),

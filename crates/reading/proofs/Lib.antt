@@ -3,8 +3,10 @@ pub mod Lines
 pub mod AlongRules
 pub mod Searches
 pub mod Steps
+pub mod Values
 pub mod Tables
 pub mod PendingRows
 pub mod Walks
 pub mod Descents
 pub mod Course
+pub mod Underway

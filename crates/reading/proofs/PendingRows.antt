@@ -16,6 +16,7 @@ use Rattle.derive.proofs.Picks.{PickedRow}
 use Rattle.derive.proofs.Twice.{Twice}
 use Rattle.reading.specs.Walk.{Tells, pushed}
 use Rattle.reading.specs.Answer.{Finished}
+use Rattle.reading.proofs.Tables.{Known, Placed}
 
 true-of : (b : Bool) → T b → b ≡ true
 true-of true h = refl
@@ -60,7 +61,10 @@ module _ (st : List ℕ) (d p j k : ℕ) (room : 3 * d + 2 < length st) where
   pub pushed-k : getD (pushed st d p j k) (3 * d + 2) 0 ≡ k
   pushed-k = getD-set-same (set (set st (3 * d) p) (3 * d + 1) j) (3 * d + 2) k 0 (simp length-set (omega arith))
 
-module _ {c M : List ℕ} {n top first : ℕ} (t : Finished c M n top first) where
+module _ {c M F H : List ℕ} {size n top first : ℕ} (K : Known c M F H size n top first) where
+  abbrev t : Finished c M F H size n top first
+  t = K .of
+
   -- a chosen row, to be walked from a position on
   pub record Pending : Type 0 where
     pub place : ℕ
@@ -68,8 +72,7 @@ module _ {c M : List ℕ} {n top first : ℕ} (t : Finished c M n top first) whe
     pub to : ℕ
     pub bound : ℕ
     pub row : Row
-    pub inside : place < t .size
-    pub within : to ≤ n
+    pub placed : Placed K place from to
     pub small : bound < none
     pub picked : PickedRow (t .g) (t .r) bound (afterDot (t .code .dots) place) from to row
 

@@ -3,7 +3,7 @@ use mathlib.Core.Path.{_≡_}
 use mathlib.Core.Logic.{_↔_}
 use mathlib.Core.Bool.{Bool}
 use mathlib.Core.List.{List}
-use Prim.Native.Nat.{ℕ, _*_, _<_, _≤_}
+use Prim.Native.Nat.{ℕ, _+_, _*_, _<_, _≤_}
 use lib.Dec.{T}
 use lib.ListN.{length, take}
 use Rattle.text.specs.Limits.{readingNumbers}
@@ -13,23 +13,31 @@ use Rattle.tree.specs.Tree.{Grammar}
 use Rattle.derive.specs.Derive.{Row, Derivation}
 use Rattle.derive.specs.Chosen.{Second}
 use Rattle.derive.specs.Chosen.{Reading as ChosenReading}
-use Rattle.chart.specs.Code.{Coded}
-use Rattle.chart.specs.Heights.{Heights}
+use Rattle.chart.specs.Code.{ownerAt, Ruled}
+use Rattle.heights.proofs.Part.{Stays, Attained}
+use Rattle.reach.specs.Flags.{Reached, Fits, Wanted, homeOf}
+use Rattle.sparse.specs.Cells.{Tables, ruleOf, restOf}
+use Rattle.sparse.specs.Steps.{Flagged, LeastOn}
 use Rattle.reading.specs.declared.Walked.{Walked}
 use Rattle.reading.specs.declared.Walked.the-variants.{Reading, TooLong, NoReading}
 
--- the code of a grammar on a record of n characters, and its finished main table
-pub record Finished (c M : List ℕ) (n top first : ℕ) : Type 0 where
-  pub size : ℕ
-  pub f : List ℕ
+-- the code of a grammar and its flags on a record of n characters, and the filled part of its main table
+pub record Finished (c M F H : List ℕ) (size n top first : ℕ) : Type 0 where
   pub g : Grammar
   pub r : Text
   pub long : length r ≡ n
-  pub code : Coded c f g r size top first
-  pub heights : Heights c f g r size top first code M
+  pub code : Ruled (Flagged M r) c g size top first
+  pub tables : Tables c M F size n (length H)
+  pub stays : Stays code r (homeOf c) (Fits M) (Reached M) (Wanted M)
+  -- no offer lowers a height, and each is a derivation's
+  pub least : (i j : ℕ) → i ≤ j → j ≤ n → LeastOn c M F size n H i j
+  pub attained : (i j : ℕ) → i ≤ j → j ≤ n → Attained code r (homeOf c) (Fits M) (Reached M) (Wanted M) (ruleOf c M F n H) (restOf c M F n H) i j
+  -- the root's rule is wanted to end with the record, and its alternatives may begin with it
+  pub live : Wanted M top n
+  pub used : (q : ℕ) → q < size → ownerAt c q ≡ top + 1 → Reached M q 0
 
-pub record Given (c M out st : List ℕ) (n top first : ℕ) : Type 0 where
-  pub tables : Finished c M n top first
+pub record Given (c M F H out st : List ℕ) (size n top first : ℕ) : Type 0 where
+  pub tables : Finished c M F H size n top first
   pub room : readingNumbers ≤ length out
   pub stack : 3 * readingNumbers ≤ length st
 

@@ -1,14 +1,16 @@
 // The alternatives of a rule on a stretch: the earliest that is low enough, and whether another derives the stretch too.
 ghost use mathlib.Core.Path.{_≡_};
+ghost use mathlib.Core.Bool.{false};
 ghost use Prim.Native.Nat.{ℕ};
 ghost use Rattle.chart.specs.Code.{goesAt};
-ghost use Rattle.reading.specs.Walk.{Tells, Within, Position, valueAt, Ends, Lined, SomeLow, FirstLow, OtherBy};
+ghost use Rattle.chart.specs.Heights.{none};
+ghost use Rattle.reading.specs.Walk.{Tells, Ready, Position, valueAt, Ends, Lined, SomeLow, FirstLow, OtherBy};
 use crate::Alternative;
-use crate::Stretch;
 use crate::table::AFTER_ALTERNATIVE;
+use crate::table::alternative_height;
 use crate::table::number_at;
-use crate::table::value;
 use chart::NONE;
+use sparse::Stretch;
 
 // The end of the alternative that begins at q.
 fn alternative_end(code: &[u32], q: usize) -> usize
@@ -32,13 +34,22 @@ fn next_alternative(code: &[u32], q: usize) -> usize
 }
 
 // The earliest alternative of height at most k.
-pub fn find_alternative(code: &[u32], main: &[u32], first: usize, s: Stretch, k: u32) -> Alternative
-    requires { ⌜ Within (s .n .0) (s .i .0) (s .j .0) × SomeLow (now code) (now main) (s .n .0) first (s .i .0) (s .j .0) k ⌝ }
-    ensures { λ r. ⌜ FirstLow (now (code .entry)) (now (main .entry)) (s .n .0) first (s .i .0) (s .j .0) k r ⌝ }
+pub fn find_alternative(
+    code: &[u32],
+    marks: &[u8],
+    notes: &[u32],
+    main: &[u32],
+    first: usize,
+    s: Stretch,
+    k: u32,
+) -> Alternative
+    requires { ⌜ Ready (now code) (now marks) (now notes) (now main) (s .size) (s .n .0) (s .i .0) (s .j .0)
+        × SomeLow (now code) (now marks) (now notes) (s .size) (s .n .0) (now main) first (s .i .0) (s .j .0) k ⌝ }
+    ensures { λ r. ⌜ FirstLow (now (code .entry)) (now (marks .entry)) (now (notes .entry)) (s .size) (s .n .0) (now (main .entry)) first (s .i .0) (s .j .0) k r ⌝ }
 {
     let mut q = first;
     let mut a = 0;
-    while k < value(code, main, q, s) {
+    while k < alternative_height(code, marks, notes, main, q, s) {
         q = next_alternative(code, q) - 1;
         a += 1;
     }
@@ -48,39 +59,42 @@ pub fn find_alternative(code: &[u32], main: &[u32], first: usize, s: Stretch, k:
     }
 }
 
-// Whether the alternative a, which begins at q, is another one than `number` and derives the stretch.
+// Whether the alternative at q is not the same as the chosen one, and derives the stretch.
 fn another_derives(
     code: &[u32],
+    marks: &[u8],
+    notes: &[u32],
     main: &[u32],
     q: usize,
     s: Stretch,
-    a: usize,
-    number: usize,
+    same: bool,
 ) -> bool
-    requires { ⌜ Position (now code) (now main) (s .n .0) q × Within (s .n .0) (s .i .0) (s .j .0) ⌝ }
-    ensures { λ r. ⌜ Tells r ((a ≡ number → ⊥) × (valueAt (now (code .entry)) (now (main .entry)) (s .n .0) q (s .i .0) (s .j .0) ≡ 4294967295 → ⊥)) ⌝ }
+    requires { ⌜ Ready (now code) (now marks) (now notes) (now main) (s .size) (s .n .0) (s .i .0) (s .j .0) × Position (now code) (s .size) q ⌝ }
+    ensures { λ r. ⌜ Tells r ((same ≡ false) × (valueAt (now (code .entry)) (now (marks .entry)) (now (notes .entry)) (s .n .0) (now (main .entry)) q (s .i .0) (s .j .0) ≡ none → ⊥)) ⌝ }
 {
-    if a == number {
+    if same {
         return false;
     }
-    value(code, main, q, s) != NONE
+    alternative_height(code, marks, notes, main, q, s) != NONE
 }
 
 // Whether an alternative other than `number` derives the stretch.
 pub fn other_alternative(
     code: &[u32],
+    marks: &[u8],
+    notes: &[u32],
     main: &[u32],
     first: usize,
     s: Stretch,
     number: usize,
 ) -> bool
-    requires { ⌜ Within (s .n .0) (s .i .0) (s .j .0) × Lined (now code) (now main) (s .n .0) first ⌝ }
-    ensures { λ r. ⌜ Tells r (OtherBy (now (code .entry)) (now (main .entry)) (s .n .0) first (s .i .0) (s .j .0) number) ⌝ }
+    requires { ⌜ Ready (now code) (now marks) (now notes) (now main) (s .size) (s .n .0) (s .i .0) (s .j .0) × Lined (now code) (s .size) first ⌝ }
+    ensures { λ r. ⌜ Tells r (OtherBy (now (code .entry)) (now (marks .entry)) (now (notes .entry)) (s .size) (s .n .0) (now (main .entry)) first (s .i .0) (s .j .0) number) ⌝ }
 {
     let mut q = first;
     let mut a = 0;
     loop {
-        if another_derives(code, main, q, s, a, number) {
+        if another_derives(code, marks, notes, main, q, s, a == number) {
             return true;
         }
         let next = next_alternative(code, q);

@@ -1,16 +1,17 @@
-// The chosen reading, taken from a finished main table, and whether there is a second derivation.
+// The chosen reading, taken from the filled part of a main table, and whether there is a second derivation.
 //
-// The walk goes through the chosen derivation from its root, in the order of the left parse. The main table has the least height of
-// each rule on each stretch of the record, so each choice is a search in it: at a node the earliest alternative of the least height, at
-// a symbol the smallest end place that lets the rest of its row derive what is left. Rows that are not finished wait on a stack.
+// The walk goes through the chosen derivation from its root, in the order of the left parse. The part has the least height of each rule
+// and of each rest of an alternative where a derivation may need it, so each choice is a search in it: at a node the earliest alternative
+// of the least height, at a symbol the smallest end place that lets the rest of its row derive what is left. First dots of alternatives
+// have no cells: their heights are computed from what stands after them. Rows that are not finished wait on a stack.
 // The reading is ambiguous where another alternative or another end place, of whatever height, derives the same stretch.
 mod alternatives;
 mod ends;
 mod table;
 
 ghost use mathlib.Core.Path.{_≡_};
-ghost use mathlib.Core.Bool.{Bool, true, false, _||_};
-ghost use Prim.Native.Nat.{ℕ, _+_, _*_, _<_, _≤_};
+ghost use mathlib.Core.Bool.{true, false};
+ghost use Prim.Native.Nat.{_+_, _*_, _<_, _≤_};
 ghost use lib.ListN.{length};
 ghost use Rattle.chart.specs.Code.{nextKind};
 ghost use Rattle.text.specs.Limits.{readingNumbers};
@@ -22,9 +23,10 @@ use crate::ends::find_end;
 use crate::ends::other_end;
 use crate::table::AFTER_ALTERNATIVE;
 use crate::table::BEFORE_TERMINAL;
-use crate::table::height;
 use crate::table::number_at;
 use chart::NONE;
+use sparse::Stretch;
+use sparse::rule_height;
 use text::CharPlace;
 use text::limits;
 
@@ -36,16 +38,25 @@ pub enum Walked {
     NoReading,
 }
 
-// The characters from place i to place j of a record that ends at n.
-pub struct Stretch {
+// The root's rule, of a grammar with `size` dots, and the end of the record.
+pub struct Root {
+    pub size: usize,
     pub n: CharPlace,
-    pub i: CharPlace,
-    pub j: CharPlace,
+    pub rule: Rule,
+}
+
+// A rule: the end that names it, and its first position.
+pub struct Rule {
+    pub name: usize,
+    pub first: usize,
 }
 
 // Where the walk stands. The symbols after the dot position p derive the characters from i to j, in trees of heights at most k.
-// Written are `at` numbers, `depth` rows wait on the stack, and the mark tells whether another derivation was met.
+// The tables are those of a grammar with `size` dots and a record that ends at n. Written are `at` numbers, `depth` rows wait on the
+// stack, and the mark tells whether another derivation was met.
 pub struct Cursor {
+    pub size: usize,
+    pub n: CharPlace,
     pub p: usize,
     pub i: CharPlace,
     pub j: CharPlace,
@@ -77,12 +88,15 @@ fn pop(stack: &[u32], h: Cursor) -> Cursor
     requires { ⌜ (0 < h .depth) × (3 * h .depth ≤ length (now stack)) ⌝ }
     ensures { λ r. ⌜ r ≡ popped (now (stack .entry)) h ⌝ }
 {
+    let n = h.n;
     let depth = h.depth - 1;
     let b = 3 * depth;
     let p = number_at(stack, b);
     let j = CharPlace(number_at(stack, b + 1));
     let i = h.j;
     Cursor {
+        size: h.size,
+        n: n,
         p: p,
         i: i,
         j: j,
@@ -98,9 +112,12 @@ fn count_only(h: Cursor) -> Cursor
     requires { ⌜ h .at ≤ readingNumbers ⌝ }
     ensures { λ r. ⌜ r ≡ counted h ⌝ }
 {
+    let n = h.n;
     let i = h.i;
     let j = h.j;
     Cursor {
+        size: h.size,
+        n: n,
         p: h.p,
         i: i,
         j: j,
@@ -111,19 +128,19 @@ fn count_only(h: Cursor) -> Cursor
     }
 }
 
-// Enters a node on the cursor's stretch: chooses the alternative and writes its number, if there is room. The rule has its first
-// position at `first`, and `rule` names it.
+// Enters a node of the rule on the cursor's stretch: chooses the alternative and writes its number, if there is room.
 fn enter(
     code: &[u32],
+    marks: &[u8],
+    notes: &[u32],
     main: &[u32],
-    n: CharPlace,
-    rule: usize,
-    first: usize,
+    rule: Rule,
     out: &mut [u32],
     h: Cursor,
 ) -> Cursor
-    requires { ⌜ CanEnter (now code) (now main) (n .0) rule first (now out) h ⌝ }
-    ensures { λ r. ⌜ Entered (now (code .entry)) (now (main .entry)) (n .0) rule first (now (out .entry)) (now (out .exit)) h r ⌝ }
+    requires { ⌜ CanEnter (now code) (now marks) (now notes) (h .size) (h .n .0) (now main) (rule .name) (rule .first) (now out) h ⌝ }
+    ensures { λ r. ⌜ Entered (now (code .entry)) (now (marks .entry)) (now (notes .entry)) (h .size) (h .n .0) (now (main .entry)) (rule .name) (rule .first)
+        (now (out .entry)) (now (out .exit)) h r ⌝ }
 {
     let at = h.at;
     let i = h.i;
@@ -131,12 +148,16 @@ fn enter(
     if limits::READING_NUMBERS <= at {
         return count_only(h);
     }
-    let s = Stretch { n, i, j };
-    let k = height(main, rule, s);
-    let a = find_alternative(code, main, first, s, k);
-    let other = other_alternative(code, main, first, s, a.number);
+    let size = h.size;
+    let n = h.n;
+    let s = Stretch { size, n, i, j };
+    let k = rule_height(marks, notes, main, rule.name, s);
+    let a = find_alternative(code, marks, notes, main, rule.first, s, k);
+    let other = other_alternative(code, marks, notes, main, rule.first, s, a.number);
     out[at] = a.number as u32;
     Cursor {
+        size: h.size,
+        n: n,
         p: a.place,
         i: i,
         j: j,
@@ -150,25 +171,33 @@ fn enter(
 // At a symbol with alternatives: finds where it ends, puts the rest of its row on the stack, and enters its node.
 fn descend(
     code: &[u32],
+    marks: &[u8],
+    notes: &[u32],
     main: &[u32],
-    n: CharPlace,
     out: &mut [u32],
     stack: &mut [u32],
     h: Cursor,
 ) -> Cursor
-    requires { ⌜ CanStep (now code) (now main) (n .0) (now out) (now stack) h × ((nextKind (now code) (h .p) ≡ 0 → ⊥) × (nextKind (now code) (h .p) ≡ 1 → ⊥)) ⌝ }
-    ensures { λ r. ⌜ Stepped (now (code .entry)) (now (main .entry)) (n .0) (now (out .entry)) (now (out .exit)) (now (stack .entry)) (now (stack .exit)) h r ⌝ }
+    requires { ⌜ CanStep (now code) (now marks) (now notes) (h .size) (h .n .0) (now main) (now out) (now stack) h × (nextKind (now code) (h .p) ≡ 2) ⌝ }
+    ensures { λ r. ⌜ Stepped (now (code .entry)) (now (marks .entry)) (now (notes .entry)) (h .size) (h .n .0) (now (main .entry))
+        (now (out .entry)) (now (out .exit)) (now (stack .entry)) (now (stack .exit)) h r ⌝ }
 {
     let p = h.p;
-    let rule = number_at(code, 4 * p + 2);
-    let first = number_at(code, 4 * p + 1);
+    let rule = Rule {
+        name: number_at(code, 4 * p + 2),
+        first: number_at(code, 4 * p + 1),
+    };
+    let size = h.size;
+    let n = h.n;
     let i = h.i;
     let j = h.j;
-    let s = Stretch { n, i, j };
-    let m = find_end(code, main, p + 1, rule, s, h.k);
-    let elsewhere = other_end(code, main, p + 1, rule, s, m);
+    let s = Stretch { size, n, i, j };
+    let m = find_end(code, marks, notes, main, p, s, h.k);
+    let elsewhere = other_end(code, marks, notes, main, p, s, m);
     push(stack, h.depth, p + 1, j, h.k);
     let inner = Cursor {
+        size: h.size,
+        n: n,
         p: p,
         i: i,
         j: m,
@@ -177,20 +206,22 @@ fn descend(
         depth: h.depth + 1,
         mark: text::either(h.mark, elsewhere),
     };
-    enter(code, main, n, rule, first, out, inner)
+    enter(code, marks, notes, main, rule, out, inner)
 }
 
 // One step of the walk: past the end of a row, past a terminal, or into a node.
 fn step(
     code: &[u32],
+    marks: &[u8],
+    notes: &[u32],
     main: &[u32],
-    n: CharPlace,
     out: &mut [u32],
     stack: &mut [u32],
     h: Cursor,
 ) -> Cursor
-    requires { ⌜ CanStep (now code) (now main) (n .0) (now out) (now stack) h ⌝ }
-    ensures { λ r. ⌜ Stepped (now (code .entry)) (now (main .entry)) (n .0) (now (out .entry)) (now (out .exit)) (now (stack .entry)) (now (stack .exit)) h r ⌝ }
+    requires { ⌜ CanStep (now code) (now marks) (now notes) (h .size) (h .n .0) (now main) (now out) (now stack) h ⌝ }
+    ensures { λ r. ⌜ Stepped (now (code .entry)) (now (marks .entry)) (now (notes .entry)) (h .size) (h .n .0) (now (main .entry))
+        (now (out .entry)) (now (out .exit)) (now (stack .entry)) (now (stack .exit)) h r ⌝ }
 {
     let p = h.p;
     let kind = number_at(code, 4 * p);
@@ -199,9 +230,12 @@ fn step(
     }
     if kind == BEFORE_TERMINAL {
         let wide = number_at(code, 4 * p + 1);
+        let n = h.n;
         let i = CharPlace(h.i.0 + wide);
         let j = h.j;
         return Cursor {
+            size: h.size,
+            n: n,
             p: p + 1,
             i: i,
             j: j,
@@ -211,7 +245,7 @@ fn step(
             mark: h.mark,
         };
     }
-    descend(code, main, n, out, stack, h)
+    descend(code, marks, notes, main, out, stack, h)
 }
 
 // Whether there is a step to take: the numbers are not too many, and a symbol or a row on the stack is left.
@@ -232,36 +266,45 @@ fn more(code: &[u32], h: Cursor) -> bool
     true
 }
 
-// The chosen reading of a record of n characters by the grammar whose root's rule is named `top` and has its first position at
-// `first`. `out` takes the numbers of the left parse, `stack` three numbers for each row that waits.
+// The chosen reading of a record by the grammar whose root's rule is given. `marks` tells where dots and rules may stand, `notes` has
+// what is noted of the rules. `out` takes the numbers of the left parse, `stack` three numbers for each row that waits.
 pub fn walk(
     code: &[u32],
+    marks: &[u8],
+    notes: &[u32],
     main: &[u32],
-    n: CharPlace,
-    top: usize,
-    first: usize,
+    root: Root,
     out: &mut [u32],
     stack: &mut [u32],
 ) -> Walked
-    requires { ⌜ Given (now code) (now main) (now out) (now stack) (n .0) top first ⌝ }
-    ensures { λ r. ⌜ ((t : Finished (now (code .entry)) (now (main .entry)) (n .0) top first) → Answers (t .g) (t .r) (now (out .exit)) r) ⌝ }
+    requires { ⌜ Given (now code) (now marks) (now notes) (now main) (now out) (now stack) (root .size) (root .n .0) (root .rule .name) (root .rule .first) ⌝ }
+    ensures { λ r. ⌜ ((t : Finished (now (code .entry)) (now (marks .entry)) (now (notes .entry)) (now (main .entry)) (root .size) (root .n .0) (root .rule .name) (root .rule .first))
+        → Answers (t .g) (t .r) (now (out .exit)) r) ⌝ }
 {
+    let size = root.size;
+    let end = root.n.0;
+    let top = root.rule.name;
+    let first = root.rule.first;
+    let n = CharPlace(end);
     let i = CharPlace(0);
-    if height(main, top, Stretch { n, i, j: n }) == NONE {
+    if rule_height(marks, notes, main, top, Stretch { size, n, i, j: n }) == NONE {
         return Walked::NoReading;
     }
     let start = Cursor {
+        size,
+        n,
         p: first,
-        i: i,
+        i,
         j: n,
         k: 0,
         at: 0,
         depth: 0,
         mark: false,
     };
-    let mut h = enter(code, main, n, top, first, out, start);
+    let rule = Rule { name: top, first };
+    let mut h = enter(code, marks, notes, main, rule, out, start);
     while more(code, h) {
-        h = step(code, main, n, out, stack, h);
+        h = step(code, marks, notes, main, out, stack, h);
     }
     if limits::READING_NUMBERS < h.at {
         return Walked::TooLong;

@@ -1,11 +1,17 @@
-// What the coded grammar and the finished main table have for a dot position (crates/chart/specs).
+// What the coded grammar has for a dot position (crates/chart/specs), and the heights of alternatives.
 ghost use mathlib.Core.Path.{_≡_};
-ghost use Prim.Native.Nat.{_<_};
+ghost use Prim.Native.Nat.{_+_, _-_, _<_, _≤_, min};
 ghost use lib.ListN.{length, getD};
-ghost use Rattle.reading.specs.Walk.{Within, Row, Position, heightAt, valueAt};
-use crate::Stretch;
+ghost use Rattle.chart.specs.Code.{nextKind};
+ghost use Rattle.reading.specs.Walk.{Ready, Position, splitAt, leastOf, pastOf, valueAt};
 use chart::NONE;
-use chart::cell;
+use sparse::Stretch;
+use sparse::fits;
+use sparse::larger;
+use sparse::rest_height;
+use sparse::rule_height;
+use sparse::up;
+use text::CharPlace;
 
 // Kinds of dot positions. Any other stands before a symbol with alternatives.
 pub const AFTER_ALTERNATIVE: usize = 0;
@@ -19,25 +25,111 @@ pub fn number_at(s: &[u32], at: usize) -> usize
     s[at] as usize
 }
 
-// The cell of p on a stretch.
-pub fn height(main: &[u32], p: usize, s: Stretch) -> u32
-    requires { ⌜ Row (now main) (s .n .0) p × Within (s .n .0) (s .i .0) (s .j .0) ⌝ }
-    ensures { λ r. ⌜ r ≡ heightAt (now (main .entry)) (s .n .0) p (s .i .0) (s .j .0) ⌝ }
+// The height of the symbol at p to m, then of what stands after it to j.
+pub fn split(
+    code: &[u32],
+    marks: &[u8],
+    notes: &[u32],
+    main: &[u32],
+    p: usize,
+    s: Stretch,
+    m: CharPlace,
+) -> u32
+    requires { ⌜ Ready (now code) (now marks) (now notes) (now main) (s .size) (s .n .0) (s .i .0) (s .j .0)
+        × (((p < s .size) × (nextKind (now code) p ≡ 2)) × ((s .i .0 ≤ m .0) × (m .0 ≤ s .j .0))) ⌝ }
+    ensures { λ r. ⌜ r ≡ splitAt (now (code .entry)) (now (marks .entry)) (now (notes .entry)) (s .n .0) (now (main .entry)) p (s .i .0) (s .j .0) (m .0) ⌝ }
 {
-    let c = cell(s.n.0, p, s.i.0, s.j.0);
-    main[c]
+    let size = s.size;
+    let n = s.n;
+    let i = s.i;
+    let j = s.j;
+    let rule = number_at(code, 4 * p + 2);
+    let a = rule_height(marks, notes, main, rule, Stretch { size, n, i, j: m });
+    if a == NONE {
+        return NONE;
+    }
+    let b = rest_height(
+        code,
+        marks,
+        notes,
+        main,
+        p + 1,
+        Stretch { size, n, i: m, j },
+    );
+    larger(up(a), b)
 }
 
-// The least height of what stands after p. Nothing stands after the end of an alternative, whose cell has another use.
-pub fn value(code: &[u32], main: &[u32], p: usize, s: Stretch) -> u32
-    requires { ⌜ Position (now code) (now main) (s .n .0) p × Within (s .n .0) (s .i .0) (s .j .0) ⌝ }
-    ensures { λ r. ⌜ r ≡ valueAt (now (code .entry)) (now (main .entry)) (s .n .0) p (s .i .0) (s .j .0) ⌝ }
+// The smaller of two heights.
+fn smaller(a: u32, b: u32) -> u32
+    ensures { λ r. ⌜ r ≡ min a b ⌝ }
 {
-    if number_at(code, 4 * p) == AFTER_ALTERNATIVE {
+    if b < a {
+        return b;
+    }
+    a
+}
+
+// The least height of the symbol at p and what stands after it, over all places where the symbol ends.
+fn least_split(code: &[u32], marks: &[u8], notes: &[u32], main: &[u32], p: usize, s: Stretch) -> u32
+    requires { ⌜ Ready (now code) (now marks) (now notes) (now main) (s .size) (s .n .0) (s .i .0) (s .j .0) × ((p < s .size) × (nextKind (now code) p ≡ 2)) ⌝ }
+    ensures { λ r. ⌜ r ≡ leastOf (now (code .entry)) (now (marks .entry)) (now (notes .entry)) (s .n .0) (now (main .entry)) p (s .i .0) (s .j .0) (s .j .0 + 1 - s .i .0) ⌝ }
+{
+    let mut v = NONE;
+    let mut m = s.i;
+    while m.0 <= s.j.0 {
+        let w = split(code, marks, notes, main, p, s, m);
+        v = smaller(v, w);
+        m = CharPlace(m.0 + 1);
+    }
+    v
+}
+
+// The height of the terminal at p and what stands after it.
+fn past_terminal(
+    code: &[u32],
+    marks: &[u8],
+    notes: &[u32],
+    main: &[u32],
+    p: usize,
+    s: Stretch,
+) -> u32
+    requires { ⌜ Ready (now code) (now marks) (now notes) (now main) (s .size) (s .n .0) (s .i .0) (s .j .0) × ((p < s .size) × (nextKind (now code) p ≡ 1)) ⌝ }
+    ensures { λ r. ⌜ r ≡ pastOf (now (code .entry)) (now (marks .entry)) (now (notes .entry)) (s .n .0) (now (main .entry)) p (s .i .0) (s .j .0) ⌝ }
+{
+    if !fits(marks, p, s.i) {
+        return NONE;
+    }
+    let i = CharPlace(s.i.0 + number_at(code, 4 * p + 1));
+    if s.j.0 < i.0 {
+        return NONE;
+    }
+    let size = s.size;
+    let n = s.n;
+    let j = s.j;
+    rest_height(code, marks, notes, main, p + 1, Stretch { size, n, i, j })
+}
+
+// The least height of an alternative, whose first dot is p.
+pub fn alternative_height(
+    code: &[u32],
+    marks: &[u8],
+    notes: &[u32],
+    main: &[u32],
+    p: usize,
+    s: Stretch,
+) -> u32
+    requires { ⌜ Ready (now code) (now marks) (now notes) (now main) (s .size) (s .n .0) (s .i .0) (s .j .0) × Position (now code) (s .size) p ⌝ }
+    ensures { λ r. ⌜ r ≡ valueAt (now (code .entry)) (now (marks .entry)) (now (notes .entry)) (s .n .0) (now (main .entry)) p (s .i .0) (s .j .0) ⌝ }
+{
+    let kind = number_at(code, 4 * p);
+    if kind == AFTER_ALTERNATIVE {
         if s.i.0 == s.j.0 {
             return 0;
         }
         return NONE;
     }
-    height(main, p, s)
+    if kind == BEFORE_TERMINAL {
+        return past_terminal(code, marks, notes, main, p, s);
+    }
+    least_split(code, marks, notes, main, p, s)
 }

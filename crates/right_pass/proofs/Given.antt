@@ -1,5 +1,5 @@
 -- What the passes are given, of the code of a grammar's rules; a record whose end the root's rule does not reach has no derivation.
-use mathlib.Core.Bool.{Bool, false}
+use mathlib.Core.Bool.{Bool, true, false}
 use mathlib.Core.List.{List}
 use mathlib.Core.Path.{_≡_, sym, _∙_}
 use Prim.Native.Nat.{ℕ, _+_, _*_, _-_, _<_, _≤_}
@@ -11,26 +11,18 @@ use Rattle.text.specs.Lists.{Text}
 use Rattle.tree.specs.Tree.{Terminal, Grammar}
 use Rattle.plain.specs.Plain.{width}
 use Rattle.derive.specs.Derive.{Row, Derivation}
-use Rattle.chart.specs.Code.{nextKind, goesAt, ruleAt, ownerAt, On, at-end, at-terminal, at-symbol, Ruled}
+use Rattle.chart.specs.Code.{nextKind, goesAt, ownerAt, On, at-end, at-terminal, at-symbol, Ruled}
 use Rattle.items.specs.Items.{tokenAt}
 use Rattle.terminals.specs.Places.{TerminalHere, TerminalAt}
 use Rattle.terminals.proofs.Widths.{width-at}
 use Rattle.rules.specs.Ready.{Token}
 use Rattle.reach.specs.Lists.{Shape}
 use Rattle.left_pass.specs.Left.{Given, Lefting, Lefted}
+use Rattle.right_pass.specs.Right.{Righting}
 use Rattle.reach.proofs.Closed.{root-ends}
+use Rattle.reach.proofs.Stays.{goes-on, named}
 
 module _ {Tb c : List ℕ} {g : Grammar} {size top first : ℕ} (w : Ruled (Token Tb) c g size top first) where
-  after-of : (p : ℕ) → (nextKind c p ≡ 0 → ⊥) → On (Token Tb) c g (w .dots) (w .heads) p → p + 1 < size
-  after-of p n (at-end z e) = absurd (n z)
-  after-of p n (at-terminal x z l e _ t) = omega (arith, w .count)
-  after-of p n (at-symbol s z l e _ r d) = omega (arith, w .count)
-
-  rule-of : (p : ℕ) → nextKind c p ≡ 2 → On (Token Tb) c g (w .dots) (w .heads) p → ruleAt c p < size
-  rule-of p k (at-end z e) = absurd (omega arith)
-  rule-of p k (at-terminal x z l e _ t) = absurd (omega arith)
-  rule-of p k (at-symbol s z l e _ r d) = omega (arith, w .count)
-
   kind-of : (p : ℕ) → On (Token Tb) c g (w .dots) (w .heads) p → nextKind c p ≤ 2
   kind-of p (at-end z e) = omega arith
   kind-of p (at-terminal x z l e _ t) = omega arith
@@ -48,9 +40,9 @@ module _ {Tb c : List ℕ} {g : Grammar} {size top first : ℕ} (w : Ruled (Toke
     room = r;
     kinds = λ p h. kind-of p (w .stands p h);
     owner = owner-of;
-    after = λ p h n. after-of p n (w .stands p h);
+    after = λ p h n. omega (arith, goes-on (w .stands p h) n, w .count);
     inner = w .inner;
-    rule = λ p h k. rule-of p k (w .stands p h);
+    rule = λ p h k. omega (arith, named (w .stands p h) k, w .count);
   }
 
   here-of : (p : ℕ) → nextKind c p ≡ 1 → On (Token Tb) c g (w .dots) (w .heads) p → TerminalHere Tb (tokenAt Tb p)
@@ -86,3 +78,16 @@ module _ {Tb c : List ℕ} {g : Grammar} {size top first : ℕ} (w : Ruled (Toke
   -- the pass says no
   pub no-derivation : {R : Text} {M : List ℕ} {r : Bool} {t : Row} → Lefted Tb c R size top M r → r ≡ false → Derivation g R t → ⊥
   no-derivation l e d = l .fails e (root-ends w (l .closed) d)
+
+  -- it says yes: the flags go to the pass from the right
+  pub righting-of : {R : Text} {M : List ℕ} {r : Bool} → size ≤ 512 → 4 * size ≤ length c → length R ≤ 200 → Lefted Tb c R size top M r → r ≡ true → Righting Tb c R size top M
+  righting-of s d h l e = record {
+    shape = shape-of s d;
+    short = h;
+    inside = w .root-inside;
+    marks-long = l .long;
+    closed = l .closed;
+    only = l .only;
+    level = l .level;
+    ends = l .ends e;
+  }

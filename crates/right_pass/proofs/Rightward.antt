@@ -148,7 +148,7 @@ pub record Passing (Tb c : List ℕ) (R : Text) (size top : ℕ) (M Q : List ℕ
   pub work-long : length Q ≡ 1537
   pub left : LeftClosed (Token Tb) c R size top M
   pub only : FitsOnly (Token Tb) c R size M
-  pub root : Ends M top (length R) → Wanted M top (length R)
+  pub root : Wanted M top (length R)
   pub plain-open : (p : ℕ) → p < size → (nextKind c p ≡ 2 → ⊥) → Seen Q p
   pub homes : Homes c size Q
   pub seen : (p k : ℕ) → p < size → i ≤ k → k ≤ length R → nextKind c p ≡ 2 → Continued M (p + 1) k → Seen Q p
@@ -241,7 +241,7 @@ module _ {Tb c : List ℕ} {R : Text} {size top j : ℕ} {M₀ M Q : List ℕ} (
           work-long = d .stepped .stir .kept .work-long;
           left = left-same (g .shape .small) grows one (a .left);
           only = λ p i x h b k f t. a .only p i x h b k (two p i (small p h) f) t;
-          root = λ f. omega (arith, a .root (one (1536 * length R + (1024 + top)) f), grows (1536 * length R + (1024 + top)));
+          root = omega (arith, a .root, grows (1536 * length R + (1024 + top)));
           plain-open = d .stepped .wants .plain-open;
           homes = d .stepped .wants .homes;
           seen = sees;
@@ -348,7 +348,7 @@ module _ {Tb c : List ℕ} {R : Text} {size top : ℕ} {M Q₀ Q₁ Q E : List �
       work-long = w .kept .work-long;
       left = left-same (shape .small) grown ones (g .closed);
       only = λ p i x l b k v t. g .only p i x l b k (twos p i (omega (arith, shape .small)) v) t;
-      root = λ e. w .there (ones (1536 * length R + (1024 + top)) e);
+      root = w .there (g .ends);
       plain-open = λ p l n. omega (arith, w .rest (513 + p) (omega arith), opens p l n);
       homes = λ p l. w .rest (1025 + p) (omega arith) ∙ o .rest (1025 + p) (inr (omega arith)) ∙ h .homes p l;
       seen = λ p k l b t. absurd (omega arith);

@@ -87,6 +87,7 @@ pub record Righting (Tb c : List ℕ) (R : Text) (size top : ℕ) (M : List ℕ)
   pub closed : LeftClosed (Token Tb) c R size top M
   pub only : FitsOnly (Token Tb) c R size M
   pub level : (e k : ℕ) → e < 512 → (beginAt M e k ≤ 1) × (endAt M e k ≤ 1)
+  pub ends : Ends M top (length R)
 
 pub record Righted (Tb c : List ℕ) (R : Text) (size top : ℕ) (M : List ℕ) : Type 0 where
   pub long : length M ≡ 308736

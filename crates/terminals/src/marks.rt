@@ -71,7 +71,8 @@ fn mark_member(table: &[u32], at: usize, places: &mut [bool], categories: &mut [
 // What the members from a place on match.
 pub fn mark_members(table: &[u32], from: usize, places: &mut [bool], categories: &mut [bool])
     requires { ⌜ MarkMembers (now table) from (now places) (now categories) ⌝ }
-    ensures { λ _. ⌜ ((ms : List Member) → MembersAt (now (table .entry)) from ms → Adds (λ c. any (isMember c) ms) (now (places .entry)) (now (categories .entry)) (now (places .exit)) (now (categories .exit))) ⌝ }
+    ensures { λ _. ⌜ ((ms : List Member) → MembersAt (now (table .entry)) from ms → Adds (λ c. any (isMember c) ms) (now (places .entry)) (now (categories .entry)) (now (places .exit))
+        (now (categories .exit))) ⌝ }
 {
     let mut at = from;
     while table[at] != tokens::SET_END {

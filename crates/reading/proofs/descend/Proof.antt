@@ -1,4 +1,5 @@
-use Rattle.reading.proofs.Steps.{can-find, can-other, can-enter, stepped}
+use native.Mathlib.Omega.{arith}
+use Rattle.reading.proofs.Steps.{can-enter, stepped}
 use borrow.Author.Needs.{needs}
 use Rattle.reading.proofs.descend.Statement.{statement}
 use Rattle.reading.proofs.descend.Tie as tie
@@ -21,22 +22,17 @@ add-number-at-2 c = search needs
 number-at-requires-2 : tie.Need-number-at-requires-2
 number-at-requires-2 c κs = search needs
 
-add-find-end : tie.Need-add-find-end
-add-find-end c = search needs
-
 find-end-requires : tie.Need-find-end-requires
 find-end-requires c κs =
-    let pre = c .before .before .before .before .before .before .before .before .pre in
-    can-find (pre .0) (pre .1 .0) (pre .1 .1) (c .before .before .before .number-at .result) (c .before .before .before .number-at .ensures .0)
-
-add-other-end : tie.Need-add-other-end
-add-other-end c = search needs
+    let start = c .before .before .before .before .before .before .before .before .before .before .before in
+    let pre = start .pre in
+    (pre .0 .ready, ((pre .0 .position .inside, pre .1), pre .0 .on (pre .1) .ends))
 
 other-end-requires : tie.Need-other-end-requires
 other-end-requires c κs =
-    let number-at = c .before .before .before .before .number-at in
-    let pre = c .before .before .before .before .before .before .before .before .before .pre in
-    can-other (pre .0) (pre .1 .0) (pre .1 .1) (number-at .result) (number-at .ensures .0)
+    let start = c .before .before .before .before .before .before .before .before .before .before .before .before in
+    let pre = start .pre in
+    (pre .0 .ready, (pre .0 .position .inside, pre .1))
 
 add-push : tie.Need-add-push
 add-push c = search needs
@@ -44,21 +40,26 @@ add-push c = search needs
 push-requires : tie.Need-push-requires
 push-requires c κs = search needs
 
-add-t17 : tie.Need-add-t17
-add-t17 c = search needs
+add-t23 : tie.Need-add-t23
+add-t23 c =
+    let start = c .before .before .before .before .before .before .before .before .before .before .before .before .before .before .before .before .before .before in
+    let pre = start .pre in
+    omega (arith, pre .0 .written, pre .0 .most)
 
 either-requires : tie.Need-either-requires
 either-requires c κs = search needs
 
 enter-requires : tie.Need-enter-requires
 enter-requires c κs =
-    let find-end = c .before .before .before .before .before .before .before .before .find-end in
-    let number-at2 = c .before .before .before .before .before .before .before .before .before .before .before .number-at2 in
-    let number-at = c .before .before .before .before .before .before .before .before .before .before .before .before .number-at in
-    let pre = c .before .before .before .before .before .before .before .before .before .before .before .before .before .before .before .before
-    .before .pre in
-    can-enter (pre .0) (pre .1 .0) (pre .1 .1) (number-at .result) (number-at .ensures .0) (number-at2 .result) (find-end .result .0)
-    (c .before .either .result) (number-at2 .ensures .0) (find-end .ensures)
+    let at-find-end = c .before .before .before .before .before .before .before .before in
+    let at-number-at2 = at-find-end .before .before .before .before in
+    let at-number-at = at-number-at2 .before in
+    let start = at-number-at .before .before .before .before .before .before .before in
+    let pre = start .pre in
+    let one = at-number-at .number-at in
+    let two = at-number-at2 .number-at2 in
+    let find = at-find-end .find-end in
+    can-enter (pre .0) (pre .1) (one .result) (two .result) (one .ensures .0) (two .ensures .0) (find .result .0) (c .before .either .result) (find .ensures)
 
 same-length : tie.Need-same-length
 same-length c = search needs
@@ -68,18 +69,21 @@ same-length-2 c = search needs
 
 returns : tie.Need-returns
 returns c =
-    let enter = c .before .before .enter in
-    let either = c .before .before .before .before .either in
-    let push = c .before .before .before .before .before .before .before .before .push in
-    let other-end = c .before .before .before .before .before .before .before .before .before .before .other-end in
-    let find-end = c .before .before .before .before .before .before .before .before .before .before .before .find-end in
-    let number-at2 = c .before .before .before .before .before .before .before .before .before .before .before .before .before .before .number-at2 in
-    let number-at = c .before .before .before .before .before .before .before .before .before .before .before .before .before .before .before .number-at in
-    let pre = c .before .before .before .before .before .before .before .before .before .before .before .before .before .before .before .before
-    .before .before .before .before .pre in
-    stepped (pre .0) (pre .1 .0) (pre .1 .1) (number-at .result) (number-at .ensures .0) (number-at2 .result) (find-end .result .0)
-    (other-end .result) (either .result) (number-at2 .ensures .0) (find-end .ensures) (other-end .ensures) (push .ensures) (either .ensures)
-    (enter .ensures)
+    let at-enter = c .before .before in
+    let at-either = at-enter .before .before in
+    let at-push = at-either .before .before .before .before in
+    let at-other-end = at-push .before .before in
+    let at-find-end = at-other-end .before in
+    let at-number-at2 = at-find-end .before .before .before .before in
+    let at-number-at = at-number-at2 .before in
+    let start = at-number-at .before .before .before .before .before .before .before in
+    let pre = start .pre in
+    let one = at-number-at .number-at in
+    let two = at-number-at2 .number-at2 in
+    let find = at-find-end .find-end in
+    let other = at-other-end .other-end in
+    stepped (pre .0) (pre .1) (one .result) (two .result) (one .ensures .0) (two .ensures .0) (find .result .0) (other .result) (at-either .either .result) (find .ensures)
+    (other .ensures) (at-push .push .ensures) (at-either .either .ensures) (at-enter .enter .ensures)
 
 pub descend-spec : {M : Type 1} → statement M
 descend-spec =
@@ -91,13 +95,11 @@ descend-spec =
     mul-number-at-2
     add-number-at-2
     number-at-requires-2
-    add-find-end
     find-end-requires
-    add-other-end
     other-end-requires
     add-push
     push-requires
-    add-t17
+    add-t23
     either-requires
     enter-requires
     same-length

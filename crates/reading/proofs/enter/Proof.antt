@@ -4,6 +4,7 @@ use native.Mathlib.Omega.{arith}
 use denote.Ref.{now}
 use Rattle.reading.specs.declared.Cursor.{Cursor}
 use Rattle.reading.specs.Walk.{SomeLow, FirstLow, full, wrote}
+use Rattle.reading.proofs.Tables.{reads}
 use Rattle.reading.proofs.Lines.{line-few}
 use borrow.Author.Needs.{needs}
 use Rattle.reading.proofs.enter.Statement.{statement}
@@ -14,28 +15,37 @@ count-only-requires c κs = search needs
 
 returns : tie.Need-returns
 returns c =
-    let pre = c .before .before .before .before .before .before .before .pre in
+    let start = c .before .before .before .before .before .before .before .before .before in
+    let pre = start .pre in
     let e = c .count-only .ensures in
     let n = ap (λ (z : Cursor). z .at) e in
     full (omega (arith, pre .most)) refl (ap (λ (z : Cursor). z .p) e) (omega (arith, pre .most)) (ap (λ (z : Cursor). z .depth) e)
 
-height-requires : tie.Need-height-requires
-height-requires c κs = search needs
+rule-height-requires : tie.Need-rule-height-requires
+rule-height-requires c κs =
+    let start = c .before .before .before .before .before .before .before .before .before in
+    let pre = start .pre in
+    (reads (pre .ready .tables), pre .rule, pre .ready .order, pre .ready .inside)
 
 find-alternative-requires : tie.Need-find-alternative-requires
 find-alternative-requires c κs =
-    let args = c .before .before .before .before .before .before .before .args in
-    let pre = c .before .before .before .before .before .before .before .pre in
-    let a = args in (
-      pre .stretch,
-      subst (λ (z : ℕ). SomeLow (now (a .code)) (now (a .main)) (a .n .0) (a .first) (a .h .i .0) (a .h .j .0) z) (sym (c .height .ensures)) (pre .some),
+    let start = c .before .before .before .before .before .before .before .before .before .before in
+    let a = start .args in
+    let pre = start .pre in (
+      pre .ready,
+      subst (λ (z : ℕ). SomeLow (now (a .code)) (now (a .marks)) (now (a .notes)) (a .h .size) (a .h .n .0) (now (a .main)) (a .rule .first) (a .h .i .0) (a .h .j .0) z)
+          (sym (c .rule-height .ensures (now (a .code)))) (pre .some),
     )
 
 other-alternative-requires : tie.Need-other-alternative-requires
 other-alternative-requires c κs = search needs
 
 cast-out : tie.Need-cast-out
-cast-out c = omega (arith, c .before .before .find-alternative .ensures .exists, line-few (c .before .before .find-alternative .ensures .line))
+cast-out c =
+    let at-find-alternative = c .before .before in
+    let start = at-find-alternative .before .before .before .before .before .before .before .before .before .before .before in
+    let pre = start .pre in
+    omega (arith, at-find-alternative .find-alternative .ensures .exists, line-few (at-find-alternative .find-alternative .ensures .line), pre .ready .tables .shape .small)
 
 mul-out : tie.Need-mul-out
 mul-out c = search needs
@@ -43,8 +53,8 @@ mul-out c = search needs
 slice-write-out : tie.Need-slice-write-out
 slice-write-out c = search needs
 
-add-t17 : tie.Need-add-t17
-add-t17 c = search needs
+add-t19 : tie.Need-add-t19
+add-t19 c = search needs
 
 either-requires : tie.Need-either-requires
 either-requires c κs = search needs
@@ -54,19 +64,29 @@ same-length c = search needs
 
 returns-2 : tie.Need-returns-2
 returns-2 c =
-    let other-alternative = c .before .before .other-alternative in
-    let find-alternative = c .before .before .before .find-alternative in
-    let height = c .before .before .before .before .height in
-    let if1 = c .before .before .before .before .before .if1 in
-    let args = c .before .before .before .before .before .before .before .before .before .before .before .args in
-    let a = args in
-    let r = find-alternative .result in
-    wrote r (other-alternative .result) (if1 .left)
-    (subst (λ (z : ℕ). FirstLow (now (a .code)) (now (a .main)) (a .n .0) (a .first) (a .h .i .0) (a .h .j .0) z r) (height .ensures)
-    (find-alternative .ensures))
-    (other-alternative .ensures) refl
-    (λ ι. record
-    { p = r .place; i = a .h .i; j = a .h .j; k = height .ensures ι; at = a .h .at + 1; depth = a .h .depth; mark = c .either .ensures ι })
+    let at-other-alternative = c .before .before in
+    let at-find-alternative = at-other-alternative .before in
+    let at-rule-height = at-find-alternative .before in
+    let at-if1 = at-rule-height .before .before in
+    let start = at-if1 .before .before .before .before .before .before .before .before in
+    let a = start .args in
+    let r = at-find-alternative .find-alternative .result in
+    let high = at-rule-height .rule-height .ensures (now (a .code)) in
+    let mark = c .either .ensures in
+    wrote r (at-other-alternative .other-alternative .result) (at-if1 .if1 .left)
+    (subst (λ (z : ℕ). FirstLow (now (a .code)) (now (a .marks)) (now (a .notes)) (a .h .size) (a .h .n .0) (now (a .main)) (a .rule .first) (a .h .i .0) (a .h .j .0) z r)
+    high (at-find-alternative .find-alternative .ensures)) (at-other-alternative .other-alternative .ensures) refl
+    (λ ι. record {
+      size = a .h .size;
+      n = a .h .n;
+      p = r .place;
+      i = a .h .i;
+      j = a .h .j;
+      k = high ι;
+      at = a .h .at + 1;
+      depth = a .h .depth;
+      mark = mark ι;
+    })
 
 pub enter-spec : {M : Type 1} → statement M
 enter-spec =
@@ -74,13 +94,13 @@ enter-spec =
     (tie.spec
     count-only-requires
     returns
-    height-requires
+    rule-height-requires
     find-alternative-requires
     other-alternative-requires
     cast-out
     mul-out
     slice-write-out
-    add-t17
+    add-t19
     either-requires
     same-length
     returns-2)

@@ -20,25 +20,30 @@ add-number-at c = search needs
 number-at-requires-2 : tie.Need-number-at-requires-2
 number-at-requires-2 c κs = search needs
 
-add-t8 : tie.Need-add-t8
-add-t8 c = search needs
+add-t9 : tie.Need-add-t9
+add-t9 c = search needs
 
-mul-t9 : tie.Need-mul-t9
-mul-t9 c = search needs
+mul-t10 : tie.Need-mul-t10
+mul-t10 c = search needs
 
-shared-slice-read-t11 : tie.Need-shared-slice-read-t11
-shared-slice-read-t11 c = search needs
+shared-slice-read-t12 : tie.Need-shared-slice-read-t12
+shared-slice-read-t12 c = search needs
 
 returns : tie.Need-returns
 returns c =
-    let number-at = c .before .before .before .number-at in
-    let args = c .before .before .before .before .before .before .args in
-    let h = args .h in
-    let st = now (args .stack) in
+    let at-number-at2 = c .before .before in
+    let at-number-at = at-number-at2 .before in
+    let start = at-number-at .before .before .before .before in
+    let h = start .args .h in
+    let st = now (start .args .stack) in
+    let first = at-number-at .number-at .ensures .0 in
+    let second = at-number-at2 .number-at2 .ensures .0 in
     λ ι. record {
-      p = number-at .ensures .0 ι;
+      size = h .size;
+      n = h .n;
+      p = first ι;
       i = h .j;
-      j = record { 0 = c .before .before .number-at2 .ensures .0 ι };
+      j = record { 0 = second ι };
       k = getD st (3 * (h .depth - 1) + 2) 0;
       at = h .at;
       depth = h .depth - 1;
@@ -54,7 +59,7 @@ pop-spec =
     number-at-requires
     add-number-at
     number-at-requires-2
-    add-t8
-    mul-t9
-    shared-slice-read-t11
+    add-t9
+    mul-t10
+    shared-slice-read-t12
     returns)

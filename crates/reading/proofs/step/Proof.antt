@@ -14,15 +14,19 @@ number-at-requires c κs = search needs
 
 pop-requires : tie.Need-pop-requires
 pop-requires c κs =
-    let number-at = c .before .before .number-at in
-    let pre = c .before .before .before .before .before .before .before .pre in
-    (pre .back (sym (number-at .ensures .0) ∙ c .before .if1 .taken), omega (arith, pre .written, pre .most, pre .stack))
+    let at-number-at = c .before .before in
+    let start = at-number-at .before .before .before .before .before .before .before in
+    let pre = start .pre in
+    (pre .back (sym (at-number-at .number-at .ensures .0) ∙ c .before .if1 .taken), omega (arith, pre .written, pre .most, pre .stack))
 
 same-length : tie.Need-same-length
 same-length c = search needs
 
 returns : tie.Need-returns
-returns c = at-end (sym (c .before .before .before .number-at .ensures .0) ∙ c .before .before .if1 .taken) refl refl (c .pop .ensures)
+returns c =
+    let at-if1 = c .before .before in
+    let at-number-at = at-if1 .before in
+    at-end (sym (at-number-at .number-at .ensures .0) ∙ at-if1 .if1 .taken) refl refl (c .pop .ensures)
 
 mul-number-at-2 : tie.Need-mul-number-at-2
 mul-number-at-2 c = search needs
@@ -33,21 +37,32 @@ add-number-at c = search needs
 number-at-requires-2 : tie.Need-number-at-requires-2
 number-at-requires-2 c κs = search needs
 
-add-t16 : tie.Need-add-t16
-add-t16 c = search needs
+add-t18 : tie.Need-add-t18
+add-t18 c = search needs
 
-add-t17 : tie.Need-add-t17
-add-t17 c = search needs
+add-t19 : tie.Need-add-t19
+add-t19 c = search needs
 
 returns-2 : tie.Need-returns-2
 returns-2 c =
-    let if2 = c .before .before .before .if2 in
-    let number-at = c .before .before .before .before .before .number-at in
-    let args = c .before .before .before .before .before .before .before .before .before .before .args in
-    let h = args .h in
-    at-terminal (sym (number-at .ensures .0) ∙ if2 .taken) refl refl
-    (λ ι. record
-    { p = h .p + 1; i = record { 0 = h .i .0 + c .before .before .number-at2 .ensures .0 ι }; j = h .j; k = h .k; at = h .at; depth = h .depth; mark = h .mark })
+    let at-number-at2 = c .before .before .before in
+    let at-if2 = at-number-at2 .before in
+    let at-number-at = at-if2 .before .before in
+    let start = at-number-at .before .before .before .before .before .before .before in
+    let h = start .args .h in
+    let wide = at-number-at2 .number-at2 .ensures .0 in
+    at-terminal (sym (at-number-at .number-at .ensures .0) ∙ at-if2 .if2 .taken) refl refl
+    (λ ι. record {
+      size = h .size;
+      n = h .n;
+      p = h .p + 1;
+      i = record { 0 = h .i .0 + wide ι };
+      j = h .j;
+      k = h .k;
+      at = h .at;
+      depth = h .depth;
+      mark = h .mark;
+    })
 
 descend-requires : tie.Need-descend-requires
 descend-requires c κs = search needs
@@ -73,8 +88,8 @@ step-spec =
     mul-number-at-2
     add-number-at
     number-at-requires-2
-    add-t16
-    add-t17
+    add-t18
+    add-t19
     returns-2
     descend-requires
     same-length-2

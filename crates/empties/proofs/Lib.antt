@@ -1,0 +1,4 @@
+pub mod Offers
+pub mod Derived
+pub mod Moves
+pub mod Noted

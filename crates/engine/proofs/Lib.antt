@@ -1,4 +1,0 @@
-pub mod Kept
-pub mod Relaxing
-pub mod Spreading
-pub mod Columns

@@ -1,0 +1,52 @@
+use mathlib.Core.Path.{sym, subst}
+use native.Mathlib.Omega.{arith}
+use Rattle.sparse.specs.Cells.{Tables}
+use Rattle.spread.proofs.Handing.{listed-kept}
+use Rattle.quick.proofs.Columns.{from-start}
+use borrow.Author.Needs.{needs}
+use Rattle.quick.proofs.begin_column.Statement.{statement}
+use Rattle.quick.proofs.begin_column.Tie as tie
+
+list-column-requires : tie.Need-list-column-requires
+list-column-requires c κs = search needs
+
+untouch-requires : tie.Need-untouch-requires
+untouch-requires c κs = search needs
+
+spread-requires : tie.Need-spread-requires
+spread-requires c κs =
+    let at-untouch = c .before .before .before .before in
+    let at-list-column = at-untouch .before .before .before .before .before .before in
+    let start = at-list-column .before .before .before .before .before .before .before .before in
+    let a = start .args in
+    let g = start .pre in
+    let l = at-list-column .list-column .ensures in
+    let u = at-untouch .untouch .ensures in
+    (subst (Tables (a .code .now) (a .marks .now) (a .notes .now) (a .s .size) (a .s .n .0)) (sym (l .1 .long)) (g .0 .tables), listed-kept (u .long) (u .before) (l .0), omega (arith, g .1), g .2)
+
+same-length : tie.Need-same-length
+same-length c = search needs
+
+same-length-2 : tie.Need-same-length-2
+same-length-2 c = search needs
+
+returns : tie.Need-returns
+returns c =
+    let at-spread = c .before .before .before .before in
+    let at-untouch = at-spread .before .before .before .before .before in
+    let at-list-column = at-untouch .before .before .before .before .before .before in
+    let start = at-list-column .before .before .before .before .before .before .before .before in
+    let g = start .pre in
+    let l = at-list-column .list-column .ensures in
+    from-start _ _ _ _ _ _ (g .2) (g .0) (l .1) (l .0) (at-untouch .untouch .ensures) (g .1) (at-spread .spread .ensures)
+
+pub begin-column-spec : {M : Type 1} → statement M
+begin-column-spec =
+    tie.close
+    (tie.spec
+    list-column-requires
+    untouch-requires
+    spread-requires
+    same-length
+    same-length-2
+    returns)

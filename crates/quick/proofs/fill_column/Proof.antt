@@ -1,0 +1,106 @@
+use mathlib.Core.Path.{_≡_, refl, sym, subst, _∙_}
+use Prim.Native.Nat.{ℕ, _+_, _-_, _≤_}
+use native.Mathlib.Omega.{arith}
+use lib.ListN.{length}
+use Rattle.settle.specs.Queue.{countOf, Queued}
+use Rattle.quick.specs.Quick.{From}
+use Rattle.quick.proofs.Columns.{before-next}
+use Rattle.quick.proofs.fill_column.Statement.{statement}
+use Rattle.quick.proofs.fill_column.Tie as tie
+
+abbrev Inv-loop : tie.InvT-loop
+Inv-loop code marks notes main₀ queue₀ column₀ s n j i₀ main queue column i =
+    (i ≤ s .j .0) × (length main ≡ length main₀) × From code marks notes (s .size) (s .n .0) (s .j .0) i main column
+    × Queued (s .size) queue × (countOf queue ≡ 0)
+
+abbrev μ-loop : tie.MeasureT-loop
+μ-loop code marks notes main₀ queue₀ column₀ s n j i₀ main queue column i = i
+
+begin-column-requires : tie.Need-begin-column-requires Inv-loop μ-loop
+begin-column-requires c κs =
+    let start = c .before .before .before .before .before .before .before .before in
+    let g = start .pre in
+    (g .0, g .1, g .2, g .3)
+
+loop-holds : tie.Need-loop-holds Inv-loop μ-loop
+loop-holds c =
+    let at-begin-column = c .before .before .before .before .before .before in
+    let start = at-begin-column .before .before .before .before .before .before .before .before .before in
+    let g = start .pre in
+    (omega arith, refl, at-begin-column .begin-column .ensures, g .4, g .5)
+
+sub-i : tie.Need-sub-i Inv-loop μ-loop
+sub-i c = omega (arith, c .loop-test .taken)
+
+finish-requires : tie.Need-finish-requires Inv-loop μ-loop
+finish-requires c κs =
+    let at-loop-test = c .before .before .before in
+    let at-loop = at-loop-test .before in
+    let start = at-loop .before .before .before .before .before .before .before .before .before .before .before .before .before .before .before .before in
+    let a = start .args in
+    let l = at-loop .loop in
+    let e : l .i ≡ l .i - 1 + 1 = omega (arith, at-loop-test .loop-test .taken) in (
+      subst (λ (x : ℕ). From (a .code .now) (a .marks .now) (a .notes .now) (a .s .size) (a .s .n .0) (a .s .j .0) x (l .main) (l .column)) e (l .inv .2),
+      omega (arith, at-loop-test .loop-test .taken, l .inv .0),
+      l .inv .3,
+      l .inv .4,
+    )
+
+loop-less : tie.Need-loop-less Inv-loop μ-loop
+loop-less c =
+    let at-loop-test = c .before .before .before .before .before .before .before .before .before .before in
+    omega (arith, at-loop-test .loop-test .taken)
+
+loop-again : tie.Need-loop-again Inv-loop μ-loop
+loop-again c =
+    let at-finish = c .before .before .before .before .before .before in
+    let at-loop = at-finish .before .before .before .before .before in
+    let l = at-loop .loop in
+    let d = at-finish .finish .ensures in
+    (omega (arith, l .inv .0), at-finish .finish .kept .1 .1 .1 .0 ∙ l .inv .1, d .0, d .1, d .2)
+
+same-length : tie.Need-same-length Inv-loop μ-loop
+same-length c =
+    let at-begin-column = c .before .before .before .before .before .before .before .before in
+    c .before .loop .inv .1 ∙ at-begin-column .begin-column .kept .1 .1 .1 .0
+
+same-length-2 : tie.Need-same-length-2 Inv-loop μ-loop
+same-length-2 c =
+    let start = c .before .before .before .before .before .before .before .before .before .before .before .before .before .before .before .before .before in
+    c .before .loop .inv .3 .long ∙ sym (start .pre .4 .long)
+
+same-length-3 : tie.Need-same-length-3 Inv-loop μ-loop
+same-length-3 c =
+    let start = c .before .before .before .before .before .before .before .before .before .before .before .before .before .before .before .before .before in
+    c .before .loop .inv .2 .listed .long ∙ sym (start .pre .3)
+
+returns : tie.Need-returns Inv-loop μ-loop
+returns c =
+    let at-loop = c .before in
+    let start = at-loop .before .before .before .before .before .before .before .before .before .before .before .before .before .before .before .before in
+    let a = start .args in
+    let l = at-loop .loop in
+    let e : l .i ≡ 0 = omega (arith, c .loop-test .left) in (
+      before-next _ _ _ _ _ _ (start .pre .0 .empties)
+          (subst (λ (x : ℕ). From (a .code .now) (a .marks .now) (a .notes .now) (a .s .size) (a .s .n .0) (a .s .j .0) x (l .main) (l .column)) e (l .inv .2)),
+      l .inv .2 .listed .long,
+      l .inv .3,
+      l .inv .4,
+    )
+
+pub fill-column-spec : {M : Type 1} → statement M
+fill-column-spec =
+    tie.close
+    (tie.spec
+    Inv-loop
+    μ-loop
+    begin-column-requires
+    loop-holds
+    sub-i
+    finish-requires
+    loop-less
+    loop-again
+    same-length
+    same-length-2
+    same-length-3
+    returns)

@@ -1,0 +1,211 @@
+-- Values of dots and of splits, as numbers.
+use mathlib.Core.Path.{_≡_, refl, sym, ap, subst, _∙_}
+use mathlib.Core.Bool.{Bool, true, false}
+use mathlib.Core.List.{List}
+use Prim.Native.Nat.{ℕ, zero, suc, _+_, _-_, _<_, _≤_, max, min}
+use native.Mathlib.Decide.{ℕ-discrete, decLt}
+use native.Mathlib.Omega.{arith}
+use lib.Dec.{eqb, leb}
+use lib.ListN.{getD}
+use borrow.Author.Tests.{eq-eqb, ne-eqb, le-leb, lt-leb, leb-true}
+use Rattle.text.specs.Lists.{pick}
+use Rattle.chart.specs.Code.{nextKind, goesAt, ruleAt}
+use Rattle.chart.specs.Heights.{none, cellAt}
+use Rattle.heights.specs.Table.{upOf}
+use Rattle.heights.specs.Filling.{Any}
+use Rattle.heights.specs.Part.{Offers, by-end, by-terminal, by-split}
+use Rattle.heights.proofs.Values.{up-is, up-low, up-most}
+use Rattle.reach.specs.Flags.{dotAt, endAt, Fits, homeOf}
+use Rattle.sparse.specs.Cells.{isLast, ruleOf, wideRest, restOf}
+use Rattle.reading.specs.Walk.{joined, splitAt, leastOf, pastOf, valueAt}
+
+pick-most : {x y : ℕ} (b : Bool) → x ≤ none → y ≤ none → pick b x y ≤ none
+pick-most true h k = h
+pick-most false h k = k
+
+pick-none : {x : ℕ} (b : Bool) → x ≤ none → pick b x none ≤ none
+pick-none b h = pick-most {y = none} b h (omega arith)
+
+-- heights of two parts
+pub joined-some : (a b : ℕ) → a < none → joined a b ≡ max (a + 1) b
+joined-some a b l = rw (ne-eqb a none (λ e. omega arith), up-is a l)
+
+pub joined-most : (a b : ℕ) → b ≤ none → joined a b ≤ none
+joined-most a b l = pick-most (eqb a none) (omega arith) (omega (arith, up-most a))
+
+joined-none : (a b : ℕ) → a ≡ none → joined a b ≡ none
+joined-none a b e = rw (eq-eqb a none e)
+
+-- both parts have a height
+pub record Both (a b v : ℕ) : Type 0 where
+  pub one : a < none
+  pub others : b < none
+  pub is : v ≡ max (a + 1) b
+
+pub both : (a b : ℕ) → joined a b < none → Both a b (joined a b)
+both a b l = elim (ℕ-discrete a none) as (λ _. Both a b (joined a b)) [
+  | yes e ↦ absurd (omega (arith, joined-none a b e))
+  | no e ↦
+      (let z : joined a b ≡ max (upOf a) b = rw (ne-eqb a none e) in
+      let h = up-low a (omega arith) in
+      record { one = h; others = omega arith; is = joined-some a b h })
+]
+
+-- no number is above that of "no height"
+pub record Small (F H : List ℕ) : Type 0 where
+  pub noted : (x : ℕ) → getD F x 0 ≤ none
+  pub cell : (x : ℕ) → getD H x 0 ≤ none
+
+module _ (c M F : List ℕ) (n : ℕ) (H : List ℕ) where
+  module _ (s : Small F H) where
+    pub rule-most : (e i j : ℕ) → ruleOf c M F n H e i j ≤ none
+    unfolding ruleOf
+    rule-most e i j = pick-most (eqb i j) (s .noted _) (pick-none (leb 2 (endAt M e j)) (s .cell _))
+
+    wide-most : (p i j : ℕ) → wideRest c M F n H p i j ≤ none
+    unfolding wideRest
+    wide-most p i j = pick-most (isLast c p) (up-most (ruleOf c M F n H (ruleAt c p) i j)) (pick-none (leb 2 (endAt M (homeOf c p) j)) (s .cell (cellAt n p i j)))
+
+    pub rest-most : (p i j : ℕ) → restOf c M F n H p i j ≤ none
+    unfolding restOf
+    rest-most p i j =
+        pick-most (eqb i j) (pick-most (eqb (nextKind c p) 0) (omega arith) (s .noted _))
+        (pick-most (eqb (nextKind c p) 0) (omega arith) (pick-none (leb 1 (dotAt M p i)) (wide-most p i j)))
+
+    past-most : (p i j : ℕ) → pastOf c M F n H p i j ≤ none
+    past-most p i j = pick-none (leb 2 (dotAt M p i)) (pick-none (leb (i + goesAt c p) j) (rest-most (p + 1) (i + goesAt c p) j))
+
+    least-most : (p i j d : ℕ) → leastOf c M F n H p i j d ≤ none
+    least-most p i j zero = omega arith
+    least-most p i j (suc d) = omega (arith, least-most p i j d)
+
+    pub value-most : (p i j : ℕ) → valueAt c M F n H p i j ≤ none
+    unfolding valueAt
+    value-most p i j =
+        pick-most (eqb (nextKind c p) 0) (pick-most (eqb i j) (omega arith) (omega arith))
+        (pick-most (eqb (nextKind c p) 1) (past-most p i j) (least-most p i j (j + 1 - i)))
+
+    pub split-most : (p i j m : ℕ) → splitAt c M F n H p i j m ≤ none
+    split-most p i j m = joined-most (ruleOf c M F n H (ruleAt c p) i m) _ (rest-most (p + 1) m j)
+
+  -- by kinds of dots
+  pub value-end : (p i j : ℕ) → nextKind c p ≡ 0 → i ≡ j → valueAt c M F n H p i j ≡ 0
+  unfolding valueAt
+  value-end p i j z e = rw (z, eq-eqb i j e)
+
+  pub value-none : (p i j : ℕ) → nextKind c p ≡ 0 → (i ≡ j → ⊥) → valueAt c M F n H p i j ≡ none
+  unfolding valueAt
+  value-none p i j z e = rw (z, ne-eqb i j e)
+
+  pub value-terminal : (p i j : ℕ) → nextKind c p ≡ 1 → valueAt c M F n H p i j ≡ pastOf c M F n H p i j
+  unfolding valueAt
+  value-terminal p i j z = rw z
+
+  pub value-symbol : (p i j : ℕ) → nextKind c p ≡ 2 → valueAt c M F n H p i j ≡ leastOf c M F n H p i j (j + 1 - i)
+  unfolding valueAt
+  value-symbol p i j z = rw z
+
+  -- past a terminal
+  pub past-misfit : (p i j : ℕ) → leb 2 (dotAt M p i) ≡ false → pastOf c M F n H p i j ≡ none
+  past-misfit p i j f = rw f
+
+  pub past-short : (p i j : ℕ) → leb 2 (dotAt M p i) ≡ true → j < i + goesAt c p → pastOf c M F n H p i j ≡ none
+  past-short p i j f l = rw (f, lt-leb (i + goesAt c p) j l)
+
+  pub past-is : (p i j : ℕ) → leb 2 (dotAt M p i) ≡ true → i + goesAt c p ≤ j → pastOf c M F n H p i j ≡ restOf c M F n H (p + 1) (i + goesAt c p) j
+  past-is p i j f l = rw (f, le-leb (i + goesAt c p) j l)
+
+  -- at a symbol whose rule is e
+  pub split-none : (p i j m e a : ℕ) → e ≡ ruleAt c p → a ≡ ruleOf c M F n H e i m → a ≡ none → splitAt c M F n H p i j m ≡ none
+  split-none p i j m e a x y z = joined-none (ruleOf c M F n H (ruleAt c p) i m) (restOf c M F n H (p + 1) m j) (ap (λ (q : ℕ). ruleOf c M F n H q i m) (sym x) ∙ sym y ∙ z)
+
+  pub split-is : (p i j m e a u : ℕ) → e ≡ ruleAt c p → a ≡ ruleOf c M F n H e i m → (a ≡ none → ⊥) → u ≡ upOf a
+      → splitAt c M F n H p i j m ≡ max u (restOf c M F n H (p + 1) m j)
+  split-is p i j m e a u x y z w = let q : a ≡ ruleOf c M F n H (ruleAt c p) i m = y ∙ ap (λ (q : ℕ). ruleOf c M F n H q i m) x in rw (← q, ne-eqb a none z, w)
+
+  -- the least split of those before m
+  pub record Sought (p i j v m : ℕ) : Type 0 where
+    pub from : i ≤ m
+    pub to : m ≤ j + 1
+    pub is : v ≡ leastOf c M F n H p i j (m - i)
+
+  pub sought : (p i j : ℕ) → i ≤ j → Sought p i j none i
+  sought p i j l = let z : i - i ≡ 0 = omega arith in record { from = omega arith; to = omega arith; is = rw z refl }
+
+  pub sought-next : {p i j v m : ℕ} (w v' : ℕ) → Sought p i j v m → m ≤ j → w ≡ splitAt c M F n H p i j m → v' ≡ min v w → Sought p i j v' (m + 1)
+  sought-next {p} {i} {j} {v} {m} w v' s l e f =
+      let from = s .from in
+      let z : m + 1 - i ≡ suc (m - i) = omega arith in
+      let y : i + (m - i) ≡ m = omega arith in
+      record { from = omega arith; to = omega arith; is = rw (z, y) (f ∙ (λ ι. min (s .is ι) (e ι))) }
+
+  pub sought-all : {p i j v m : ℕ} → Sought p i j v m → j < m → v ≡ leastOf c M F n H p i j (j + 1 - i)
+  sought-all {p} {i} {j} {v} {m} s l = let z : m - i ≡ j + 1 - i = omega (arith, s .to) in s .is ∙ ap (leastOf c M F n H p i j) z
+
+  -- no split is below the least of those before d, and one has it
+  pub least-low : (p i j d e : ℕ) → e < d → leastOf c M F n H p i j d ≤ splitAt c M F n H p i j (i + e)
+  least-low p i j zero e l = absurd (omega arith)
+  least-low p i j (suc d) e l = elim (ℕ-discrete e d) as (λ _. leastOf c M F n H p i j (suc d) ≤ splitAt c M F n H p i j (i + e)) [
+    | yes q ↦ rw q (omega arith)
+    | no q ↦ omega (arith, least-low p i j d e (omega arith))
+  ]
+
+  record AtSplit (p i j d : ℕ) : Type 0 where
+    width : ℕ
+    below : width < d
+    is : leastOf c M F n H p i j d ≡ splitAt c M F n H p i j (i + width)
+
+  least-at : (p i j d : ℕ) → leastOf c M F n H p i j d < none → AtSplit p i j d
+  least-at p i j zero l = absurd (omega arith)
+  least-at p i j (suc d) l = elim (decLt (splitAt c M F n H p i j (i + d)) (leastOf c M F n H p i j d)) as (λ _. AtSplit p i j (suc d)) [
+    | yes q ↦ record { width = d; below = omega arith; is = omega arith }
+    | no q ↦ (let w = least-at p i j d (omega arith) in record { width = w .width; below = omega (arith, w .below); is = omega (arith, w .is) })
+  ]
+
+  -- the value of a dot is the least that is offered, where every end counts as wanted
+  module _ (size : ℕ) (home : ℕ → ℕ) (Use : ℕ → ℕ → Type 0) where
+    abbrev pub Offer : (ℕ → ℕ → Type 0) → ℕ → ℕ → ℕ → ℕ → Type 0
+    Offer Live = Offers c size home (Fits M) Use Live (ruleOf c M F n H) (restOf c M F n H)
+
+    pub value-low : {Live : ℕ → ℕ → Type 0} (p i j v : ℕ) → Offer Live p i j v → v < none → valueAt c M F n H p i j ≤ v
+    value-low p i j v (by-end z e o) l = omega (arith, value-end p i j z e)
+    value-low p i j v (by-terminal z f b o) l =
+        let w = value-terminal p i j z in
+        omega (arith, past-is p i j (le-leb 2 (dotAt M p i) f) b)
+    value-low p i j v (by-split m z hi hm y o) l =
+        let w = value-symbol p i j z in
+        let a = ruleOf c M F n H (ruleAt c p) i m in
+        let la = up-low a (omega arith) in
+        let e : i + (m - i) ≡ m = omega arith in
+        let x = subst (λ (q : ℕ). leastOf c M F n H p i j (j + 1 - i) ≤ splitAt c M F n H p i j q) e (least-low p i j (j + 1 - i) (m - i) (omega arith)) in
+        omega (arith, joined-some a (restOf c M F n H (p + 1) m j) la, up-is a la)
+
+    end-offer : (p i j : ℕ) → nextKind c p ≡ 0 → valueAt c M F n H p i j < none → Offer Any p i j (valueAt c M F n H p i j)
+    end-offer p i j z l = elim (ℕ-discrete i j) as (λ _. Offer Any p i j (valueAt c M F n H p i j)) [
+      | yes e ↦ by-end z e (value-end p i j z e)
+      | no e ↦ absurd (omega (arith, value-none p i j z e))
+    ]
+
+    terminal-by : (b d : Bool) (p i j v : ℕ) → leb 2 (dotAt M p i) ≡ b → leb (i + goesAt c p) j ≡ d → nextKind c p ≡ 1
+        → v ≡ pick b (pick d (restOf c M F n H (p + 1) (i + goesAt c p) j) none) none → v < none → Offer Any p i j v
+    terminal-by true true p i j v x y z o l = by-terminal z (leb-true 2 (dotAt M p i) x) (leb-true (i + goesAt c p) j y) o
+    terminal-by true false p i j v x y z o l = absurd (omega arith)
+    terminal-by false d p i j v x y z o l = absurd (omega arith)
+
+    symbol-offer : (p i j : ℕ) → i ≤ j → nextKind c p ≡ 2 → valueAt c M F n H p i j < none → Offer Any p i j (valueAt c M F n H p i j)
+    symbol-offer p i j h z l =
+        let w = value-symbol p i j z in
+        let s = least-at p i j (j + 1 - i) (omega arith) in
+        let m = i + s .width in
+        let x = both (ruleOf c M F n H (ruleAt c p) i m) (restOf c M F n H (p + 1) m j) (omega (arith, s .is)) in
+        let u = up-is (ruleOf c M F n H (ruleAt c p) i m) (x .one) in
+        by-split m z (omega arith) (omega (arith, s .below)) tt (omega (arith, s .is, x .is))
+
+    pub value-offer : (p i j : ℕ) → i ≤ j → nextKind c p ≤ 2 → valueAt c M F n H p i j < none → Offer Any p i j (valueAt c M F n H p i j)
+    value-offer p i j h k l = elim (ℕ-discrete (nextKind c p) 0) as (λ _. Offer Any p i j (valueAt c M F n H p i j)) [
+      | yes z ↦ end-offer p i j z l
+      | no z ↦ (elim (ℕ-discrete (nextKind c p) 1) as (λ _. Offer Any p i j (valueAt c M F n H p i j)) [
+        | yes y ↦ terminal-by (leb 2 (dotAt M p i)) (leb (i + goesAt c p) j) p i j (valueAt c M F n H p i j) refl refl y (value-terminal p i j y) l
+        | no y ↦ symbol-offer p i j h (omega arith) l
+      ])
+    ]

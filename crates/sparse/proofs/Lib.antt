@@ -1,0 +1,5 @@
+pub mod Rows
+pub mod Falls
+pub mod Toward
+pub mod Coded
+pub mod Empty

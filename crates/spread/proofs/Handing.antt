@@ -1,0 +1,379 @@
+-- Laws of handing on: what is kept while heights of longer stretches fall, and the turns of the loops.
+use mathlib.Core.Bool.{Bool, true, false}
+use mathlib.Core.List.{List}
+use mathlib.Core.Path.{_≡_, refl, sym, ap, subst, _∙_}
+use Prim.Native.Nat.{ℕ, _+_, _-_, _<_, _≤_, max, min}
+use native.Mathlib.Decide.{ℕ-discrete, decLt}
+use native.Mathlib.Omega.{arith}
+use lib.ListN.{length, getD, set, length-set}
+use lib.Seq.{getD-set-same, getD-set-other, set-getD}
+use Rattle.chart.specs.Code.{nextKind, goesAt, ruleAt, ownerAt}
+use Rattle.chart.specs.Heights.{cellAt, none}
+use Rattle.heights.specs.Table.{cellOf, upOf}
+use Rattle.heights.specs.Filling.{Only}
+use Rattle.heights.specs.Part.{by-terminal, by-split}
+use Rattle.heights.proofs.Values.{up-is, up-none}
+use Rattle.reach.specs.Flags.{Fits, Wanted, homeOf}
+use Rattle.reach.proofs.Closed.{home-next}
+use Rattle.sparse.specs.Cells.{rowOf, ruleOf, restOf, Shape, Tables}
+use Rattle.sparse.specs.Steps.{OffersAt, Fell, On, HandedOn, Listed, Lowered, lowered, kept}
+use Rattle.sparse.proofs.Rows.{in-table, last-symbol, last-stop, rule-cell, rest-end}
+use Rattle.sparse.proofs.Falls.{fell-refl, fell-join, fell-widen, fell-set, lowered-cell, other-stretch}
+use Rattle.sparse.proofs.Toward.{target-of, toward-row, fell-toward, fell-rule, fell-rest}
+use Rattle.spread.specs.Spread.{Ahead, Better, Touched, Placed, Offering, Merging, Merged, Spread, DotSpread}
+
+-- the less of v and what is one more than the larger of a and h
+pub better-less : (a h v m : ℕ) → a ≤ none → v ≤ none → m ≡ max a h → m < v → Better a h v (m + 1)
+better-less a h v m la lv e l = record {
+  is = λ b eb lb. omega (arith, up-is a (omega arith));
+  idle = λ k. absurd (omega arith);
+  some = λ k. omega arith;
+}
+
+pub better-kept : (a h v m : ℕ) → a ≤ none → v ≤ none → m ≡ max a h → v ≤ m → Better a h v v
+better-kept a h v m la lv e l = record {
+  is = λ b eb lb. elim (decLt a none) as (λ _. v ≡ min v (max (upOf a) b)) [
+    | yes k ↦ omega (arith, up-is a k)
+    | no k ↦ omega (arith, up-none a (omega arith))
+  ];
+  idle = λ k. refl;
+  some = λ k. absurd (omega arith);
+}
+
+-- one start more
+pub touched-none : (t : List ℕ) (x : ℕ) (C : List ℕ) → Touched t x 0 C C
+touched-none t x C = record { long = refl; before = λ z h. refl; after = λ z h. refl; at = λ i h. absurd (omega arith) }
+
+pub touched-next : (t : List ℕ) (x i r : ℕ) (C D : List ℕ) → 513 + i < length D → Touched t x i C D → (r ≡ 0 → (getD D (513 + i) 0 ≡ 0) × (none ≤ getD t (x + i) 0))
+    → Touched t x (i + 1) C (set D (513 + i) r)
+touched-next t x i r C D room a e = record {
+  long = length-set D (513 + i) r ∙ a .long;
+  before = λ z h. getD-set-other D (513 + i) z r 0 (λ o. omega arith) ∙ a .before z h;
+  after = λ z h. getD-set-other D (513 + i) z r 0 (λ o. omega arith) ∙ a .after z (omega arith);
+  at = λ k h z. elim (ℕ-discrete k i) as (λ _. (getD C (513 + k) 0 ≡ 0) × (none ≤ getD t (x + k) 0)) [
+    | yes o ↦ (let y = e (sym (getD-set-same D (513 + i) r 0 room) ∙ ap (λ (w : ℕ). getD (set D (513 + i) r) (513 + w) 0) (sym o) ∙ z) in
+        subst (λ (w : ℕ). (getD C (513 + w) 0 ≡ 0) × (none ≤ getD t (x + w) 0)) (sym o) (sym (a .after (513 + i) (omega arith)) ∙ y .0, y .1))
+    | no o ↦ a .at k (omega arith) (sym (getD-set-other D (513 + i) (513 + k) r 0 (λ w. o (omega arith))) ∙ z)
+  ];
+}
+
+-- a run of cells is in the table
+pub run-in : {c C : List ℕ} {size n m j len p : ℕ} → Placed c size n m j len C p → (y k l x : ℕ) → y < size → k ≤ l → l ≤ n → x ≡ cellAt n y 0 l → x + k ≤ len
+run-in {size = size} {n = n} {len = len} a y k l x h lk ll e =
+    omega (arith, in-table size n k l y len (x + k) (a .shape .small) (a .short) (a .room) h lk ll (omega arith))
+
+-- the list is before the flags
+pub listed-kept : {c M : List ℕ} {size j : ℕ} {C D : List ℕ} → length D ≡ length C → ((z : ℕ) → z < 513 → getD D z 0 ≡ getD C z 0) → Listed c M size j C → Listed c M size j D
+listed-kept {c} {M} {size} {j} {C} {D} e s l = record {
+  long = e ∙ l .long;
+  count = omega (arith, s 512 (omega arith), l .count);
+  each = λ k h. let w = s k (omega (arith, s 512 (omega arith), l .count)) in
+      subst (λ (x : ℕ). (x < size) × Wanted M (homeOf c x) j) (sym w) (l .each k (omega (arith, s 512 (omega arith))));
+  all = λ p h w. let x = l .all p h w in (x .0, omega (arith, s 512 (omega arith), x .1), s (x .0) (omega (arith, l .count, x .1)) ∙ x .2);
+}
+
+module _ (c M F : List ℕ) (size n m j : ℕ) where
+  pub spread-none : (t C : List ℕ) → Spread c M F size n m j t C t C
+  spread-none t C = record { fell = fell-refl c M F size n (j + 1); long = refl; before = λ z h. refl; after = λ z h. refl; still = λ i h z. (z, λ y. refl) }
+
+  pub spread-join : {t u v C D E : List ℕ} → Spread c M F size n m j t C u D → Spread c M F size n m j u D v E → Spread c M F size n m j t C v E
+  spread-join a b = record {
+    fell = fell-join c M F size n (j + 1) (a .fell) (b .fell);
+    long = b .long ∙ a .long;
+    before = λ z h. b .before z h ∙ a .before z h;
+    after = λ z h. b .after z h ∙ a .after z h;
+    still = λ i h z. let x = b .still i h z in let y = a .still i h (x .0) in (y .0, λ w. x .1 w ∙ y .1 w);
+  }
+
+  -- nothing to hand on
+  pub end-on : (t : List ℕ) (p : ℕ) → (nextKind c p ≡ 1 → ⊥) → (nextKind c p ≡ 2 → m < j → Wanted M (ruleAt c p) m → ⊥) → HandedOn c M F size n m j t p
+  end-on t p a b = record { terminal = λ i o l k. absurd (a k); split = λ i o l w k d. absurd (b k w d) }
+
+  pub none-on : (t : List ℕ) (p : ℕ) → none ≤ restOf c M F n t (p + 1) m j → HandedOn c M F size n m j t p
+  none-on t p e = record { terminal = λ i o l k f g s. absurd (omega arith); split = λ i o l w k d s. absurd (omega arith) }
+
+  pub astray-on : (t : List ℕ) (p : ℕ) → nextKind c p ≡ 1 → ((i : ℕ) → i < m → Fits M p i → i + goesAt c p ≡ m → ⊥) → HandedOn c M F size n m j t p
+  astray-on t p k a = record { terminal = λ i o l k' f g s. absurd (a i l f g); split = λ i o l w k'. absurd (omega arith) }
+
+  module _ (order : m ≤ j) (stop : j ≤ n) where
+    -- what was handed on stays so
+    pub on-kept : {t u : List ℕ} → Fell c M F size n (j + 1) (Ahead m j) t u → (p : ℕ) → HandedOn c M F size n m j t p → HandedOn c M F size n m j u p
+    on-kept {t} {u} f p h = record {
+      terminal = λ i o l k g e s. omega (arith, fell-toward f p i j, rest, h .terminal i o l k g e (omega (arith, rest)));
+      split = λ i o l w k d s.
+          let v : max (upOf (ruleOf c M F n u (ruleAt c p) i m)) (restOf c M F n u (p + 1) m j) ≡ max (upOf (ruleOf c M F n t (ruleAt c p) i m)) (restOf c M F n t (p + 1) m j) =
+          (λ ι. max (upOf (fell-rule f (ruleAt c p) i m (omega arith) (omega arith) (λ x. omega (arith, x .1)) ι)) (rest ι)) in
+          omega (arith, fell-toward f p i j, v, h .split i o l w k d (omega (arith, v)));
+    }
+      where
+        rest : restOf c M F n u (p + 1) m j ≡ restOf c M F n t (p + 1) m j
+        rest = fell-rest f (p + 1) m j order stop (λ x. omega (arith, x .0))
+
+  -- every dot is handed on, if those before the listed ones are
+  pub all-on : Shape c size → {t C : List ℕ} → Listed c M size j C → ((k : ℕ) → k < getD C 512 0 → (p : ℕ) → getD C k 0 ≡ p + 1 → HandedOn c M F size n m j t p)
+      → (p : ℕ) → p < size → HandedOn c M F size n m j t p
+  all-on shape {t} {C} l h p lp = record {
+    terminal = λ i o a k. on i o (λ z. omega arith) .terminal i o a k;
+    split = λ i o a w k. on i o (λ z. omega arith) .split i o a w k;
+  }
+    where
+      on : (i : ℕ) → On c M size p i j → (nextKind c p ≡ 0 → ⊥) → HandedOn c M F size n m j t p
+      on i o z =
+          let next = shape .nexts p lp z in
+          let home = home-next c p (shape .inner p next z) in
+          let x = l .all (p + 1) next (subst (λ (y : ℕ). Wanted M y j) (sym home) (o .live)) in
+          h (x .0) (x .1) p (x .2)
+
+  -- nothing stands after an end, on a stretch that is not empty
+  rest-no-end : (t : List ℕ) (p : ℕ) → m < j → restOf c M F n t (p + 1) m j < none → nextKind c (p + 1) ≡ 0 → ⊥
+  rest-no-end t p w s z = omega (arith, rest-end c M F n t (p + 1) m j (λ e. omega arith) z)
+
+  -- the symbol of p
+  module _ {t₀ : List ℕ} {p x y k h : ℕ} (a : Merging c M F size n m j t₀ p x y k h) where
+    pub merged-none : Merged c M F size n m j t₀ p 0 t₀
+    merged-none = record { fell = fell-refl c M F size n (j + 1); low = λ k l. absurd (omega arith); still = λ k l o y. refl }
+
+    module _ {t : List ℕ} (i r : ℕ) (l : i < m) (b : Merged c M F size n m j t₀ p i t) where
+      abbrev rule : ℕ
+      rule = ruleAt c p
+
+      abbrev row : ℕ
+      row = rowOf c p
+
+      rest-is : restOf c M F n t (p + 1) m j ≡ restOf c M F n t₀ (p + 1) m j
+      rest-is = fell-rest (b .fell) (p + 1) m j (omega (arith, a .wide)) (a .stop) (λ w. omega (arith, w .0))
+
+      source-is : cellOf n t rule i m ≡ cellOf n t₀ rule i m
+      source-is = b .fell .same rule i m (omega arith) (omega (arith, a .wide, a .stop)) (λ w. omega (arith, w .1, a .wide))
+
+      module _ (e : Better (cellOf n t rule i m) h (cellOf n t row i j) r) where
+        value : r ≡ min (cellOf n t row i j) (max (upOf (cellOf n t rule i m)) (restOf c M F n t (p + 1) m j))
+        value = e .is (restOf c M F n t (p + 1) m j) (omega (arith, a .less, rest-is)) (omega (arith, a .some, rest-is))
+
+        rule-is : ruleOf c M F n t rule i m ≡ cellOf n t rule i m
+        rule-is = rule-cell c M F n t rule i m (λ z. omega arith) (a .live)
+
+        offer : r < cellOf n t row i j → OffersAt c M F size n t p i j r
+        offer d = by-split m (a .kind) (omega arith) (omega (arith, a .wide)) tt
+            (let v : r ≡ max (upOf (cellOf n t rule i m)) (restOf c M F n t (p + 1) m j) = omega (arith, value) in
+            v ∙ ap (λ (z : ℕ). max (upOf z) (restOf c M F n t (p + 1) m j)) (sym rule-is))
+
+        kind : nextKind c p ≡ 0 → ⊥
+        kind z = omega (arith, a .kind)
+
+        low-at : (u : List ℕ) → cellOf n u row i j ≤ r → cellOf n u row i j ≤ max (upOf (cellOf n t₀ rule i m)) (restOf c M F n t₀ (p + 1) m j)
+        low-at u s =
+            let v : max (upOf (cellOf n t rule i m)) (restOf c M F n t (p + 1) m j) ≡ max (upOf (cellOf n t₀ rule i m)) (restOf c M F n t₀ (p + 1) m j) =
+            (λ ι. max (upOf (source-is ι)) (rest-is ι)) in
+            omega (arith, value)
+
+        module _ (d : r < cellOf n t row i j) where
+          abbrev u : List ℕ
+          u = set t (cellAt n row i j) r
+
+          other : (z q : ℕ) → q ≤ j → (q ≡ i → ⊥) → cellOf n u z q j ≡ cellOf n t z q j
+          other z q w o = other-stretch c M F size n (a .shape) t p row i j r (a .inside) kind (target-of c p) (omega (arith, a .wide)) (a .stop) (e .some d) d (offer d)
+              z q j w (a .stop) (λ g. o (g .0))
+
+          turn : Merged c M F size n m j t₀ p (i + 1) u
+          turn = record {
+            fell = fell-join c M F size n (j + 1) (b .fell) (fell-widen c M F size n (j + 1) (λ k g w. (omega (arith, w .0), w .1))
+                (fell-set c M F size n (a .shape) t p row i j r (a .inside) kind (target-of c p) (omega (arith, a .wide)) (a .stop) (e .some d) d (offer d)));
+            low = λ q w. elim (ℕ-discrete q i) as (λ _. cellOf n u row q j ≤ max (upOf (cellOf n t₀ rule q m)) (restOf c M F n t₀ (p + 1) m j)) [
+              | yes z ↦ subst (λ (g : ℕ). cellOf n u row g j ≤ max (upOf (cellOf n t₀ rule g m)) (restOf c M F n t₀ (p + 1) m j)) (sym z)
+                  (low-at u (omega (arith, lowered-cell c M F size n (a .shape) t p row i j r (a .inside) kind (target-of c p) (omega (arith, a .wide)) (a .stop) (e .some d) d (offer d))))
+              | no z ↦ omega (arith, other row q (omega (arith, a .wide)) z, b .low q (omega arith))
+            ];
+            still = λ q w s z. elim (ℕ-discrete q i) as (λ _. cellOf n u z q j ≡ cellOf n t₀ z q j) [
+              | yes g ↦ absurd (omega (arith, e .idle (omega (arith, source-is, subst (λ (g : ℕ). none ≤ cellOf n t₀ rule g m) g s))))
+              | no g ↦ other z q (omega (arith, a .wide)) g ∙ b .still q w s z
+            ];
+          }
+
+        stays : r ≡ cellOf n t row i j → Merged c M F size n m j t₀ p (i + 1) t
+        stays d = record {
+          fell = b .fell;
+          low = λ q w. elim (ℕ-discrete q i) as (λ _. cellOf n t row q j ≤ max (upOf (cellOf n t₀ rule q m)) (restOf c M F n t₀ (p + 1) m j)) [
+            | yes z ↦ subst (λ (g : ℕ). cellOf n t row g j ≤ max (upOf (cellOf n t₀ rule g m)) (restOf c M F n t₀ (p + 1) m j)) (sym z) (low-at t (omega arith))
+            | no z ↦ b .low q (omega arith)
+          ];
+          still = b .still;
+        }
+
+        pub merged-set : Merged c M F size n m j t₀ p (i + 1) (set t (cellAt n row i j) r)
+        merged-set = elim (decLt r (cellOf n t row i j)) as (λ _. Merged c M F size n m j t₀ p (i + 1) (set t (cellAt n row i j) r)) [
+          | yes d ↦ turn d
+          | no d ↦ (let z : r ≡ cellOf n t row i j = omega (arith, value) in rw (z, set-getD t (cellAt n row i j) 0) (stays z))
+        ]
+
+    pub merged-next : {t : List ℕ} (i r : ℕ) → i < k → Merged c M F size n m j t₀ p i t → Better (getD t (x + i) 0) h (getD t (y + i) 0) r
+        → Merged c M F size n m j t₀ p (i + 1) (set t (y + i) r)
+    merged-next {t} i r l b e =
+        let zx : x + i ≡ cellAt n (ruleAt c p) i m = omega (arith, a .source) in
+        let zy : y + i ≡ cellAt n (rowOf c p) i j = omega (arith, a .row) in
+        rw zy (merged-set i r (omega (arith, a .count)) b (subst (λ (z : ℕ). Better (cellOf n t (ruleAt c p) i m) h (getD t z 0) r) zy
+        (subst (λ (z : ℕ). Better (getD t z 0) h (getD t (y + i) 0) r) zx e)))
+
+    -- its starts are flagged
+    pub symbol-end : {t C D : List ℕ} → Merged c M F size n m j t₀ p m t → Touched t₀ x m C D → DotSpread c M F size n m j t₀ C t D p
+    symbol-end {t} {C} {D} b g = record {
+      spread = record {
+        fell = b .fell;
+        long = g .long;
+        before = g .before;
+        after = g .after;
+        still = λ i l z. let w = g .at i l z in
+            let zx : x + i ≡ cellAt n (ruleAt c p) i m = omega (arith, a .source) in
+            (w .0, b .still i l (subst (λ (z : ℕ). none ≤ getD t₀ z 0) zx (w .1)));
+      };
+      on = record {
+        terminal = λ i o l k'. absurd (omega (arith, a .kind));
+        split = λ i o l w k' d s.
+            let rest = fell-rest (b .fell) (p + 1) m j (omega (arith, a .wide)) (a .stop) (λ w. omega (arith, w .0)) in
+            let cell = b .fell .same (ruleAt c p) i m (omega arith) (omega (arith, a .wide, a .stop)) (λ w. omega (arith, w .1, a .wide)) in
+            let src = rule-cell c M F n t (ruleAt c p) i m (λ z. omega arith) (a .live) ∙ cell in
+            let v : max (upOf (ruleOf c M F n t (ruleAt c p) i m)) (restOf c M F n t (p + 1) m j) ≡ max (upOf (cellOf n t₀ (ruleAt c p) i m)) (restOf c M F n t₀ (p + 1) m j) =
+            (λ ι. max (upOf (src ι)) (rest ι)) in
+            let no-last = last-stop c p k' (rest-no-end t₀ p (a .wide) (a .some)) in
+            omega (arith, toward-row c M F size n t p i j o (omega arith) (λ z. omega arith) no-last, b .low i l, v);
+      };
+    }
+
+  -- the terminal of p, from i on
+  module _ {len : ℕ} {t C : List ℕ} {p b i : ℕ} (a : Offering c M F size n m j len t C p b) (kind : nextKind c p ≡ 1) (fit : Fits M p i) (less : i < m) (goes : i + goesAt c p ≡ m) where
+    inner : nextKind c p ≡ 0 → ⊥
+    inner z = omega arith
+
+    offered : OffersAt c M F size n t p i j b
+    offered = by-terminal kind fit (omega (arith, a .placed .order)) (a .is ∙ ap (λ (z : ℕ). restOf c M F n t (p + 1) z j) (sym goes))
+
+    handed : {u : List ℕ} → Fell c M F size n (j + 1) (Ahead m j) t u → cellOf n u (rowOf c p) i j ≤ b → HandedOn c M F size n m j u p
+    handed {u} f low = record {
+      terminal = λ q o l k g e s.
+          let z : q ≡ i = omega arith in
+          let rest = fell-rest f (p + 1) m j (a .placed .order) (a .placed .stop) (λ w. omega (arith, w .0)) in
+          omega (
+            arith,
+            toward-row c M F size n u p q j o (omega (arith, a .placed .order)) inner (last-symbol c p (λ y. omega arith)),
+            rest,
+            a .is,
+            ap (λ (y : ℕ). cellOf n u (rowOf c p) y j) z,
+          );
+      split = λ q o l w k. absurd (omega arith);
+    }
+
+    module _ (low : b < cellOf n t (rowOf c p) i j) where
+      abbrev lowerRow : List ℕ
+      lowerRow = set t (cellAt n (rowOf c p) i j) b
+
+      fell : Fell c M F size n (j + 1) (Only i j) t lowerRow
+      fell = fell-set c M F size n (a .placed .shape) t p (rowOf c p) i j b (a .placed .inside) inner (target-of c p) (omega (arith, a .placed .order)) (a .placed .stop) (a .some) low offered
+
+      ahead : Fell c M F size n (j + 1) (Ahead m j) t lowerRow
+      ahead = fell-widen c M F size n (j + 1) (λ k l w. (omega (arith, w .0), w .1)) fell
+
+      terminal-set : DotSpread c M F size n m j t C lowerRow (set C (513 + i) 1) p
+      terminal-set = record {
+        spread = record {
+          fell = ahead;
+          long = length-set C (513 + i) 1;
+          before = λ z h. getD-set-other C (513 + i) z 1 0 (λ o. omega arith);
+          after = λ z h. getD-set-other C (513 + i) z 1 0 (λ o. omega arith);
+          still = λ q h z. elim (ℕ-discrete q i) as (λ _. (getD C (513 + q) 0 ≡ 0) × ((y : ℕ) → cellOf n lowerRow y q j ≡ cellOf n t y q j)) [
+            | yes e ↦ absurd (omega (
+              arith,
+              getD-set-same C (513 + i) 1 0 (omega (arith, a .placed .column, a .placed .order, a .placed .stop, a .placed .short)),
+              ap (λ (w : ℕ). getD (set C (513 + i) 1) (513 + w) 0) e,
+            ))
+            | no e ↦ (
+              sym (getD-set-other C (513 + i) (513 + q) 1 0 (λ w. e (omega arith))) ∙ z,
+              λ y. fell .same y q j (omega (arith, a .placed .order)) (a .placed .stop) (λ w. e (w .0)),
+            )
+          ];
+        };
+        on = handed ahead (omega (
+          arith,
+          lowered-cell c M F size n (a .placed .shape) t p (rowOf c p) i j b (a .placed .inside) inner (target-of c p)
+              (omega (arith, a .placed .order)) (a .placed .stop) (a .some) low offered,
+        ));
+      }
+
+    lower-set : {v : List ℕ} → Lowered t (cellAt n (rowOf c p) i j) b true v → DotSpread c M F size n m j t C v (set C (513 + i) 1) p
+    lower-set (lowered l) = terminal-set l
+
+    lower-kept : {v : List ℕ} → Lowered t (cellAt n (rowOf c p) i j) b false v → DotSpread c M F size n m j t C v C p
+    lower-kept (kept l) = record { spread = spread-none t C; on = handed (fell-refl c M F size n (j + 1)) l }
+
+    module _ {v : List ℕ} {y : ℕ} {r : Bool} (row : y ≡ rowOf c p) (d : Lowered t (cellAt n y i j) b r v) where
+      at-row : (x : Bool) → r ≡ x → Lowered t (cellAt n (rowOf c p) i j) b x v
+      at-row x e = subst (λ (z : ℕ). Lowered t (cellAt n z i j) b x v) row (subst (λ (z : Bool). Lowered t (cellAt n y i j) b z v) e d)
+
+      pub terminal-low : r ≡ true → DotSpread c M F size n m j t C v (set C (513 + i) 1) p
+      terminal-low e = lower-set (at-row true e)
+
+      pub terminal-kept : r ≡ false → DotSpread c M F size n m j t C v C p
+      terminal-kept e = lower-kept (at-row false e)
+
+  -- the rest of the dot before x
+  module _ {len x : ℕ} (tables : Tables c M F size n len) (order : m ≤ j) (stop : j ≤ n) (inside : x < size) where
+    pub placed : (C : List ℕ) → length C ≡ 714 → Placed c size n m j len C (x - 1)
+    placed C column = record {
+      shape = tables .shape;
+      short = tables .short;
+      room = tables .room;
+      order = order;
+      stop = stop;
+      column = column;
+      inside = omega arith;
+    }
+
+    pub offering : {t : List ℕ} {b : ℕ} (C : List ℕ) → length C ≡ 714 → (x ≡ 0 → ⊥) → b ≡ restOf c M F n t x m j → (b ≡ none → ⊥) → b ≤ none
+        → Offering c M F size n m j len t C (x - 1) b
+    offering {t} C column d e s l =
+        let z : x - 1 + 1 ≡ x = omega (arith, d) in
+        record { placed = placed C column; is = e ∙ ap (λ (y : ℕ). restOf c M F n t y m j) (sym z); some = omega (arith, s) }
+
+    -- a first dot stands after an end
+    pub first-on : {t : List ℕ} → (ownerAt c x ≡ 0 → ⊥) → (p : ℕ) → x ≡ p + 1 → HandedOn c M F size n m j t p
+    first-on {t} o p e = elim (ℕ-discrete (nextKind c p) 0) as (λ _. HandedOn c M F size n m j t p) [
+      | yes z ↦ end-on t p (λ y. omega arith) (λ y. omega arith)
+      | no z ↦ absurd (o (ap (ownerAt c) e ∙ tables .shape .inner p (omega arith) z))
+    ]
+
+    pub rest-none : {t : List ℕ} → none ≤ restOf c M F n t x m j → (p : ℕ) → x ≡ p + 1 → HandedOn c M F size n m j t p
+    rest-none {t} l p e = none-on t p (subst (λ (y : ℕ). none ≤ restOf c M F n t y m j) e l)
+
+  pub before-next : {t : List ℕ} {x : ℕ} → HandedOn c M F size n m j t (x - 1) → (p : ℕ) → x ≡ p + 1 → HandedOn c M F size n m j t p
+  before-next {t} {x} h p e = let z : x - 1 ≡ p = omega arith in subst (HandedOn c M F size n m j t) z h
+
+  -- a symbol's turn
+  module _ {len : ℕ} {t C : List ℕ} {p b : ℕ} (a : Offering c M F size n m j len t C p b) where
+    pub merging : {e x y z h : ℕ} → nextKind c p ≡ 2 → m < j → Wanted M (ruleAt c p) m → e ≡ ruleAt c p → x ≡ cellAt n e 0 m → z ≡ rowOf c p → y ≡ cellAt n z 0 j → h ≡ b - 1
+        → Merging c M F size n m j t p x y m h
+    merging kind wide live rule source row target less = record {
+      shape = a .placed .shape;
+      wide = wide;
+      stop = a .placed .stop;
+      inside = a .placed .inside;
+      kind = kind;
+      live = live;
+      source = source ∙ ap (λ (w : ℕ). cellAt n w 0 m) rule;
+      row = target ∙ ap (λ (w : ℕ). cellAt n w 0 j) row;
+      count = refl;
+      less = omega (arith, a .is);
+      some = omega (arith, a .is, a .some);
+    }
+
+    pub astray : nextKind c p ≡ 1 → ((i : ℕ) → i < m → Fits M p i → i + goesAt c p ≡ m → ⊥) → DotSpread c M F size n m j t C t C p
+    astray k o = record { spread = spread-none t C; on = astray-on t p k o }
+
+  -- one listed dot more
+  abbrev pub Done : List ℕ → ℕ → List ℕ → Type 0
+  Done C k t = (q : ℕ) → q < k → (p : ℕ) → getD C q 0 ≡ p + 1 → HandedOn c M F size n m j t p
+
+  pub done-next : m ≤ j → j ≤ n → (C : List ℕ) {t u D E : List ℕ} {k x : ℕ} → Spread c M F size n m j t D u E → Done C k t → x ≡ getD C k 0
+      → ((p : ℕ) → x ≡ p + 1 → HandedOn c M F size n m j u p) → Done C (k + 1) u
+  done-next order stop C {u = u} {k = k} a b e h q l p z = elim (ℕ-discrete q k) as (λ _. HandedOn c M F size n m j u p) [
+    | yes d ↦ h p (e ∙ ap (λ (w : ℕ). getD C w 0) (sym d) ∙ z)
+    | no d ↦ on-kept order stop (a .fell) p (b q (omega arith) p z)
+  ]

@@ -1,0 +1,82 @@
+-- What a stretch hands on to longer ones with the same end: their heights fall, and their starts are flagged in the column.
+use mathlib.Core.List.{List}
+use mathlib.Core.Path.{_≡_}
+use Prim.Native.Nat.{ℕ, _+_, _*_, _-_, _<_, _≤_, max, min}
+use lib.ListN.{length, getD}
+use Rattle.text.specs.Limits.{recordChars}
+use Rattle.chart.specs.Code.{nextKind, ruleAt}
+use Rattle.chart.specs.Heights.{stretches, cellAt, none}
+use Rattle.heights.specs.Table.{cellOf, upOf}
+use Rattle.reach.specs.Flags.{Wanted}
+use Rattle.sparse.specs.Cells.{rowOf, restOf, Shape}
+use Rattle.sparse.specs.Steps.{Fell, HandedOn}
+
+-- the stretches that end at j and begin before m
+abbrev pub Ahead : ℕ → ℕ → ℕ → ℕ → Type 0
+Ahead m j k l = (k < m) × (l ≡ j)
+
+-- r is the less of v and the value of a dot whose symbol's rule has the height a, and whose rest has b, h being one less than b
+pub record Better (a h v r : ℕ) : Type 0 where
+  pub is : (b : ℕ) → h ≡ b - 1 → b ≤ none → r ≡ min v (max (upOf a) b)
+  pub idle : none ≤ a → r ≡ v
+  pub some : r < v → r < none
+
+-- the flags of the first k starts, of those that have a height in the cells from x on
+pub record Touched (t : List ℕ) (x k : ℕ) (C C' : List ℕ) : Type 0 where
+  pub long : length C' ≡ length C
+  pub before : (z : ℕ) → z < 513 → getD C' z 0 ≡ getD C z 0
+  pub after : (z : ℕ) → 513 + k ≤ z → getD C' z 0 ≡ getD C z 0
+  pub at : (i : ℕ) → i < k → getD C' (513 + i) 0 ≡ 0 → (getD C (513 + i) 0 ≡ 0) × (none ≤ getD t (x + i) 0)
+
+-- a dot and a stretch
+pub record Placed (c : List ℕ) (size n m j len : ℕ) (C : List ℕ) (p : ℕ) : Type 0 where
+  pub shape : Shape c size
+  pub short : n ≤ recordChars
+  pub room : size * stretches n ≤ len
+  pub order : m ≤ j
+  pub stop : j ≤ n
+  pub column : length C ≡ 714
+  pub inside : p < size
+
+module _ (c M F : List ℕ) (size n m j : ℕ) where
+  -- what stands after the symbol of p has the height b
+  pub record Offering (len : ℕ) (t C : List ℕ) (p b : ℕ) : Type 0 where
+    pub placed : Placed c size n m j len C p
+    pub is : b ≡ restOf c M F n t (p + 1) m j
+    pub some : b < none
+
+  -- the cells of its symbol's rule begin at x, those of its row at y
+  pub record Merging (t : List ℕ) (p x y k h : ℕ) : Type 0 where
+    pub shape : Shape c size
+    pub wide : m < j
+    pub stop : j ≤ n
+    pub inside : p < size
+    pub kind : nextKind c p ≡ 2
+    pub live : Wanted M (ruleAt c p) m
+    pub source : x ≡ cellAt n (ruleAt c p) 0 m
+    pub row : y ≡ cellAt n (rowOf c p) 0 j
+    pub count : k ≡ m
+    pub less : h ≡ restOf c M F n t (p + 1) m j - 1
+    pub some : restOf c M F n t (p + 1) m j < none
+
+  -- the row of p, at the starts before i
+  pub record Merged (t : List ℕ) (p i : ℕ) (t' : List ℕ) : Type 0 where
+    pub fell : Fell c M F size n (j + 1) (Ahead m j) t t'
+    pub low : (k : ℕ) → k < i → cellOf n t' (rowOf c p) k j ≤ max (upOf (cellOf n t (ruleAt c p) k m)) (restOf c M F n t (p + 1) m j)
+    pub still : (k : ℕ) → k < m → none ≤ cellOf n t (ruleAt c p) k m → (y : ℕ) → cellOf n t' y k j ≡ cellOf n t y k j
+
+  -- heights of longer stretches fell; where a start has no flag, none did
+  pub record Spread (t C t' C' : List ℕ) : Type 0 where
+    pub fell : Fell c M F size n (j + 1) (Ahead m j) t t'
+    pub long : length C' ≡ length C
+    pub before : (z : ℕ) → z < 513 → getD C' z 0 ≡ getD C z 0
+    pub after : (z : ℕ) → 513 + m ≤ z → getD C' z 0 ≡ getD C z 0
+    pub still : (i : ℕ) → i < m → getD C' (513 + i) 0 ≡ 0 → (getD C (513 + i) 0 ≡ 0) × ((y : ℕ) → cellOf n t' y i j ≡ cellOf n t y i j)
+
+  pub record DotSpread (t C t' C' : List ℕ) (p : ℕ) : Type 0 where
+    pub spread : Spread t C t' C'
+    pub on : HandedOn c M F size n m j t' p
+
+  pub record AllSpread (t C t' C' : List ℕ) : Type 0 where
+    pub spread : Spread t C t' C'
+    pub on : (p : ℕ) → p < size → HandedOn c M F size n m j t' p

@@ -1,0 +1,212 @@
+// What a settled stretch hands on to longer ones with the same end: each dot has a height from m to j, and the symbol before it ends at m.
+ghost use mathlib.Core.Path.{_≡_};
+ghost use mathlib.Core.List.{List};
+ghost use Prim.Native.Nat.{ℕ, _+_, _-_, _<_, _≤_};
+ghost use lib.ListN.{length};
+ghost use Rattle.chart.specs.Code.{nextKind, ruleAt};
+ghost use Rattle.chart.specs.Heights.{none};
+ghost use Rattle.reach.specs.Flags.{Wanted};
+ghost use Rattle.sparse.specs.Cells.{Tables};
+ghost use Rattle.sparse.specs.Steps.{HandedOn, Listed};
+ghost use Rattle.spread.specs.Spread.{Better, Touched, Placed, Offering, Merging, Merged, DotSpread, Spread, AllSpread};
+use chart::AT_SYMBOL;
+use chart::AT_TERMINAL;
+use chart::CODE_COLUMNS;
+use chart::CODE_GOES;
+use chart::CODE_OWNER;
+use chart::CODE_RULE;
+use chart::NONE;
+use chart::cell;
+use sparse::LISTED;
+use sparse::Offer;
+use sparse::Stretch;
+use sparse::TOUCHED;
+use sparse::fits;
+use sparse::larger;
+use sparse::lower;
+use sparse::rest_height;
+use sparse::row;
+use sparse::wanted;
+use text::CharPlace;
+
+// By the terminal at the dot, which ends at m.
+fn spread_terminal(
+    code: &[u32],
+    marks: &[u8],
+    main: &mut [u32],
+    column: &mut [u32],
+    o: Offer,
+    s: Stretch,
+)
+    requires { ⌜ Placed (now code) (s .size) (s .n .0) (s .i .0) (s .j .0) (length (now main)) (now column) (o .dot)
+        × (nextKind (now code) (o .dot) ≡ 1) × (length (now marks) ≡ 308736) ⌝ }
+    ensures { λ _. ⌜ ((F : List ℕ)
+        → Offering (now (code .entry)) (now (marks .entry)) F (s .size) (s .n .0) (s .i .0) (s .j .0) (length (now (main .entry))) (now (main .entry)) (now (column .entry)) (o .dot) (o .height)
+        → DotSpread (now (code .entry)) (now (marks .entry)) F (s .size) (s .n .0) (s .i .0) (s .j .0) (now (main .entry)) (now (column .entry))
+        (now (main .exit)) (now (column .exit)) (o .dot)) ⌝ }
+{
+    let width = text::wide(code[CODE_COLUMNS * o.dot + CODE_GOES]);
+    if width == 0 {
+        return;
+    }
+    if s.i.0 < width {
+        return;
+    }
+    let i = CharPlace(s.i.0 - width);
+    if !fits(marks, o.dot, i) {
+        return;
+    }
+    let n = s.n;
+    let j = s.j;
+    let longer = Stretch {
+        size: s.size,
+        n,
+        i,
+        j,
+    };
+    if lower(main, row(code, s.size, o.dot), longer, o.height) {
+        column[TOUCHED + i.0] = 1;
+    }
+}
+
+// The less of v and one more than the larger of a and h.
+fn better(a: u32, h: u32, v: u32) -> u32
+    ensures { λ r. ⌜ Better a h v r ⌝ }
+{
+    let m = larger(a, h);
+    if m < v {
+        return m + 1;
+    }
+    v
+}
+
+// One less; 0 of 0.
+fn less_one(b: u32) -> u32
+    ensures { λ r. ⌜ r ≡ b - 1 ⌝ }
+{
+    if b == 0 {
+        return 0;
+    }
+    b - 1
+}
+
+// By a symbol with the cells from x on, over a rest of the height h + 1, or 0 where h is 0, for k starts: the cells from y on.
+fn merge(main: &mut [u32], x: usize, y: usize, k: usize, h: u32)
+    requires { ⌜ (x + k ≤ length (now main)) × (y + k ≤ length (now main)) ⌝ }
+    ensures { λ _. ⌜ ((c M F : List ℕ) (size n m j p : ℕ) → Merging c M F size n m j (now (main .entry)) p x y k h → Merged c M F size n m j (now (main .entry)) p m
+        (now (main .exit))) ⌝ }
+{
+    let mut i = 0;
+    while i < k {
+        main[y + i] = better(main[x + i], h, main[y + i]);
+        i += 1;
+    }
+}
+
+// 1 where the height a is one, else t.
+fn marked(a: u32, t: u32) -> u32
+    ensures { λ r. ⌜ (r ≡ 0 → (t ≡ 0) × (none ≤ a)) ⌝ }
+{
+    if a < NONE {
+        return 1;
+    }
+    t
+}
+
+// The starts that have a height in the cells from x on are touched.
+fn touch(main: &[u32], column: &mut [u32], x: usize, k: usize)
+    requires { ⌜ (x + k ≤ length (now main)) × (513 + k ≤ length (now column)) ⌝ }
+    ensures { λ _. ⌜ Touched (now (main .entry)) x k (now (column .entry)) (now (column .exit)) ⌝ }
+{
+    let mut i = 0;
+    while i < k {
+        column[TOUCHED + i] = marked(main[x + i], column[TOUCHED + i]);
+        i += 1;
+    }
+}
+
+// By the symbol at the dot, from every start from which it ends at m. Cells that differ only in the start are neighbours.
+fn spread_symbol(code: &[u32], main: &mut [u32], column: &mut [u32], o: Offer, s: Stretch)
+    requires { ⌜ Placed (now code) (s .size) (s .n .0) (s .i .0) (s .j .0) (length (now main)) (now column) (o .dot)
+        × (nextKind (now code) (o .dot) ≡ 2) × (s .i .0 < s .j .0) ⌝ }
+    ensures { λ _. ⌜ ((M F : List ℕ)
+        → Offering (now (code .entry)) M F (s .size) (s .n .0) (s .i .0) (s .j .0) (length (now (main .entry))) (now (main .entry)) (now (column .entry)) (o .dot) (o .height)
+        → Wanted M (ruleAt (now (code .entry)) (o .dot)) (s .i .0)
+        → DotSpread (now (code .entry)) M F (s .size) (s .n .0) (s .i .0) (s .j .0) (now (main .entry)) (now (column .entry))
+        (now (main .exit)) (now (column .exit)) (o .dot)) ⌝ }
+{
+    let rule = text::wide(code[CODE_COLUMNS * o.dot + CODE_RULE]);
+    let x = cell(s.n.0, rule, 0, s.i.0);
+    let y = cell(s.n.0, row(code, s.size, o.dot), 0, s.j.0);
+    touch(main, column, x, s.i.0);
+    merge(main, x, y, s.i.0, less_one(o.height));
+}
+
+// By the symbol before x.
+fn spread_dot(
+    code: &[u32],
+    marks: &[u8],
+    notes: &[u32],
+    main: &mut [u32],
+    column: &mut [u32],
+    x: usize,
+    s: Stretch,
+)
+    requires { ⌜ Tables (now code) (now marks) (now notes) (s .size) (s .n .0) (length (now main)) × (length (now column) ≡ 714) × (x < s .size) × (s .i .0 ≤ s .j .0)
+        × (s .j .0 ≤ s .n .0) ⌝ }
+    ensures { λ _. ⌜ Spread (now (code .entry)) (now (marks .entry)) (now (notes .entry)) (s .size) (s .n .0) (s .i .0) (s .j .0) (now (main .entry)) (now (column .entry))
+        (now (main .exit)) (now (column .exit)) × ((p : ℕ) → x ≡ p + 1
+        → HandedOn (now (code .entry)) (now (marks .entry)) (now (notes .entry)) (s .size) (s .n .0) (s .i .0) (s .j .0) (now (main .exit)) p) ⌝ }
+{
+    if code[CODE_COLUMNS * x + CODE_OWNER] != 0 {
+        return;
+    }
+    if x == 0 {
+        return;
+    }
+    let b = rest_height(code, marks, notes, main, x, s);
+    if b == NONE {
+        return;
+    }
+    let o = Offer {
+        dot: x - 1,
+        height: b,
+    };
+    let kind = code[CODE_COLUMNS * (x - 1)];
+    if kind == AT_TERMINAL {
+        spread_terminal(code, marks, main, column, o, s);
+        return;
+    }
+    if kind != AT_SYMBOL {
+        return;
+    }
+    if s.i.0 == s.j.0 {
+        return;
+    }
+    let rule = text::wide(code[CODE_COLUMNS * (x - 1) + CODE_RULE]);
+    if wanted(marks, rule, s.i) {
+        spread_symbol(code, main, column, o, s);
+    }
+}
+
+// All dots of the column.
+pub fn spread(
+    code: &[u32],
+    marks: &[u8],
+    notes: &[u32],
+    main: &mut [u32],
+    column: &mut [u32],
+    s: Stretch,
+)
+    requires { ⌜ Tables (now code) (now marks) (now notes) (s .size) (s .n .0) (length (now main)) × Listed (now code) (now marks) (s .size) (s .j .0) (now column)
+        × (s .i .0 ≤ s .j .0) × (s .j .0 ≤ s .n .0) ⌝ }
+    ensures { λ _. ⌜ AllSpread (now (code .entry)) (now (marks .entry)) (now (notes .entry)) (s .size) (s .n .0) (s .i .0) (s .j .0) (now (main .entry)) (now (column .entry))
+        (now (main .exit)) (now (column .exit)) ⌝ }
+{
+    let mut k = 0;
+    while k < text::wide(column[LISTED]) {
+        let x = text::wide(column[k]);
+        spread_dot(code, marks, notes, main, column, x, s);
+        k += 1;
+    }
+}
