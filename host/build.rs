@@ -18,7 +18,13 @@ use std::{env, fs, io};
 const LIBRARIES: [(&str, &[&str], &str); 2] = [
     (
         "calls",
-        &["ixml_check", "ixml_category", "ixml_read", "ixml_convert"],
+        &[
+            "ixml_check",
+            "ixml_category",
+            "ixml_read",
+            "ixml_read_plain",
+            "ixml_convert",
+        ],
         "IXML_ARCHIVE",
     ),
     (

@@ -21,7 +21,7 @@
  * The calls allocate nothing, keep nothing from one call to the next and may
  * run on several threads at once. A stack of 1 MB is enough for each of them;
  * the least with which jobs at the limits were seen to work is 166 KB for
- * checking, 350 KB for reading and 400 KB for converting.
+ * checking, 650 KB for reading and 700 KB for converting.
  */
 #ifndef IXML_H
 #define IXML_H
@@ -107,8 +107,8 @@ typedef struct {
 
 /*
  * The numbers of an answer, in the order in which they are judged: the first
- * that applies is given. ixml_check gives 0 to 11 and 24; ixml_read 0 to 16,
- * 24, 29 and 23; ixml_convert any.
+ * that applies is given. ixml_check gives 0 to 11 and 24; ixml_read and
+ * ixml_read_plain 0 to 16, 24, 29 and 23; ixml_convert any.
  *
  * On every refusal each cell of the result buffer is as it was.
  */
@@ -191,6 +191,17 @@ ixml_answer ixml_read(const uint8_t *grammar, size_t grammar_length,
                       uint32_t *main_table, size_t main_table_length,
                       uint32_t *grammar_table, size_t grammar_table_length,
                       uint32_t *result, size_t result_length);
+
+/*
+ * The same by the plain engine, which fills the whole main table: far slower,
+ * and proved to give the same answer and the same result.
+ */
+ixml_answer ixml_read_plain(const uint8_t *grammar, size_t grammar_length,
+                            const uint8_t *record, size_t record_length,
+                            uint32_t *main_table, size_t main_table_length,
+                            uint32_t *grammar_table,
+                            size_t grammar_table_length,
+                            uint32_t *result, size_t result_length);
 
 /*
  * Converts a record. The result is the XML of the chosen reading, in UTF-8,

@@ -1,6 +1,7 @@
 //! Times of the library's calls beside the yardstick's, as Markdown tables.
 //!
-//! Arguments choose among the tables: `check`, `read`, `convert`, `write`.
+//! Arguments choose among the tables: `check`, `read`, `hard`, `fails`, `dense`,
+//! `convert`, `write`.
 
 #[path = "../tests/common/mod.rs"]
 mod common;
@@ -8,14 +9,17 @@ mod common;
 use std::hint::black_box;
 use std::time::Duration;
 
-use common::{grammars, jobs, processor_time, Call, Converting, Job, Reading, Room};
+use common::{grammars, jobs, processor_time, size, Call, Converting, Job, Reading, Room};
 use ixml::limits::{GRAMMAR_TABLE, MAIN_TABLE, READING_NUMBERS, RECORD_CHARACTERS};
-use ixml::Answer;
-use ixml_yardstick::gen;
+use ixml::{Answer, Error};
+use ixml_yardstick::gen::{self, Random};
 
-const TABLES: [(&str, fn()); 4] = [
+const TABLES: [(&str, fn()); 7] = [
     ("check", check_table),
     ("read", read_table),
+    ("hard", hard_table),
+    ("fails", fails_table),
+    ("dense", dense_table),
     ("convert", convert_table),
     ("write", write_table),
 ];
@@ -26,11 +30,28 @@ fn main() {
         .skip(1)
         .filter(|a| a != "--bench")
         .collect();
+    keep_freed_memory();
     for (name, table) in TABLES {
         if chosen.is_empty() || chosen.iter().any(|choice| choice == name) {
             table();
             println!();
         }
+    }
+}
+
+/// Has glibc keep what is freed. Else the yardstick, which asks for memory in
+/// each call, may get it from the system each time and take up to ten times as
+/// long, until some job has freed a large block.
+fn keep_freed_memory() {
+    const M_TRIM_THRESHOLD: i32 = -1;
+    const M_MMAP_THRESHOLD: i32 = -3;
+    extern "C" {
+        fn mallopt(parameter: i32, value: i32) -> i32;
+    }
+    for parameter in [M_TRIM_THRESHOLD, M_MMAP_THRESHOLD] {
+        // SAFETY: sets a number of the allocator; no other thread runs.
+        let set = unsafe { mallopt(parameter, 1 << 30) };
+        assert_eq!(set, 1);
     }
 }
 
@@ -181,7 +202,15 @@ where
         }
     }
 
+    /// A job that is to be answered by 0.
     fn measure(&mut self, job: &Job) -> (Answer, Times) {
+        let (answer, times) = self.measure_any(job);
+        assert_eq!(answer.number, 0, "{job:?}");
+        (answer, times)
+    }
+
+    /// A job that may be refused.
+    fn measure_any(&mut self, job: &Job) -> (Answer, Times) {
         let room = Room {
             main_table: self.main_table.len(),
             grammar_table: self.grammar_table.len(),
@@ -198,7 +227,6 @@ where
         let mut yardstick = || C::yardstick(black_box(job), room, &mut self.other_result);
         let answer = library();
         assert_eq!(answer, yardstick(), "{job:?}");
-        assert_eq!(answer.number, 0, "{job:?}");
         let times = Times::measure(
             || {
                 black_box(library());
@@ -263,6 +291,155 @@ where
 
 fn read_table() {
     families_table::<Reading>("reading, by characters", Memory::new(READING_NUMBERS));
+}
+
+/// Grammars that an engine might find hard: long readings, recursion of each
+/// kind, and rules that derive a stretch in very many ways.
+fn hard_table() {
+    const X: [(&str, &str); 8] = [
+        ("left recursion", "a: a, 'x'; ."),
+        ("right recursion", "a: 'x', a; ."),
+        ("all recursion", "a: a; a, a; 'x'; ."),
+        ("palindromes", "a: 'x', a, 'x'; 'x'; ."),
+        ("nested stars", "a: ((('x'*)*)*)*."),
+        ("a list", "a: l+. l: 'x'."),
+        (
+            "an expression",
+            "e: e, 'x', e; e, e; 'x'; t. t: t, t; e; 'x'.",
+        ),
+        (
+            "rules that derive themselves",
+            "a: a; b. b: a; 'x', b; 'x'.",
+        ),
+    ];
+    let x = "x".repeat(RECORD_CHARACTERS);
+    let too_long = Error::ReadingTooLong.number();
+    let mut rows = vec![
+        ("4,096 deep", jobs::deep("", 4096), 0),
+        ("4,097 deep", jobs::deep("", 4097), too_long),
+        ("wide, 4,096 numbers", jobs::wide(), 0),
+        ("doublings, 4,095 numbers", jobs::doublings("", 11), 0),
+        (
+            "doublings, 8,191 numbers",
+            jobs::doublings("", 12),
+            too_long,
+        ),
+    ];
+    rows.extend(X.map(|(what, grammar)| (what, Job::new(grammar, &x), 0)));
+    let mut memory: Memory<Reading> = Memory::new(READING_NUMBERS);
+    println!("| hard grammars | answer | numbers | library ms | yardstick ms | times |");
+    println!("|---|---:|---:|---:|---:|---:|");
+    for (what, job, number) in rows {
+        let (answer, times) = memory.measure_any(&job);
+        assert_eq!(answer.number, number, "{job:?}");
+        let what = format!("{what} | {number} | {}", answer.length);
+        row(&what, &[times]);
+    }
+}
+
+/// Records that the grammar does not derive, by the place of a character that
+/// no rule has.
+fn fails_table() {
+    const SIZE: usize = 512;
+    let no_reading = Error::NoReading {
+        version_mismatch: false,
+    };
+    let mut memory: Memory<Reading> = Memory::new(READING_NUMBERS);
+    print!("| failing, size {SIZE} |");
+    for place in ["early", "middle", "late"] {
+        print!(" {place}: library ms | yardstick ms | times |");
+    }
+    println!("\n|---|{}", "---:|---:|---:|".repeat(3));
+    for (name, grammar, record, _) in FAMILIES {
+        let grammar = grammar(SIZE);
+        for length in [80, RECORD_CHARACTERS] {
+            let times = [1, length / 2, length - 2].map(|place| {
+                let mut record = record(length);
+                record.replace_range(place..=place, "!");
+                let job = Job::new(&grammar, record);
+                let (answer, times) = memory.measure_any(&job);
+                assert_eq!(answer.number, no_reading.number(), "{job:?}");
+                times
+            });
+            row(&format!("{name}, {length} characters"), &times);
+        }
+    }
+}
+
+/// A random grammar whose symbols are mostly nonterminals.
+fn dense_grammar(random: &mut Random) -> String {
+    let rules = 2 + random.below(20);
+    let mut text = String::new();
+    for rule in 0..rules {
+        let alternatives: Vec<String> = (0..1 + random.below(6))
+            .map(|_| {
+                let symbols: Vec<String> = (0..random.below(6))
+                    .map(|_| match random.below(8) {
+                        0 => "'x'".to_string(),
+                        1 => "'y'".to_string(),
+                        _ => format!("r{}", random.below(rules)),
+                    })
+                    .collect();
+                symbols.join(", ")
+            })
+            .collect();
+        text.push_str(&format!("r{rule}: {} . ", alternatives.join("; ")));
+    }
+    text
+}
+
+/// A random dense grammar that is accepted, with a record of its characters,
+/// if this seed gives one.
+fn dense_job(seed: u64) -> Option<Job> {
+    let random = &mut Random::new(seed);
+    let grammar = dense_grammar(random);
+    let length = 10 + random.below(RECORD_CHARACTERS - 9);
+    let record: String = (0..length).map(|_| *random.pick(&['x', 'y'])).collect();
+    let accepted = ixml::check(grammar.as_bytes()).number == 0;
+    accepted.then(|| Job::new(grammar, record))
+}
+
+/// Random dense grammars: the ratios in order, and the jobs with the greatest.
+/// Their texts go to the standard error.
+fn dense_table() {
+    const JOBS: usize = 100;
+    const WORST: usize = 6;
+    let mut memory: Memory<Reading> = Memory::new(READING_NUMBERS);
+    let jobs = (0..).filter_map(|seed| dense_job(seed).map(|job| (seed, job)));
+    let mut measured: Vec<(u64, Job, Answer, Times)> = jobs
+        .take(JOBS)
+        .map(|(seed, job)| {
+            let (answer, times) = memory.measure_any(&job);
+            (seed, job, answer, times)
+        })
+        .collect();
+    measured.sort_by(|one, other| one.3.ratio().total_cmp(&other.3.ratio()));
+
+    println!("| dense grammars, by answer | jobs | least times | median | 90 % | worst |");
+    println!("|---|---:|---:|---:|---:|---:|");
+    let summary = |what: &str, wanted: &dyn Fn(u32) -> bool| {
+        let jobs = measured.iter().filter(|job| wanted(job.2.number));
+        let ratios: Vec<f64> = jobs.map(|job| job.3.ratio()).collect();
+        let Some(last) = ratios.len().checked_sub(1) else {
+            return;
+        };
+        let cells = [0, 50, 90, 100].map(|percent| format!("{:.1}", ratios[last * percent / 100]));
+        println!("| {what} | {} | {} |", ratios.len(), cells.join(" | "));
+    };
+    summary("all", &|_| true);
+    summary("read (0)", &|number| number == 0);
+    summary("refused (16, 29)", &|number| number != 0);
+
+    println!("\n| the worst of them | seed | answer | library ms | yardstick ms | times |");
+    println!("|---|---:|---:|---:|---:|---:|");
+    for (seed, job, answer, times) in measured.iter().rev().take(WORST) {
+        let rules = job.grammar.iter().filter(|&&byte| byte == b':').count();
+        let size = size(&job.grammar).expect("accepted");
+        let length = job.record.len();
+        let what = format!("{rules} rules, size {size}, {length} characters");
+        row(&format!("{what} | {seed} | {}", answer.number), &[*times]);
+        eprintln!("seed {seed}: {job:?}");
+    }
 }
 
 fn convert_table() {

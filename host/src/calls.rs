@@ -66,6 +66,32 @@ pub fn read(
     }
 }
 
+/// The same by the plain engine, which fills the whole main table: far slower,
+/// and proved to give the same answer and the same `result` as [`read`].
+pub fn read_plain(
+    grammar: &[u8],
+    record: &[u8],
+    main_table: &mut [u32],
+    grammar_table: &mut [u32],
+    result: &mut [u32],
+) -> Answer {
+    // SAFETY: as in `read`.
+    unsafe {
+        ffi::ixml_read_plain(
+            grammar.as_ptr(),
+            grammar.len(),
+            record.as_ptr(),
+            record.len(),
+            main_table.as_mut_ptr(),
+            main_table.len(),
+            grammar_table.as_mut_ptr(),
+            grammar_table.len(),
+            result.as_mut_ptr(),
+            result.len(),
+        )
+    }
+}
+
 /// Converts a record to XML: all numbers.
 ///
 /// With 0 the first bytes of `result`, as many as the answer's length, are the

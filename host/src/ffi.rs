@@ -63,6 +63,18 @@ extern "C" {
         result: *mut u32,
         result_length: usize,
     ) -> Answer;
+    pub fn ixml_read_plain(
+        grammar: *const u8,
+        grammar_length: usize,
+        record: *const u8,
+        record_length: usize,
+        main_table: *mut u32,
+        main_table_length: usize,
+        grammar_table: *mut u32,
+        grammar_table_length: usize,
+        result: *mut u32,
+        result_length: usize,
+    ) -> Answer;
     pub fn ixml_convert(
         grammar: *const u8,
         grammar_length: usize,

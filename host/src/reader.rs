@@ -1,5 +1,5 @@
 use crate::limits::{main_table_for, GRAMMAR_TABLE, READING_NUMBERS};
-use crate::{convert, read, Error};
+use crate::{convert, read, read_plain, Error};
 
 /// Reads and converts records in memory of its own, which it keeps from one
 /// job to the next.
@@ -7,10 +7,21 @@ use crate::{convert, read, Error};
 /// A job at the limits takes a main table of 15 MB, short ones far less.
 #[derive(Clone, Debug, Default)]
 pub struct Reader {
+    engine: Engine,
     main_table: Vec<u32>,
     grammar_table: Vec<u32>,
     numbers: Vec<u32>,
     xml: Vec<u8>,
+}
+
+/// What fills the main table where a record is read. The reading is the same.
+#[derive(Clone, Copy, Debug, Default, PartialEq, Eq)]
+pub enum Engine {
+    /// Looks only where a derivation may go.
+    #[default]
+    Quick,
+    /// Fills the whole table, one height after the other: far slower.
+    Plain,
 }
 
 /// The chosen reading of a record.
@@ -46,6 +57,23 @@ impl Reader {
         Reader::default()
     }
 
+    /// A reader that reads by the engine. It converts by the quick one.
+    ///
+    /// ```
+    /// use ixml::{Engine, Reader};
+    ///
+    /// let (grammar, record) = ("a: a, a; 'x'.", "xxx");
+    /// let plain = Reader::with(Engine::Plain).read(grammar, record)?;
+    /// assert_eq!(plain, Reader::new().read(grammar, record)?);
+    /// # Ok::<(), ixml::Error>(())
+    /// ```
+    pub fn with(engine: Engine) -> Reader {
+        Reader {
+            engine,
+            ..Reader::default()
+        }
+    }
+
     /// Reads a record. The error is none of 15 and 17 to 23.
     ///
     /// ```
@@ -68,7 +96,11 @@ impl Reader {
         let (grammar, record) = (grammar.as_ref(), record.as_ref());
         self.provide_tables(record);
         provide(&mut self.numbers, READING_NUMBERS);
-        let answer = read(
+        let call = match self.engine {
+            Engine::Quick => read,
+            Engine::Plain => read_plain,
+        };
+        let answer = call(
             grammar,
             record,
             &mut self.main_table,

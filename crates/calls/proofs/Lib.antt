@@ -3,3 +3,4 @@ pub mod Outcomes
 pub mod ReadsAs
 pub mod ConvertsAs
 pub mod Copies
+pub mod Agree

@@ -10,6 +10,7 @@ ghost use Rattle.convert.specs.Concluded.{convertedNumber};
 ghost use Rattle.calls.specs.Calls.{Checked, refusalOf, ReadAs, ConvertedAs};
 use accept::Accepted;
 use convert::Converted;
+use job::Lending;
 use job::Parse;
 use job::Refusal;
 use text::limits;
@@ -110,10 +111,10 @@ fn copy(from: &[u32], count: usize, to: &mut [u32])
     }
 }
 
-// Reads a record. Of the lent tables the second is known by its length alone: a grammar is judged before it is known to be long
-// enough, so the call has a table of its own. What the main table holds afterwards is left open.
-#[no_mangle]
-pub extern "C" fn ixml_read(
+// Reads a record, by the plain engine or the quick one. Of the lent tables the second is known by its length alone: a grammar is judged
+// before it is known to be long enough, so the call has a table of its own. What the main table holds afterwards is left open.
+fn read_with(
+    plain: bool,
     grammar: &[u8],
     record: &[u8],
     main: &mut [u32],
@@ -129,7 +130,10 @@ pub extern "C" fn ixml_read(
         grammar,
         record,
         main,
-        second.len(),
+        Lending {
+            second: second.len(),
+            plain,
+        },
         &mut table,
         &mut text,
         &mut parse,
@@ -155,6 +159,34 @@ pub extern "C" fn ixml_read(
             grammar: 0,
         },
     }
+}
+
+// Reads a record.
+#[no_mangle]
+pub extern "C" fn ixml_read(
+    grammar: &[u8],
+    record: &[u8],
+    main: &mut [u32],
+    second: &[u32],
+    result: &mut [u32],
+) -> Answer
+    ensures { λ r. ⌜ ReadAs (job (now (grammar .entry)) (now («record» .entry)) (length (now (main .entry))) (length (now (second .entry)))) (now (result .entry)) r (now (result .exit)) ⌝ }
+{
+    read_with(false, grammar, record, main, second, result)
+}
+
+// The same by the plain engine, which fills the whole main table and takes far longer. It is there to be compared with.
+#[no_mangle]
+pub extern "C" fn ixml_read_plain(
+    grammar: &[u8],
+    record: &[u8],
+    main: &mut [u32],
+    second: &[u32],
+    result: &mut [u32],
+) -> Answer
+    ensures { λ r. ⌜ ReadAs (job (now (grammar .entry)) (now («record» .entry)) (length (now (main .entry))) (length (now (second .entry)))) (now (result .entry)) r (now (result .exit)) ⌝ }
+{
+    read_with(true, grammar, record, main, second, result)
 }
 
 fn why_converted(converted: Converted) -> u32
@@ -185,7 +217,10 @@ pub extern "C" fn ixml_convert(
         grammar,
         record,
         main,
-        second.len(),
+        Lending {
+            second: second.len(),
+            plain: false,
+        },
         &mut table,
         &mut text,
         &mut parse,

@@ -124,6 +124,7 @@ fn why_walked(walked: Walked) -> u32
 
 // 16 and 29. The left parse goes to `parse`.
 fn read_record(
+    plain: bool,
     table: &[u32],
     start: Start,
     text: &[u32],
@@ -136,7 +137,15 @@ fn read_record(
 {
     let rules = start.rules;
     let n = start.chars.0;
-    let walked = parser::choose(table, rules.size, rules.root, &text[..n], main, parse);
+    let walked = parser::choose_by(
+        plain,
+        table,
+        rules.size,
+        rules.root,
+        &text[..n],
+        main,
+        parse,
+    );
     let Walked::Reading(count, ambiguous) = walked else {
         return Read::Refused(why_walked(walked));
     };
@@ -194,21 +203,27 @@ pub fn why_refused(parsed: Parse) -> Refusal
     }
 }
 
+// How long the second lent table is, and whether the plain engine fills the main one.
+pub struct Lending {
+    pub second: usize,
+    pub plain: bool,
+}
+
 // All stages: 1 to 16, 24 and 29. The table takes the grammar's tokens and plain rules, `text` the record's characters, `parse` the
 // left parse of the chosen reading.
 pub fn parse_record(
     grammar: &[u8],
     record: &[u8],
     main: &mut [u32],
-    second: usize,
+    lending: Lending,
     table: &mut [u32],
     text: &mut [u32],
     parse: &mut [u32],
 ) -> Parse
     requires { ⌜ Lent (now table) (now text) (now parse) ⌝ }
-    ensures { λ r. ⌜ Parses (job (now (grammar .entry)) (now («record» .entry)) (length (now (main .entry))) second) (now (table .exit)) (now (text .exit)) (now (parse .exit)) r ⌝ }
+    ensures { λ r. ⌜ Parses (job (now (grammar .entry)) (now («record» .entry)) (length (now (main .entry))) (lending .second)) (now (table .exit)) (now (text .exit)) (now (parse .exit)) r ⌝ }
 {
-    let begun = begin(grammar, record, main.len(), second, table, text);
+    let begun = begin(grammar, record, main.len(), lending.second, table, text);
     let Begun::At(start) = begun else {
         return Parse::Refused(Refusal {
             why: why_begun(begun),
@@ -218,7 +233,7 @@ pub fn parse_record(
     let mismatch = start.rules.mismatch;
     let root = start.rules.root;
     let chars = start.chars;
-    let read = read_record(table, start, text, main, parse);
+    let read = read_record(lending.plain, table, start, text, main, parse);
     let Read::Reading(found) = read else {
         return Parse::Refused(Refusal {
             why: text::plain(why_read(read)),

@@ -47,3 +47,56 @@ pub fn choose(
     };
     reading::walk(&code, &marks, &notes, main, root, parse, &mut stack)
 }
+
+// The same by the plain engine: the whole main table is filled, one height after the other, and every flag is set. Local are 477,184 bytes.
+pub fn choose_plain(
+    table: &[u32],
+    size: usize,
+    root: usize,
+    text: &[u32],
+    main: &mut [u32],
+    parse: &mut [u32],
+) -> Walked
+    requires { ⌜ Choosable (now table) size root (now text) (length (now main)) (length (now parse)) ⌝ }
+    ensures { λ r. ⌜ ((g : Grammar) → Ready (now (table .entry)) g size root → Answers g (now (text .entry)) (now (parse .exit)) r) ⌝ }
+{
+    let mut code = [0u32; chart::CODE_LENGTH];
+    let mut fits = [0u8; chart::FITS_LENGTH];
+    let top = prepare::prepare(table, size, root, text, &mut code, &mut fits);
+    let n = text.len();
+    sweeps::fill(&code, &fits, size, n, main);
+    let mut marks = [0u8; sparse::MARKS];
+    full::mark_all(&code, &fits, size, n, &mut marks);
+    let mut notes = [0u32; sparse::NOTES];
+    empties::note_rules(&code, &mut notes, size);
+    let mut stack = [0u32; STACK_LENGTH];
+    let rule = Rule {
+        name: top,
+        first: root,
+    };
+    let root = Root {
+        size,
+        n: CharPlace(n),
+        rule,
+    };
+    reading::walk(&code, &marks, &notes, main, root, parse, &mut stack)
+}
+
+// By the engine that is asked for.
+pub fn choose_by(
+    plain: bool,
+    table: &[u32],
+    size: usize,
+    root: usize,
+    text: &[u32],
+    main: &mut [u32],
+    parse: &mut [u32],
+) -> Walked
+    requires { ⌜ Choosable (now table) size root (now text) (length (now main)) (length (now parse)) ⌝ }
+    ensures { λ r. ⌜ ((g : Grammar) → Ready (now (table .entry)) g size root → Answers g (now (text .entry)) (now (parse .exit)) r) ⌝ }
+{
+    if plain {
+        return choose_plain(table, size, root, text, main, parse);
+    }
+    choose(table, size, root, text, main, parse)
+}

@@ -8,13 +8,13 @@ use native.Mathlib.Decide.{ℕ-discrete}
 use native.Mathlib.Omega.{arith}
 use lib.ListN.{length, getD, set, drop, length-set}
 use lib.Seq.{getD-set-same, getD-set-other}
-use Rattle.text.specs.Limits.{mostSize, recordChars}
+use Rattle.text.specs.Limits.{recordChars}
 use Rattle.text.specs.Lists.{Text}
 use Rattle.text.proofs.Tests.{split}
 use Rattle.tree.specs.Tree.{Terminal, Symbol, Grammar}
 use Rattle.plain.specs.Plain.{fits}
 use Rattle.items.specs.Items.{kindAt, tokenAt}
-use Rattle.chart.specs.Code.{flag, fitsAt, On, at-end, at-terminal, at-symbol, Stands, Ruled, Coded}
+use Rattle.chart.specs.Code.{nextKind, flag, fitsAt, On, at-end, at-terminal, at-symbol, Fitting, Ruled}
 use Rattle.terminals.specs.Places.{TerminalAt}
 use Rattle.rules.specs.Ready.{Token}
 use Rattle.prepare.specs.Rows.{Row, ItemRow, Rows}
@@ -80,27 +80,31 @@ rows-next {T} {R = R} {f' = f'} {p = p} w h u = record {
 pub rows-end : {T : List ℕ} {size : ℕ} {R f₀ f : List ℕ} {p : ℕ} → RowsBelow T size R f₀ f p → size ≤ p → Rows T size R f₀ f
 rows-end w h = record { long = w .long; rows = λ q l. w .rows q (omega arith) }
 
--- the code of the rules and the rows of tests are what the engine is given
-stands-by : {T c f f₀ : List ℕ} {g : Grammar} {R : Text} {size p : ℕ} {dots : List (List Symbol)} {heads : List Symbol} → Rows T size R f₀ f → p < size
-    → On (Token T) c g dots heads p → Stands c f g R dots heads p
-stands-by v h (at-end k e) = at-end k e
-stands-by {p = p} v h (at-terminal x k l e w t) = at-terminal x k l e w (λ i m. v .rows p h x (t .0) (t .1) i m)
-stands-by v h (at-symbol s k l e n i q) = at-symbol s k l e n i q
+-- the same code with something else known of its terminals
+module _ {At Bt : ℕ → Terminal → Type 0} {c : List ℕ} {g : Grammar} where
+  pub on-as : {dots : List (List Symbol)} {heads : List Symbol} {p : ℕ} → ((x : Terminal) → nextKind c p ≡ 1 → At p x → Bt p x) → On At c g dots heads p → On Bt c g dots heads p
+  on-as f (at-end z e) = at-end z e
+  on-as f (at-terminal x z l e w a) = at-terminal x z l e w (f x z a)
+  on-as f (at-symbol s z l e n i q) = at-symbol s z l e n i q
 
-pub coded : {T c f f₀ : List ℕ} {g : Grammar} {R : Text} {size top first : ℕ} → Ruled (Token T) c g size top first → Rows T size R f₀ f → size ≤ mostSize
-    → 4 * size ≤ length c → length R ≤ recordChars → size * (recordChars + 1) ≤ length f → Coded c f g R size top first
-coded w v small room short fits-room = record {
-  dots = w .dots;
-  heads = w .heads;
-  count = w .count;
-  small = small;
-  room = room;
-  short = short;
-  fits-room = fits-room;
-  stands = λ p h. stands-by v h (w .stands p h);
-  owned = w .owned;
-  chains = w .chains;
-  root-chain = w .root-chain;
-  root-head = w .root-head;
-  root-inside = w .root-inside;
-}
+  unfoldable pub ruled-as : {size top first : ℕ} → ((p : ℕ) (x : Terminal) → p < size → nextKind c p ≡ 1 → At p x → Bt p x) → Ruled At c g size top first → Ruled Bt c g size top first
+  ruled-as f k = record {
+    dots = k .dots;
+    heads = k .heads;
+    count = k .count;
+    stands = λ p h. on-as (λ x. f p x h) (k .stands p h);
+    owned = k .owned;
+    inner = k .inner;
+    chains = k .chains;
+    root-chain = k .root-chain;
+    root-head = k .root-head;
+    root-inside = k .root-inside;
+    every = k .every;
+    only = k .only;
+    within = k .within;
+    few = k .few;
+  }
+
+-- the rows of tests tell where the code's terminals fit
+pub fitted : {T c f f₀ : List ℕ} {g : Grammar} {R : Text} {size top first : ℕ} → Ruled (Token T) c g size top first → Rows T size R f₀ f → Ruled (Fitting f R) c g size top first
+fitted k v = ruled-as (λ p x h z t i m. v .rows p h x (t .0) (t .1) i m) k

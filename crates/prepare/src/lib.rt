@@ -3,7 +3,7 @@ ghost use mathlib.Core.Path.{_≡_};
 ghost use Prim.Native.Nat.{_<_};
 ghost use lib.ListN.{length};
 ghost use Rattle.tree.specs.Tree.{Grammar};
-ghost use Rattle.chart.specs.Code.{flag, Coded};
+ghost use Rattle.chart.specs.Code.{flag, Fitting, Ruled};
 ghost use Rattle.rules.specs.Ready.{Ready};
 ghost use Rattle.prepare.specs.Rows.{Row, RowReady, RowsReady, ItemRow, Rows, Given};
 use text::CharPlace;
@@ -67,7 +67,7 @@ pub fn prepare(
     fits: &mut [u8],
 ) -> usize
     requires { ⌜ Given (now table) size root (now text) (now code) (now fits) ⌝ }
-    ensures { λ r. ⌜ ((g : Grammar) → Ready (now (table .entry)) g size root → Coded (now (code .exit)) (now (fits .exit)) g (now (text .entry)) size r root) ⌝ }
+    ensures { λ r. ⌜ ((g : Grammar) → Ready (now (table .entry)) g size root → Ruled (Fitting (now (fits .exit)) (now (text .entry))) (now (code .exit)) g size r root) ⌝ }
 {
     let top = rules::code_rules(table, size, root, code);
     fit_rows(table, size, text, fits);

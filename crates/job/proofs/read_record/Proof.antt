@@ -4,11 +4,11 @@ use borrow.Author.Needs.{needs}
 use Rattle.job.proofs.read_record.Statement.{statement}
 use Rattle.job.proofs.read_record.Tie as tie
 
-slice-aggregate-choose : tie.Need-slice-aggregate-choose
-slice-aggregate-choose c = got-part (c .before .before .before .before .before .before .pre .started .input)
+slice-aggregate-choose-by : tie.Need-slice-aggregate-choose-by
+slice-aggregate-choose-by c = got-part (c .before .before .before .before .before .before .pre .started .input)
 
-choose-requires : tie.Need-choose-requires
-choose-requires c κs =
+choose-by-requires : tie.Need-choose-by-requires
+choose-by-requires c κs =
     let pre = c .before .before .before .before .before .before .before .before .pre in
     choosable _ _ _ _ (pre .started) _ _ (pre .lent) (search needs) (pre .room)
 
@@ -26,7 +26,7 @@ same-length-2 c = search needs
 
 returns : tie.Need-returns
 returns c =
-    let choose = c .before .before .before .before .before .before .choose in
+    let choose = c .before .before .before .before .before .before .choose-by in
     λ j w. not-read j _ _ _ w _ (choose .result) (choose .ensures (w .grammar .tree) (w .grammar .ready)) (c .before .match .keys2) _ (c .why-walked .ensures)
 
 same-length-3 : tie.Need-same-length-3
@@ -37,15 +37,15 @@ same-length-4 c = search needs
 
 returns-2 : tie.Need-returns-2
 returns-2 c =
-    let choose = c .before .before .before .before .before .before .before .choose in
+    let choose = c .before .before .before .before .before .before .before .choose-by in
     λ j w. is-read j _ _ _ w _ _ (choose .ensures (w .grammar .tree) (w .grammar .ready)) _ _ (c .before .walked .given .1)
 
 pub read-record-spec : {M : Type 1} → statement M
 read-record-spec =
     tie.close
     (tie.spec
-    slice-aggregate-choose
-    choose-requires
+    slice-aggregate-choose-by
+    choose-by-requires
     enum-known-walked
     why-walked-requires
     same-length

@@ -1,6 +1,5 @@
-use native.Mathlib.Omega.{arith}
 use Rattle.rules.proofs.Whole.{here}
-use Rattle.prepare.proofs.Rows.{coded}
+use Rattle.prepare.proofs.Rows.{fitted}
 use borrow.Author.Needs.{needs}
 use Rattle.prepare.proofs.prepare.Statement.{statement}
 use Rattle.prepare.proofs.prepare.Tie as tie
@@ -25,9 +24,7 @@ returns : tie.Need-returns
 returns c =
     let at-fit-rows = c .before .before in
     let at-code-rules = at-fit-rows .before .before .before .before in
-    let pre = at-code-rules .before .before .before .before .before .before .pre in
-    λ g w. coded (at-code-rules .code-rules .ensures g w) (at-fit-rows .fit-rows .ensures) (pre .small)
-    (omega (arith, pre .room, at-code-rules .code-rules .kept .1 .1 .1 .0)) (pre .short) (omega (arith, pre .fits-room, at-fit-rows .fit-rows .ensures .long))
+    λ g w. fitted (at-code-rules .code-rules .ensures g w) (at-fit-rows .fit-rows .ensures)
 
 pub prepare-spec : {M : Type 1} → statement M
 prepare-spec =

@@ -2,8 +2,8 @@ use native.Mathlib.Omega.{arith}
 use Rattle.calls.proofs.Outcomes.{is-chosen}
 use Rattle.calls.proofs.ReadsAs.{read-refused, read-long, read-done}
 use borrow.Author.Needs.{needs}
-use Rattle.calls.proofs.ixml_read.Statement.{statement}
-use Rattle.calls.proofs.ixml_read.Tie as tie
+use Rattle.calls.proofs.read_with.Statement.{statement}
+use Rattle.calls.proofs.read_with.Tie as tie
 
 slice-aggregate-parse-record : tie.Need-slice-aggregate-parse-record
 slice-aggregate-parse-record c = search needs
@@ -82,8 +82,8 @@ returns-3 c =
     let y = is-chosen _ _ _ _ _ _ (parsed .given .1) (parse-record .ensures) in
     read-done _ _ _ _ _ _ y _ (copy .ensures) (if1 .left)
 
-pub ixml-read-spec : {M : Type 1} → statement M
-ixml-read-spec =
+pub read-with-spec : {M : Type 1} → statement M
+read-with-spec =
     tie.close
     (tie.spec
     slice-aggregate-parse-record
