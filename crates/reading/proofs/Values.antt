@@ -1,4 +1,5 @@
 -- Values of dots and of splits, as numbers.
+use mathlib.Core.Logic.{_⊎_, inl, inr}
 use mathlib.Core.Path.{_≡_, refl, sym, ap, subst, _∙_}
 use mathlib.Core.Bool.{Bool, true, false}
 use mathlib.Core.List.{List}
@@ -17,7 +18,9 @@ use Rattle.heights.specs.Part.{Offers, by-end, by-terminal, by-split}
 use Rattle.heights.proofs.Values.{up-is, up-low, up-most}
 use Rattle.reach.specs.Flags.{dotAt, endAt, Fits, homeOf}
 use Rattle.sparse.specs.Cells.{isLast, ruleOf, wideRest, restOf}
-use Rattle.reading.specs.Walk.{joined, splitAt, leastOf, pastOf, valueAt}
+use Rattle.sparse.proofs.Rows.{rest-end}
+use Rattle.reading.proofs.Searches.{Unmet, unmet}
+use Rattle.reading.specs.Walk.{joined, splitAt, leastOf, pastOf, valueAt, AnotherEnd}
 
 pick-most : {x y : ℕ} (b : Bool) → x ≤ none → y ≤ none → pick b x y ≤ none
 pick-most true h k = h
@@ -55,6 +58,12 @@ both a b l = elim (ℕ-discrete a none) as (λ _. Both a b (joined a b)) [
 pub record Small (F H : List ℕ) : Type 0 where
   pub noted : (x : ℕ) → getD F x 0 ≤ none
   pub cell : (x : ℕ) → getD H x 0 ≤ none
+
+joined-rest : (a : ℕ) → joined a none ≡ none
+joined-rest a = elim (ℕ-discrete a none) as (λ _. joined a none ≡ none) [
+  | yes e ↦ rw (eq-eqb a none e) refl
+  | no e ↦ rw (ne-eqb a none e) (omega (arith, up-most a))
+]
 
 module _ (c M F : List ℕ) (n : ℕ) (H : List ℕ) where
   module _ (s : Small F H) where
@@ -131,6 +140,22 @@ module _ (c M F : List ℕ) (n : ℕ) (H : List ℕ) where
 
   pub sought : (p i j : ℕ) → i ≤ j → Sought p i j none i
   sought p i j l = let z : i - i ≡ 0 = omega arith in record { from = omega arith; to = omega arith; is = rw z refl }
+
+  -- where nothing stands after the symbol, it ends at j
+  pub last-split : (p i j m : ℕ) → nextKind c (p + 1) ≡ 0 → (m ≡ j → ⊥) → splitAt c M F n H p i j m ≡ none
+  last-split p i j m z d = ap (joined (ruleOf c M F n H (ruleAt c p) i m)) (rest-end c M F n H (p + 1) m j d z) ∙ joined-rest (ruleOf c M F n H (ruleAt c p) i m)
+
+  last-least : (p i j d : ℕ) → nextKind c (p + 1) ≡ 0 → i + d ≤ j → leastOf c M F n H p i j d ≡ none
+  last-least p i j zero z l = refl
+  last-least p i j (suc d) z l = omega (arith, last-least p i j d z (omega arith), last-split p i j (i + d) z (λ e. omega arith))
+
+  pub sought-from : (p i j m : ℕ) → i ≤ j → (m ≡ i) ⊎ ((m ≡ j) × (nextKind c (p + 1) ≡ 0)) → Sought p i j none m
+  sought-from p i j m l (inl e) = subst (Sought p i j none) (sym e) (sought p i j l)
+  sought-from p i j m l (inr x) = record { from = omega (arith, x .0); to = omega (arith, x .0); is = sym (last-least p i j (m - i) (x .1) (omega (arith, x .0))) }
+
+  pub unmet-from : {size : ℕ} (p i j o m : ℕ) → i ≤ j → (m ≡ i) ⊎ ((m ≡ j) × (nextKind c (p + 1) ≡ 0)) → Unmet (AnotherEnd c M F size n H p i j o) i m
+  unmet-from {size} p i j o m l (inl e) = subst (Unmet (AnotherEnd c M F size n H p i j o) i) (sym e) (unmet i)
+  unmet-from p i j o m l (inr x) = record { order = omega (arith, x .0); none = λ k h b a. a .derives (last-split p i j k (x .1) (λ e. omega (arith, x .0))) }
 
   pub sought-next : {p i j v m : ℕ} (w v' : ℕ) → Sought p i j v m → m ≤ j → w ≡ splitAt c M F n H p i j m → v' ≡ min v w → Sought p i j v' (m + 1)
   sought-next {p} {i} {j} {v} {m} w v' s l e f =

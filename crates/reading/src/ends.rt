@@ -4,6 +4,7 @@ ghost use mathlib.Core.Path.{_≡_};
 ghost use Prim.Native.Nat.{_<_};
 ghost use Rattle.chart.specs.Code.{nextKind};
 ghost use Rattle.reading.specs.Walk.{Tells, Ready, SomeEnd, FirstEnd, OtherEnd};
+use crate::table::first_end;
 use crate::table::split;
 use chart::NONE;
 use sparse::Stretch;
@@ -44,7 +45,7 @@ pub fn other_end(
     requires { ⌜ Ready (now code) (now marks) (now notes) (now main) (s .size) (s .n .0) (s .i .0) (s .j .0) × ((p < s .size) × (nextKind (now code) p ≡ 2)) ⌝ }
     ensures { λ r. ⌜ Tells r (OtherEnd (now (code .entry)) (now (marks .entry)) (now (notes .entry)) (s .size) (s .n .0) (now (main .entry)) p (s .i .0) (s .j .0) (m .0)) ⌝ }
 {
-    let mut l = s.i;
+    let mut l = first_end(code, p, s);
     while l.0 <= s.j.0 {
         let here = l;
         l = CharPlace(l.0 + 1);

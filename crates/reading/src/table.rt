@@ -1,6 +1,7 @@
 // What the coded grammar has for a dot position (crates/chart/specs), and the heights of alternatives.
+ghost use mathlib.Core.Logic.{_⊎_};
 ghost use mathlib.Core.Path.{_≡_};
-ghost use Prim.Native.Nat.{_+_, _-_, _<_, _≤_, min};
+ghost use Prim.Native.Nat.{_+_, _*_, _-_, _<_, _≤_, min};
 ghost use lib.ListN.{length, getD};
 ghost use Rattle.chart.specs.Code.{nextKind};
 ghost use Rattle.reading.specs.Walk.{Ready, Position, splitAt, leastOf, pastOf, valueAt};
@@ -69,13 +70,24 @@ fn smaller(a: u32, b: u32) -> u32
     a
 }
 
+// The first place where the symbol at p may end: j, where nothing stands after it.
+pub fn first_end(code: &[u32], p: usize, s: Stretch) -> CharPlace
+    requires { ⌜ 4 * (p + 1) < length (now code) ⌝ }
+    ensures { λ r. ⌜ (r .0 ≡ s .i .0) ⊎ ((r .0 ≡ s .j .0) × (nextKind (now (code .entry)) (p + 1) ≡ 0)) ⌝ }
+{
+    if number_at(code, 4 * (p + 1)) == AFTER_ALTERNATIVE {
+        return s.j;
+    }
+    s.i
+}
+
 // The least height of the symbol at p and what stands after it, over all places where the symbol ends.
 fn least_split(code: &[u32], marks: &[u8], notes: &[u32], main: &[u32], p: usize, s: Stretch) -> u32
     requires { ⌜ Ready (now code) (now marks) (now notes) (now main) (s .size) (s .n .0) (s .i .0) (s .j .0) × ((p < s .size) × (nextKind (now code) p ≡ 2)) ⌝ }
     ensures { λ r. ⌜ r ≡ leastOf (now (code .entry)) (now (marks .entry)) (now (notes .entry)) (s .n .0) (now (main .entry)) p (s .i .0) (s .j .0) (s .j .0 + 1 - s .i .0) ⌝ }
 {
     let mut v = NONE;
-    let mut m = s.i;
+    let mut m = first_end(code, p, s);
     while m.0 <= s.j.0 {
         let w = split(code, marks, notes, main, p, s, m);
         v = smaller(v, w);

@@ -56,7 +56,8 @@ fn run() -> Result<(), String> {
 #[derive(Clone, Copy)]
 enum Call {
     Check,
-    Read,
+    /// By one of the two engines.
+    Read(fn(&[u8], &[u8], &mut [u32], &mut [u32], &mut [u32]) -> Answer),
     Convert,
 }
 
@@ -92,7 +93,8 @@ impl Job {
         let mut field = |name: &str| fields.next().ok_or_else(|| format!("no {name}"));
         let call = match field("call")? {
             "check" => Call::Check,
-            "read" => Call::Read,
+            "read" => Call::Read(ixml::read),
+            "read_plain" => Call::Read(ixml::read_plain),
             "convert" => Call::Convert,
             other => return Err(format!("there is no call {other:?}")),
         };
@@ -120,9 +122,9 @@ impl Job {
         let mut grammar_table = Lent::new(self.grammar_table, SEED);
         let (answer, result, mut touched) = match self.call {
             Call::Check => (ixml::check(&self.grammar), "-".to_string(), false),
-            Call::Read => {
+            Call::Read(read) => {
                 let mut result = Lent::new(self.result, SEED);
-                let answer = ixml::read(
+                let answer = read(
                     &self.grammar,
                     &self.record,
                     main_table.lend(),

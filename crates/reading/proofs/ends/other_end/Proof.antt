@@ -2,7 +2,9 @@ use mathlib.Core.Path.{sym, _∙_}
 use Prim.Native.Nat.{_+_, _-_}
 use native.Mathlib.Omega.{arith}
 use Rattle.reading.specs.Walk.{AnotherEnd}
-use Rattle.reading.proofs.Searches.{Unmet, unmet, unmet-next, ahead, tells-yes, tells-no}
+use denote.Ref.{now}
+use Rattle.reading.proofs.Values.{unmet-from}
+use Rattle.reading.proofs.Searches.{Unmet, unmet-next, ahead, tells-yes, tells-no}
 use Rattle.reading.proofs.ends.other_end.Statement.{statement}
 use Rattle.reading.proofs.ends.other_end.Tie as tie
 
@@ -12,10 +14,19 @@ Inv-loop code marks notes main p s m l₀ l = Unmet (AnotherEnd code marks notes
 abbrev μ-loop : tie.MeasureT-loop
 μ-loop code marks notes main p s m l₀ l = s .j .0 + 1 - l .0
 
+first-end-requires : tie.Need-first-end-requires Inv-loop μ-loop
+first-end-requires c κs =
+    let start = c .before .before .before .before in
+    let p = start .pre in
+    let t = p .0 .tables .shape in
+    omega (arith, t .nexts (start .args .p) (p .1 .0) (λ z. omega (arith, p .1 .1)), t .room)
+
 loop-holds : tie.Need-loop-holds Inv-loop μ-loop
 loop-holds c =
     let start = c .before .before .before .before .before in
-    unmet (start .args .s .i .0)
+    let a = start .args in
+    unmet-from (now (a .code)) (now (a .marks)) (now (a .notes)) (a .s .n .0) (now (a .main)) (a .p) (a .s .i .0) (a .s .j .0) (a .m .0) (c .first-end .result .0)
+    (start .pre .0 .order) (c .first-end .ensures)
 
 add-t11 : tie.Need-add-t11 Inv-loop μ-loop
 add-t11 c =
@@ -74,6 +85,7 @@ other-end-spec =
     (tie.spec
     Inv-loop
     μ-loop
+    first-end-requires
     loop-holds
     add-t11
     split-requires

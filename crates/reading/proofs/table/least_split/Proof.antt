@@ -2,7 +2,7 @@ use borrow.Author.Needs.{needs}
 use Prim.Native.Nat.{_+_, _-_}
 use native.Mathlib.Omega.{arith}
 use denote.Ref.{now}
-use Rattle.reading.proofs.Values.{Sought, sought, sought-next, sought-all}
+use Rattle.reading.proofs.Values.{Sought, sought-from, sought-next, sought-all}
 use Rattle.reading.proofs.table.least_split.Statement.{statement}
 use Rattle.reading.proofs.table.least_split.Tie as tie
 
@@ -12,11 +12,19 @@ Inv-loop code marks notes main p s v₀ m₀ v m = Sought code marks notes (s .n
 abbrev μ-loop : tie.MeasureT-loop
 μ-loop code marks notes main p s v₀ m₀ v m = s .j .0 + 1 - m .0
 
+first-end-requires : tie.Need-first-end-requires Inv-loop μ-loop
+first-end-requires c κs =
+    let start = c .before .before .before .before in
+    let p = start .pre in
+    let t = p .0 .tables .shape in
+    omega (arith, t .nexts (start .args .p) (p .1 .0) (λ z. omega (arith, p .1 .1)), t .room)
+
 loop-holds : tie.Need-loop-holds Inv-loop μ-loop
 loop-holds c =
     let start = c .before .before .before .before .before in
     let a = start .args in
-    sought (now (a .code)) (now (a .marks)) (now (a .notes)) (a .s .n .0) (now (a .main)) (a .p) (a .s .i .0) (a .s .j .0) (start .pre .0 .order)
+    sought-from (now (a .code)) (now (a .marks)) (now (a .notes)) (a .s .n .0) (now (a .main)) (a .p) (a .s .i .0) (a .s .j .0) (c .first-end .result .0) (start .pre .0 .order)
+    (c .first-end .ensures)
 
 split-requires : tie.Need-split-requires Inv-loop μ-loop
 split-requires c κs =
@@ -63,6 +71,7 @@ least-split-spec =
     (tie.spec
     Inv-loop
     μ-loop
+    first-end-requires
     loop-holds
     split-requires
     smaller-requires
