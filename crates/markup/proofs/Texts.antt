@@ -99,11 +99,11 @@ stretch-cons t i n p h =
 pub stretch-none : (t : List ℕ) (i n : ℕ) → length t ≤ i → take n (drop i t) ≡ []
 stretch-none t i n h = rw (drop-of-length-le t h) (take-nil n)
 
--- one more of a stretch is written
-pub text-on : {l q q′ : ℕ} {o o′ : List ℕ} (fin : State) (mode : ℕ) (t : List ℕ) (i n : ℕ) → 0 < n → i < length t
-    → puts l (state q o) (enc (concatMap (spelt mode) (take n (drop i t)))) ≡ fin → (c : ℕ) → c ≡ getD t i 0 → Wrote l q o q′ o′ (spelt mode c)
-    → puts l (state q′ o′) (enc (concatMap (spelt mode) (take (n - 1) (drop (i + 1) t)))) ≡ fin
-text-on fin mode t i n p h e c ce w = paid (spelt mode c) (concatMap (spelt mode) (take (n - 1) (drop (i + 1) t))) (concatMap (spelt mode) (take n (drop i t))) e (rw (stretch-cons t i n p h, ce)) w
+-- one more of a stretch is written, each character as f spells it
+pub text-on : {l q q′ : ℕ} {o o′ : List ℕ} (fin : State) (f : ℕ → Text) (t : List ℕ) (i n : ℕ) → 0 < n → i < length t
+    → puts l (state q o) (enc (concatMap f (take n (drop i t)))) ≡ fin → (c : ℕ) → c ≡ getD t i 0 → Wrote l q o q′ o′ (f c)
+    → puts l (state q′ o′) (enc (concatMap f (take (n - 1) (drop (i + 1) t)))) ≡ fin
+text-on fin f t i n p h e c ce w = paid (f c) (concatMap f (take (n - 1) (drop (i + 1) t))) (concatMap f (take n (drop i t))) e (rw (stretch-cons t i n p h, ce)) w
 
-pub text-end : (l q : ℕ) (o : List ℕ) {fin : State} (mode : ℕ) (cs : Text) → cs ≡ [] → puts l (state q o) (enc (concatMap (spelt mode) cs)) ≡ fin → state q o ≡ fin
-text-end l q o mode cs z e = sym (puts-none l (state q o)) ∙ sym (ap (λ (bs : List ℕ). puts l (state q o) bs) enc-none) ∙ rw z at e
+pub text-end : (l q : ℕ) (o : List ℕ) {fin : State} (f : ℕ → Text) (cs : Text) → cs ≡ [] → puts l (state q o) (enc (concatMap f cs)) ≡ fin → state q o ≡ fin
+text-end l q o f cs z e = sym (puts-none l (state q o)) ∙ sym (ap (λ (bs : List ℕ). puts l (state q o) bs) enc-none) ∙ rw z at e

@@ -81,7 +81,7 @@ fn put_four(out: &mut [u8], limit: BytePlace, pos: BytePlace, c: usize) -> ByteP
 }
 
 // A character in UTF-8; every number above 10FFFF as 110000, as tables hold it.
-fn put_char(out: &mut [u8], limit: BytePlace, pos: BytePlace, c: usize) -> BytePlace
+pub fn put_char(out: &mut [u8], limit: BytePlace, pos: BytePlace, c: usize) -> BytePlace
     requires { ⌜ limit .0 ≤ length (now out) ⌝ }
     ensures { λ r. ⌜ Wrote (limit .0) (pos .0) (now (out .entry)) (r .0) (now (out .exit)) (c ∷ []) ⌝ }
 {
@@ -145,7 +145,7 @@ fn put_escaped(out: &mut [u8], limit: BytePlace, pos: BytePlace, mode: usize, c:
 }
 
 // Characters that stand in a table.
-fn put_text(
+pub fn put_text(
     out: &mut [u8],
     limit: BytePlace,
     pos: BytePlace,

@@ -33,7 +33,7 @@ returns c =
     let start = at-loop .before .before .before in
     let a = start .args in
     record {
-      is = text-end (a .limit .0) (at-loop .loop .q .0) (at-loop .loop .out) (a .mode)
+      is = text-end (a .limit .0) (at-loop .loop .q .0) (at-loop .loop .out) (spelt (a .mode))
           (take (at-loop .loop .n) (drop (at-loop .loop .i) (now (a .t))))
           (stretch-none (now (a .t)) (at-loop .loop .i) (at-loop .loop .n) (c .if1 .taken)) (at-loop .loop .inv .1);
     }
@@ -63,7 +63,7 @@ loop-again c =
     let a = start .args in (
       omega arith,
       text-on (puts (a .limit .0) (state (a .pos .0) (now (a .out)))
-          (enc (concatMap (spelt (a .mode)) (take (a .count) (drop (a .from) (now (a .t))))))) (a .mode) (now (a .t)) (at-loop .loop .i)
+          (enc (concatMap (spelt (a .mode)) (take (a .count) (drop (a .from) (now (a .t))))))) (spelt (a .mode)) (now (a .t)) (at-loop .loop .i)
           (at-loop .loop .n) (at-loop-test .loop-test .taken) (at-if1 .if1 .left) (at-loop .loop .inv .1) (at-look .look .result)
           (at-look .look .ensures .0) (c .before .before .put-escaped .ensures),
     )
@@ -76,7 +76,7 @@ returns-2 c =
     let start = c .before .before .before .before in
     let a = start .args in
     record {
-      is = text-end (a .limit .0) (c .before .loop .q .0) (c .before .loop .out) (a .mode)
+      is = text-end (a .limit .0) (c .before .loop .q .0) (c .before .loop .out) (spelt (a .mode))
           (take (c .before .loop .n) (drop (c .before .loop .i) (now (a .t))))
           (ap (λ (k : ℕ). take k (drop (c .before .loop .i) (now (a .t)))) (none (c .before .loop .n) (c .loop-test .left)))
           (c .before .loop .inv .1);
