@@ -20,6 +20,7 @@ const LIBRARIES: [(&str, &[&str], &str); 2] = [
         "calls",
         &[
             "ixml_check",
+            "ixml_tidy",
             "ixml_category",
             "ixml_read",
             "ixml_read_plain",

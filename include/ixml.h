@@ -1,5 +1,5 @@
 /*
- * Invisible XML 1.0 for short records: check a grammar, read a record,
+ * Invisible XML 1.0 for short records: check a grammar, tidy it, read a record,
  * convert a record to XML, and tell the category of a character.
  *
  * Link with libcalls.a, which `rt staticlib calls` writes to
@@ -21,7 +21,7 @@
  * The calls allocate nothing, keep nothing from one call to the next and may
  * run on several threads at once. A stack of 1 MB is enough for each of them;
  * the least with which jobs at the limits were seen to work is 166 KB for
- * checking, 650 KB for reading and 700 KB for converting.
+ * checking, 170 KB for tidying, 650 KB for reading and 700 KB for converting.
  */
 #ifndef IXML_H
 #define IXML_H
@@ -89,12 +89,12 @@ typedef struct {
     uint32_t number;
     /*
      * How many cells of the result are filled: numbers of the reading, bytes
-     * of the XML. 0 unless the number is 0, and always 0 from ixml_check.
+     * of the XML or of the tidy text. 0 unless the number is 0, and always 0 from ixml_check.
      */
     size_t length;
     /*
      * The record has more than one derivation. Set only with the number 0,
-     * and never by ixml_check.
+     * and never by ixml_check and ixml_tidy.
      */
     bool ambiguous;
     /*
@@ -107,8 +107,9 @@ typedef struct {
 
 /*
  * The numbers of an answer, in the order in which they are judged: the first
- * that applies is given. ixml_check gives 0 to 11 and 24; ixml_read and
- * ixml_read_plain 0 to 16, 24, 29 and 23; ixml_convert any.
+ * that applies is given. ixml_check gives 0 to 11 and 24; ixml_tidy these, 28
+ * and 23; ixml_read and ixml_read_plain 0 to 16, 24, 29 and 23; ixml_convert any
+ * but 28.
  *
  * On every refusal each cell of the result buffer is as it was.
  */
@@ -171,6 +172,8 @@ enum {
     IXML_DELETED_ROOT = 21,
     /* The XML would have an attribute named xmlns. */
     IXML_ATTRIBUTE_XMLNS = 22,
+    /* The tidy text is over 4,096 bytes long. */
+    IXML_TIDY_TOO_LONG = 28,
     /* The result is longer than the buffer that was lent for it. */
     IXML_RESULT_TOO_LONG = 23
 };
@@ -179,6 +182,19 @@ enum {
 
 /* Checks a grammar. */
 ixml_answer ixml_check(const uint8_t *grammar, size_t grammar_length);
+
+/*
+ * Tidies a grammar. The result is the grammar in one layout: a line for each
+ * rule, `: ` and `; ` and `, `, double quotes, lower-case hex without leading
+ * zeros, no comments and no byte order mark, a prolog as first line. It is a
+ * grammar of the same rules, names and marks, so every record has the same
+ * answer and result with it; only places in the grammar's text may differ.
+ * Tidying it again gives the same bytes. With the number 0 the first `length`
+ * bytes of `result` are the tidy text and the rest is as it was; a buffer of
+ * IXML_GRAMMAR_BYTES is never too short.
+ */
+ixml_answer ixml_tidy(const uint8_t *grammar, size_t grammar_length,
+                      uint8_t *result, size_t result_length);
 
 /*
  * Reads a record. The result is the chosen reading: the left parse of a

@@ -1,6 +1,7 @@
 //! The library's calls on slices.
 
-use crate::{ffi, Answer};
+use crate::limits::GRAMMAR_BYTES;
+use crate::{ffi, Answer, Error};
 
 /// Checks a grammar: the numbers 0 to 11, and 24.
 ///
@@ -11,6 +12,50 @@ use crate::{ffi, Answer};
 pub fn check(grammar: &[u8]) -> Answer {
     // SAFETY: the pointer and the length are those of a slice.
     unsafe { ffi::ixml_check(grammar.as_ptr(), grammar.len()) }
+}
+
+/// Tidies a grammar: the numbers 0 to 11, 24, 28 and 23.
+///
+/// With 0 the first bytes of `result`, as many as the answer's length, are the
+/// grammar in one layout, in UTF-8. All other bytes of `result`, and with a
+/// refusal all of them, are as they were. The tidy text has the same rules,
+/// names and marks; tidied again it gives the same bytes. It is at most
+/// [`GRAMMAR_BYTES`](crate::limits::GRAMMAR_BYTES) long.
+///
+/// ```
+/// use ixml::limits::GRAMMAR_BYTES;
+///
+/// let mut result = [0; GRAMMAR_BYTES];
+/// let answer = ixml::tidy(b"-a={x}'b'|#0A,[L|'c']+.", &mut result);
+/// assert_eq!(answer.number, 0);
+/// assert_eq!(&result[..answer.length], b"-a: \"b\"; #a, [L; \"c\"]+.\n");
+/// ```
+pub fn tidy(grammar: &[u8], result: &mut [u8]) -> Answer {
+    // SAFETY: pointers and lengths are those of slices, of which the mutable
+    // one overlaps nothing.
+    unsafe {
+        ffi::ixml_tidy(
+            grammar.as_ptr(),
+            grammar.len(),
+            result.as_mut_ptr(),
+            result.len(),
+        )
+    }
+}
+
+/// A grammar in the one layout.
+///
+/// ```
+/// assert_eq!(ixml::tidy_text("a={x}'b'|.").as_deref(), Ok("a: \"b\"; .\n"));
+/// assert_eq!(ixml::tidy_text("a: b."), Err(ixml::Error::UndefinedName));
+/// ```
+pub fn tidy_text(grammar: impl AsRef<[u8]>) -> Result<String, Error> {
+    let grammar = grammar.as_ref();
+    let mut result = [0; GRAMMAR_BYTES];
+    let answer = tidy(grammar, &mut result).ok();
+    let answer = answer.map_err(|error| error.quoting(grammar, b""))?;
+    let text = result[..answer.length].to_vec();
+    Ok(String::from_utf8(text).expect("the text of a grammar is UTF-8"))
 }
 
 /// Reads a record: the numbers 0 to 16, 24, 29 and 23.
@@ -92,7 +137,7 @@ pub fn read_plain(
     }
 }
 
-/// Converts a record to XML: all numbers.
+/// Converts a record to XML: all numbers but 28.
 ///
 /// With 0 the first bytes of `result`, as many as the answer's length, are the
 /// XML of the chosen reading, in UTF-8. All other bytes of `result`, and with a

@@ -88,6 +88,7 @@ errors! {
     AttributeRoot = 20, "the root rule is marked @, and a document is no attribute";
     DeletedRoot = 21, "the root rule is marked -, and what is left of it is not one element with nothing beside it";
     AttributeXmlns = 22, "the XML would have an attribute named xmlns";
+    TidyTooLong = 28, "the grammar's tidy text is over 4,096 bytes long";
     ResultTooLong = 23, "the result is longer than the buffer that was lent for it";
 }
 

@@ -50,6 +50,12 @@ extern "C" {
     pub fn ixml_number(text: *const u8, text_length: usize) -> NumberAnswer;
 
     pub fn ixml_check(grammar: *const u8, grammar_length: usize) -> Answer;
+    pub fn ixml_tidy(
+        grammar: *const u8,
+        grammar_length: usize,
+        result: *mut u8,
+        result_length: usize,
+    ) -> Answer;
     pub fn ixml_category(code: u32) -> u32;
     pub fn ixml_read(
         grammar: *const u8,

@@ -11,10 +11,11 @@
 //! assert!(!converted.ambiguous);
 //! # Ok::<(), ixml::Error>(())
 //! ```
-//! [`check`], [`read`], [`read_plain`], [`convert`] and [`category`] are the
-//! library's calls themselves, for a caller who provides tables and buffers:
-//! see [`limits`] for their lengths. An [`Answer`] tells how a call went; [`Answer::ok`] turns
-//! it into a `Result` whose [`Error`] has a sentence for each refusal.
+//! [`check`], [`tidy`], [`read`], [`read_plain`], [`convert`] and [`category`]
+//! are the library's calls themselves, for a caller who provides tables and
+//! buffers: see [`limits`] for their lengths. An [`Answer`] tells how a call went;
+//! [`Answer::ok`] turns it into a `Result` whose [`Error`] has a sentence for each
+//! refusal.
 //!
 //! [`Gate`] judges a position by the texts of its two attributes, and [`number`]
 //! gives the value of such a text.
@@ -31,7 +32,7 @@ pub mod limits;
 mod reader;
 
 pub use answer::{Answer, Places};
-pub use calls::{check, convert, read, read_plain};
+pub use calls::{check, convert, read, read_plain, tidy, tidy_text};
 pub use category::{category, Category};
 pub use error::{Error, Quote};
 pub use gate::{number, Gate, GateError, Latitude, Longitude, Verdict};

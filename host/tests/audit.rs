@@ -64,7 +64,7 @@ fn alternatives(alternatives: &Alternatives) -> bool {
 
 fn factor(one: &Factor) -> bool {
     match one {
-        Factor::Literal { deleted, .. } | Factor::Set { deleted, .. } => !deleted,
+        Factor::Literal { mark, .. } | Factor::Set { mark, .. } => *mark != Some(Mark::Deleted),
         Factor::Insertion(_) => false,
         Factor::Nonterminal { mark, .. } => *mark != Some(Mark::Attribute),
         Factor::Bracket(inner) => alternatives(inner),

@@ -76,7 +76,7 @@ fn program(assert: &str) -> String {
         ("version", std::mem::offset_of!(Answer, version)),
     ];
     facts.extend(fields.map(|(name, place)| format!("offsetof(ixml_answer, {name}) == {place}")));
-    for number in (1..=23).chain([29]) {
+    for number in (1..=24).chain([28, 29]) {
         facts.push(format!("IXML_{} == {number}", name(number)));
     }
     let facts: String = facts
@@ -107,6 +107,10 @@ fn program(assert: &str) -> String {
              if (!read.ambiguous || !read.version) return 5;\n\
              if (numbers[0] != 1 || numbers[1] != 7 || numbers[2] != 7) return 6;\n\
              uint8_t xml[16] = {{0}};\n\
+             const ixml_answer tidied = ixml_tidy(grammar, 3, xml, 16);\n\
+             if (tidied.number != IXML_ANSWERED || tidied.length != 5) return 8;\n\
+             if (xml[2] != ' ' || xml[4] != '\\n' || xml[5] != 0) return 9;\n\
+             xml[0] = 0;\n\
              const uint8_t unruled[5] = {{'a', ':', ' ', 'b', '.'}};\n\
              const ixml_answer refused = ixml_convert(unruled, 5, record, 1, main_table, 1,\n\
                  grammar_table, IXML_GRAMMAR_TABLE, xml, 16);\n\
@@ -122,7 +126,10 @@ fn gate_program(assert: &str) -> String {
     let facts = [
         format!("sizeof(ixml_gate_answer) == {}", size_of::<GateAnswer>()),
         format!("offsetof(ixml_gate_answer, verdict) == {verdict}"),
-        format!("sizeof(ixml_number_answer) == {}", size_of::<NumberAnswer>()),
+        format!(
+            "sizeof(ixml_number_answer) == {}",
+            size_of::<NumberAnswer>()
+        ),
         format!("offsetof(ixml_number_answer, value) == {value}"),
         "IXML_GATE_ANSWERED == 0 && IXML_NO_VERDICT == 0".to_string(),
         format!("IXML_UNSOUND_GATE == {}", GateError::UnsoundGate.number()),

@@ -72,6 +72,13 @@ fn vectors_of_category() {
 }
 
 #[test]
+fn vectors_of_tidy() {
+    let lines = vectors::lines_of("tidy", 3);
+    assert!(lines.len() > 500);
+    run_lines(lines);
+}
+
+#[test]
 fn vectors_of_gates() {
     let lines = vectors::lines_of("gate", 5);
     assert!(lines.len() > 800);

@@ -7,7 +7,7 @@ use crate::productive;
 use crate::reading::{self, Reading};
 use crate::refusal::{Places, Refusal};
 use crate::statics;
-use crate::syntax;
+use crate::syntax::{self, Grammar};
 use crate::text;
 use crate::xml::{self, State};
 
@@ -82,8 +82,30 @@ pub fn convert(
     })
 }
 
+/// Tidies a grammar: 0 to 11, 24, 28 and 23. The bytes of the tidy text fill
+/// the start of `result`.
+pub fn tidy(grammar: &[u8], result: &mut [u8]) -> Answer {
+    let outcome = accept(grammar).and_then(|accepted| {
+        let text = crate::tidy::text(&accepted.syntax);
+        if text.len() > limits::GRAMMAR_BYTES {
+            return Err(Refusal::TidyTooLong);
+        }
+        let length = fill(result, text.as_bytes())?;
+        Ok((length, accepted.version))
+    });
+    match outcome {
+        Ok((length, version)) => Answer {
+            length,
+            version,
+            ..Answer::default()
+        },
+        Err(refusal) => refusal.into(),
+    }
+}
+
 /// A grammar that passed 1 to 11, and 24.
 struct Accepted<'t> {
+    syntax: Grammar<'t>,
     plain: Plain<'t>,
     version: bool,
 }
@@ -98,7 +120,11 @@ fn accept(grammar: &[u8]) -> Result<Accepted<'_>, Refusal> {
     if productive::some_unproductive(&plain) {
         return Err(Refusal::UnproductiveRule);
     }
-    Ok(Accepted { plain, version })
+    Ok(Accepted {
+        syntax,
+        plain,
+        version,
+    })
 }
 
 /// The lengths of the work tables that the caller provides.

@@ -4,7 +4,7 @@
 //! of one derivation) and its XML. The modules follow the order of a job:
 //! decode the texts, read the grammar, check it, reduce it to plain rules,
 //! parse the record, choose a reading, write the XML. The position gate stands
-//! apart.
+//! apart, and so does the writer of tidy grammars.
 
 pub mod alphabet;
 pub mod category;
@@ -20,12 +20,13 @@ pub mod refusal;
 pub mod statics;
 pub mod syntax;
 pub mod text;
+pub mod tidy;
 pub mod xml;
 
 mod calls;
 mod program;
 
-pub use calls::{check, convert, read, Answer};
+pub use calls::{check, convert, read, tidy, Answer};
 pub use category::{category, Category};
 pub use program::program;
 pub use refusal::{Places, Refusal};

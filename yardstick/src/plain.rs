@@ -168,10 +168,10 @@ impl<'t> Builder<'t> {
 
     fn factor(&mut self, factor: &Factor<'t>) -> Symbol {
         match factor {
-            Factor::Literal { deleted, text } => {
-                self.terminal(Terminal::Literal(characters(text)), *deleted)
+            Factor::Literal { mark, text } => {
+                self.terminal(Terminal::Literal(characters(text)), *mark)
             }
-            Factor::Set { deleted, set } => self.terminal(Terminal::Set(char_set(set)), *deleted),
+            Factor::Set { mark, set } => self.terminal(Terminal::Set(char_set(set)), *mark),
             Factor::Insertion(text) => {
                 self.insertions.push(characters(text));
                 Symbol::Insertion(self.insertions.len() - 1)
@@ -187,9 +187,10 @@ impl<'t> Builder<'t> {
         }
     }
 
-    fn terminal(&mut self, terminal: Terminal, deleted: bool) -> Symbol {
+    fn terminal(&mut self, terminal: Terminal, mark: Option<Mark>) -> Symbol {
         self.terminals.push(terminal);
         let terminal = self.terminals.len() - 1;
+        let deleted = mark == Some(Mark::Deleted);
         Symbol::Terminal { terminal, deleted }
     }
 }

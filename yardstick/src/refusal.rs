@@ -13,7 +13,7 @@ pub struct Places {
 
 /// The refusals in the order in which they are judged, which is not the order
 /// of their numbers: 24 stands right after 11, 29 right after 16. The last
-/// three are the gate's.
+/// three are the gate's; 28 is of tidying alone, where it stands before 23.
 #[derive(Clone, Copy, Debug, PartialEq, Eq, PartialOrd, Ord, Hash)]
 pub enum Refusal {
     GrammarTooLong,
@@ -42,6 +42,7 @@ pub enum Refusal {
     AttributeRoot,
     DeletedRoot,
     AttributeXmlns,
+    TidyTooLong,
     ResultTooLong,
     UnsoundGate,
     NoNumber,
@@ -76,6 +77,7 @@ impl Refusal {
             Refusal::AttributeRoot => 20,
             Refusal::DeletedRoot => 21,
             Refusal::AttributeXmlns => 22,
+            Refusal::TidyTooLong => 28,
             Refusal::ResultTooLong => 23,
             Refusal::UnsoundGate => 30,
             Refusal::NoNumber => 31,

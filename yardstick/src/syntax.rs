@@ -49,8 +49,8 @@ pub enum Term<'t> {
 
 #[derive(Clone, Debug, PartialEq, Eq)]
 pub enum Factor<'t> {
-    Literal { deleted: bool, text: Text },
-    Set { deleted: bool, set: Set<'t> },
+    Literal { mark: Option<Mark>, text: Text },
+    Set { mark: Option<Mark>, set: Set<'t> },
     Insertion(Text),
     Nonterminal { mark: Option<Mark>, name: &'t str },
     Bracket(Alternatives<'t>),
@@ -357,14 +357,12 @@ impl<'t> Reader<'t> {
 
     /// A literal or a set, after its mark.
     fn terminal(&mut self, mark: Option<Mark>) -> Parsed<Factor<'t>> {
-        let deleted = match mark {
-            None | Some(Mark::Element) => false,
-            Some(Mark::Deleted) => true,
-            Some(Mark::Attribute) => return Err(NotIxml),
-        };
+        if mark == Some(Mark::Attribute) {
+            return Err(NotIxml);
+        }
         if let Some(text) = self.text()? {
             self.spacing()?;
-            return Ok(Factor::Literal { deleted, text });
+            return Ok(Factor::Literal { mark, text });
         }
         let excluded = self.take("~");
         if excluded {
@@ -372,7 +370,7 @@ impl<'t> Reader<'t> {
         }
         let members = self.members()?;
         let set = Set { excluded, members };
-        Ok(Factor::Set { deleted, set })
+        Ok(Factor::Set { mark, set })
     }
 
     /// A name in a rule's body, with the spacing after it.

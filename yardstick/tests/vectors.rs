@@ -2,7 +2,7 @@
 
 use ixml_yardstick::gate::{self, Gate, Verdict};
 use ixml_yardstick::limits::GRAMMAR_TABLE;
-use ixml_yardstick::{category, check, convert, program, read, Answer, Places};
+use ixml_yardstick::{category, check, convert, program, read, tidy, Answer, Places};
 
 /// The lines of all files for one of these calls, a line's first field.
 fn lines(calls: &[&str]) -> Vec<Vec<String>> {
@@ -85,6 +85,32 @@ fn calls() {
             }
             call => panic!("line {number}: no call {call}"),
         }
+    }
+}
+
+#[test]
+fn tidied() {
+    let lines = lines(&["tidy"]);
+    assert!(lines.len() > 500);
+    for (number, line) in (1..).zip(&lines) {
+        let room: usize = line[2].parse().unwrap();
+        let filling: Vec<u8> = (0..room).map(|cell| (cell % 251) as u8 ^ 0xA5).collect();
+        let mut buffer = filling.clone();
+        let got = tidy(&bytes(&line[1]), &mut buffer);
+        let answer = Answer {
+            number: line[3].parse().unwrap(),
+            length: line[4].parse().unwrap(),
+            ambiguous: line[5] == "1",
+            version: line[6] == "1",
+            places: Places {
+                byte: line[8].parse().unwrap(),
+                fault: line[9].parse().unwrap(),
+                grammar: line[10].parse().unwrap(),
+            },
+        };
+        assert_eq!(got, answer, "line {number}");
+        let buffer_now = expected(&bytes(&line[7]), &filling);
+        assert_eq!(buffer, buffer_now, "line {number}");
     }
 }
 

@@ -99,7 +99,7 @@ module _ (bs T : List ℕ) (d : Loaded) (p : Passed) (q : d ≡ Standing p) (l :
       places = refl;
     })
 
-    pub kept : unproductive g ≡ false → Kept bs T′ (record { root = root; size = n; mismatch = p .mismatch })
+    pub kept : unproductive g ≡ false → Kept bs T′ (record { root = root; size = n; mismatch = p .mismatch; end = p .end })
     kept u = record {
       tree = g;
       is = loaded .is;
@@ -110,4 +110,6 @@ module _ (bs T : List ℕ) (d : Loaded) (p : Passed) (q : d ≡ Standing p) (l :
       productive = u;
       ready = is-ready;
       tokens = tokens-there;
+      stands = record { text = loaded .stands .text; derived = loaded .stands .derived; held = b .0 ∙ loaded .stands .held };
+      inside = loaded .inside;
     }

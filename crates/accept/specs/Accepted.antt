@@ -14,6 +14,7 @@ use Rattle.derive.specs.Yield.{unproductive}
 use Rattle.answer.specs.Compute.{Test, firstOf, treeOf, grammarTests, mismatch}
 use Rattle.items.specs.Items.{Reads}
 use Rattle.rules.specs.Ready.{Ready}
+use Rattle.load.specs.Checked.{Stands}
 use Rattle.load.specs.Loaded.{Turned}
 use Rattle.accept.specs.declared.Rules.{Rules}
 use Rattle.accept.specs.declared.Accepted.{Accepted}
@@ -29,6 +30,8 @@ pub record Kept (bs T : List ℕ) (r : Rules) : Type 0 where
   pub productive : unproductive tree ≡ false
   pub ready : Ready T tree (r .size) (r .root)
   pub tokens : Reads T 0 (grammarTokens tree)
+  pub stands : Stands T (r .end) tree
+  pub inside : r .end ≤ 12288
 
 -- document 01's number and values for each case
 abbrev pub stageOf : Accepted → StageAnswer Rules Diagnostic

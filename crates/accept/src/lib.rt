@@ -8,11 +8,13 @@ ghost use Rattle.text.specs.Limits.{grammarTable};
 ghost use Rattle.text.specs.Stages.{diagnosticOf};
 ghost use Rattle.accept.specs.Accepted.{stageOf, Accepts};
 
-// What the later stages need to know of an accepted grammar: the first item of the root's rule, its size, and whether its version is another one.
+// What the later stages need to know of an accepted grammar: the first item of the root's rule, its size, whether its version is another
+// one, and the place after its tokens.
 pub struct Rules {
     pub root: usize,
     pub size: usize,
     pub mismatch: bool,
+    pub end: usize,
 }
 
 pub enum Accepted {
@@ -48,5 +50,6 @@ pub fn accept_grammar(grammar: &[u8], table: &mut [u32]) -> Accepted
         root,
         size,
         mismatch: passed.mismatch,
+        end: passed.end,
     })
 }

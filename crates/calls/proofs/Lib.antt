@@ -4,3 +4,4 @@ pub mod ReadsAs
 pub mod ConvertsAs
 pub mod Copies
 pub mod Agree
+pub mod TidiesAs

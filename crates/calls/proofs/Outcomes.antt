@@ -35,7 +35,7 @@ pub done-is : (old new bs : List ℕ) (v amb mark : Bool) (count : ℕ) → new 
     → answering old v (record { cells = bs; ambiguous = amb }) ≡ record { answer = shown (done count mark v); buffer = new }
 done-is old new bs v amb mark count e f g = rw (e, f, g)
 
-refused-outcome : (old : List ℕ) (m : Bool) (vs : Values) (r : Refusal) (x : Result) → (r .why .number ≡ 0 → ⊥)
+pub refused-outcome : (old : List ℕ) (m : Bool) (vs : Values) (r : Refusal) (x : Result) → (r .why .number ≡ 0 → ⊥)
     → (eqb (r .why .number) 16 && r .mismatch) ≡ (eqb (r .why .number) 16 && m) → placesOf (r .why .places) ≡ placesAt vs (r .why .number)
     → outcome old m vs (r .why .number) x ≡ refusing old r
 refused-outcome old m vs r x z v p =

@@ -7,6 +7,7 @@ use lib.Dec.{eqb}
 use Rattle.answer.specs.Answer as defined
 use Rattle.answer.specs.Answer.{Job, Checks, Reads, Converts}
 use Rattle.answer.specs.Compute.{checkOf, readOf, convertOf}
+use Rattle.tidy.specs.Call.{Tidies, tidyOf}
 use Rattle.job.specs.declared.Refusal.{Refusal}
 use Rattle.calls.specs.declared.Answer.{Answer}
 
@@ -51,3 +52,9 @@ pub record ConvertedAs (j : Job) (old : List ℕ) (a : Answer) (new : List ℕ) 
   pub computed : shown a ≡ convertOf j old .answer
   pub buffer : new ≡ convertOf j old .buffer
   pub defines : Converts j old (shown a) new
+
+-- of tidying (tidy-settled)
+pub record TidiedAs (bs old : List ℕ) (a : Answer) (new : List ℕ) : Type 0 where
+  pub computed : shown a ≡ tidyOf bs old .answer
+  pub buffer : new ≡ tidyOf bs old .buffer
+  pub defines : Tidies bs old (shown a) new

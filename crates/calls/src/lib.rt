@@ -7,7 +7,7 @@ ghost use lib.Dec.{eqb};
 ghost use lib.ListN.{length, take, drop};
 ghost use Rattle.answer.specs.Answer.{job, Categorizes};
 ghost use Rattle.convert.specs.Concluded.{convertedNumber};
-ghost use Rattle.calls.specs.Calls.{Checked, refusalOf, ReadAs, ConvertedAs};
+ghost use Rattle.calls.specs.Calls.{Checked, refusalOf, ReadAs, ConvertedAs, TidiedAs};
 use accept::Accepted;
 use convert::Converted;
 use job::Lending;
@@ -15,6 +15,7 @@ use job::Parse;
 use job::Refusal;
 use text::limits;
 use text::refusals;
+use tidy_text::Tidied;
 
 // Where a job is at fault: a byte, a character of the record, a character of the grammar. 0 where the number names no place.
 #[repr(C)]
@@ -249,6 +250,39 @@ pub extern "C" fn ixml_convert(
         number: refusals::ANSWERED,
         length,
         ambiguous: found.ambiguous,
+        version: found.mismatch,
+        places: Places {
+            byte: 0,
+            fault: 0,
+            grammar: 0,
+        },
+    }
+}
+
+// Tidies a grammar.
+#[no_mangle]
+pub extern "C" fn ixml_tidy(grammar: &[u8], result: &mut [u8]) -> Answer
+    ensures { λ r. ⌜ TidiedAs (now (grammar .entry)) (now (result .entry)) r (now (result .exit)) ⌝ }
+{
+    let mut table = [0u32; limits::GRAMMAR_TABLE];
+    let accepted = accept::accept_grammar(grammar, &mut table);
+    let Accepted::Grammar(found) = accepted else {
+        return refuse(Refusal {
+            why: accept::why_not_accepted(accepted),
+            mismatch: false,
+        });
+    };
+    let tidied = tidy_text::tidy(&table, found.end, result);
+    let Tidied::Text(length) = tidied else {
+        return refuse(Refusal {
+            why: text::plain(tidy_text::why_not_tidied(tidied)),
+            mismatch: false,
+        });
+    };
+    Answer {
+        number: refusals::ANSWERED,
+        length,
+        ambiguous: false,
         version: found.mismatch,
         places: Places {
             byte: 0,

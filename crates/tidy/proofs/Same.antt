@@ -48,7 +48,7 @@ known-low c h = elim (or-case (inside c (span 0 0x17f)) (any (inside c) (span 0x
   ]
 ]
 
-known-scalars : (t : Text) → T (all known t) → All Scalar t
+pub known-scalars : (t : Text) → T (all known t) → All Scalar t
 known-scalars [] h = none
 known-scalars (c ∷ t) h =
     let l = known-low c (and-left (known c) (all known t) h) in

@@ -180,8 +180,10 @@ impl Oracle {
 
     fn factor(&mut self, names: &[&str], factor: &Factor) -> Symbol {
         match factor {
-            Factor::Literal { deleted, text } => Symbol::Literal(characters(text), *deleted),
-            Factor::Set { deleted, set } => Symbol::Set(members(set), *deleted),
+            Factor::Literal { mark, text } => {
+                Symbol::Literal(characters(text), *mark == Some(Mark::Deleted))
+            }
+            Factor::Set { mark, set } => Symbol::Set(members(set), *mark == Some(Mark::Deleted)),
             Factor::Insertion(text) => Symbol::Insertion(characters(text)),
             Factor::Nonterminal { mark, name } => {
                 Symbol::Rule(names.iter().position(|n| n == name).unwrap(), *mark)

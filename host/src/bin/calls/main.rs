@@ -73,6 +73,7 @@ fn answer(line: &str) -> Result<String, String> {
             gate::ruling(kind, limits, &bytes(lat)?, &bytes(lon)?)
         }
         ["number", text, ..] => Ok(gate::value(&bytes(text)?)),
+        ["tidy", grammar, room, ..] => Ok(tidied(&bytes(grammar)?, number(room)?)),
         _ => Ok(Job::parse(line)?.run()),
     }
 }
@@ -150,18 +151,32 @@ impl Job {
             }
         };
         touched |= main_table.guards_touched() || grammar_table.guards_touched();
-        format!(
-            "{}\t{}\t{}\t{}\t{result}\t{}\t{}\t{}{}",
-            answer.number,
-            answer.length,
-            u8::from(answer.ambiguous),
-            u8::from(answer.version),
-            answer.places.byte,
-            answer.places.fault,
-            answer.places.grammar,
-            if touched { "\ttouched" } else { "" },
-        )
+        output(answer, &result, touched)
     }
+}
+
+/// The line of output for tidying a grammar.
+fn tidied(grammar: &[u8], room: usize) -> String {
+    let mut result = Lent::new(room, SEED);
+    let answer = ixml::tidy(grammar, result.lend());
+    let filled = filled(answer, room);
+    let text = hex(&result.cells()[..filled]);
+    output(answer, &text, result.touched_behind(filled))
+}
+
+/// The columns of an answer.
+fn output(answer: Answer, result: &str, touched: bool) -> String {
+    format!(
+        "{}\t{}\t{}\t{}\t{result}\t{}\t{}\t{}{}",
+        answer.number,
+        answer.length,
+        u8::from(answer.ambiguous),
+        u8::from(answer.version),
+        answer.places.byte,
+        answer.places.fault,
+        answer.places.grammar,
+        if touched { "\ttouched" } else { "" },
+    )
 }
 
 /// How many cells are the result.

@@ -1,0 +1,5 @@
+pub mod Between
+pub mod Owed
+pub mod Fits
+pub mod Concluded
+pub mod Encoded
