@@ -1,0 +1,1 @@
+// Reading in rounds: definitions and laws.
