@@ -27,9 +27,9 @@ use Rattle.sparse.specs.Cells.{isLast, ruleOf, restOf, Shape, Tables}
 use Rattle.sparse.specs.Steps.{Flagged, towardOf, Sound, LeastOn, Empties, Fell, HandedOn, Given, Listed}
 use Rattle.sparse.proofs.Rows.{in-table}
 use Rattle.sparse.proofs.Falls.{rule-same, rest-same, RestBy, by-last, by-row, rule-by, rest-by, fell-widen}
-use Rattle.spread.specs.Spread.{AllSpread}
-use Rattle.spread.proofs.Handing.{on-kept, listed-kept}
-use Rattle.quick.specs.Quick.{Row, of-rule, of-dot, Emptied, Untouched, ListedTo, ClearedTo, DotCleared, Bare, Before, From, Filled}
+use Rattle.spread.specs.Spread.{lowFrom, Low as LowNotes, AllSpread}
+use Rattle.spread.proofs.Handing.{on-kept, listed-kept, low-kept}
+use Rattle.quick.specs.Quick.{Row, of-rule, of-dot, Emptied, Untouched, Unnoted, ListedTo, ClearedTo, DotCleared, Bare, Before, From, Filled}
 
 -- a stretch keeps what it has where the cells of its parts stay
 module _ (c M F : List ℕ) (size n : ℕ) (t u : List ℕ) where
@@ -178,9 +178,23 @@ untouched-next i C D room a = record {
   ];
 }
 
+-- one row more has no note
+pub unnoted-none : (j : ℕ) (C : List ℕ) → Unnoted j 0 C C
+unnoted-none j C = record { long = refl; before = λ z h. refl; from = λ y h. absurd (omega arith) }
+
+pub unnoted-next : (j x : ℕ) (C D : List ℕ) → 1226 + x < length D → Unnoted j x C D → Unnoted j (x + 1) C (set D (1226 + x) j)
+unnoted-next j x C D room a = record {
+  long = length-set D (1226 + x) j ∙ a .long;
+  before = λ z h. getD-set-other D (1226 + x) z j 0 (λ o. omega arith) ∙ a .before z h;
+  from = λ y h. elim (ℕ-discrete y x) as (λ _. lowFrom (set D (1226 + x) j) y ≡ j) [
+    | yes e ↦ ap (lowFrom (set D (1226 + x) j)) e ∙ getD-set-same D (1226 + x) j 0 room
+    | no e ↦ getD-set-other D (1226 + x) (1226 + y) j 0 (λ o. e (omega arith)) ∙ a .from y (omega arith)
+  ];
+}
+
 module _ (c M : List ℕ) (n j : ℕ) where
   -- one dot more is listed
-  pub listed-none : (C : List ℕ) → length C ≡ 714 → ListedTo c M n j 0 (set C 512 0)
+  pub listed-none : (C : List ℕ) → length C ≡ 1738 → ListedTo c M n j 0 (set C 512 0)
   listed-none C e =
       let z = getD-set-same C 512 0 0 (omega arith) in
       record {
@@ -259,7 +273,7 @@ module _ (c M : List ℕ) (n j : ℕ) where
 -- one stretch after the other
 module _ (c M F : List ℕ) (size n j : ℕ) where
   -- the rows are cleared, the flags too, and the empty stretch has handed on
-  module _ {t u v C D E : List ℕ} (stop : j ≤ n) (a : Before c M F size n j t) (b : ClearedTo c M n j size t u) (l : Listed c M size j C) (f : Untouched j C D)
+  module _ {t u v B C D E : List ℕ} (stop : j ≤ n) (a : Before c M F size n j t) (b : ClearedTo c M n j size t u) (l : Listed c M size j C) (f : Untouched j C B) (d : Unnoted j size B D)
       {m : ℕ} (empty : m ≡ j) (handed : AllSpread c M F size n m j u D v E) where
     s : AllSpread c M F size n j j u D v E
     s = subst (λ (x : ℕ). AllSpread c M F size n x j u D v E) empty handed
@@ -283,7 +297,8 @@ module _ (c M F : List ℕ) (size n j : ℕ) where
     from-start = record {
       tables = subst (Tables c M F size n) (sym (s .spread .fell .long ∙ b .long)) (a .tables);
       stop = stop;
-      listed = listed-kept (s .spread .long ∙ f .long) (λ z h. s .spread .before z h ∙ f .before z h) l;
+      listed = listed-kept (s .spread .long ∙ d .long ∙ f .long) (λ z h. s .spread .before z h ∙ d .before z (omega arith) ∙ f .before z h) l;
+      low = s .spread .low (λ y i h h' h''. absurd (omega (arith, d .from y h)));
       sound = s .spread .fell .sound cleared-sound;
       before = λ k m h h'. least-kept c M F size n t v k m (omega arith)
           (λ y x z d e g. s .spread .fell .same y x z e (omega arith) (λ w. omega (arith, w .1)) ∙ b .same y x z e (omega arith) (λ w. omega arith)) (a .least k m h h');
@@ -316,6 +331,7 @@ module _ (c M F : List ℕ) (size n j : ℕ) where
             | no e ↦ a .on p m lp (omega arith) l'
           ];
           bare = λ k l. a .bare k (omega arith);
+          low = λ y i l l' l''. a .low y i l l' (omega arith);
         }
 
     module _ {u v D : List ℕ} (f : Fell c M F size n (j + 1) (Only h j) t u) (g : Given c M F size n h j t → LeastOn c M F size n u h j)
@@ -329,6 +345,7 @@ module _ (c M F : List ℕ) (size n j : ℕ) where
         tables = subst (Tables c M F size n) (sym (s .spread .fell .long ∙ f .long)) (a .tables);
         stop = a .stop;
         listed = listed-kept (s .spread .long) (s .spread .before) (a .listed);
+        low = s .spread .low (low-kept c M F size n h j t u C C (f .le) (λ y l. (refl, refl)) (λ y i l l' l''. a .low y i l l' (omega arith)));
         sound = s .spread .fell .sound (f .sound (a .sound));
         before = λ k m l l'. least-kept c M F size n t v k m (omega arith) (λ y x z d e i. away y x z e (omega (arith, a .stop)) (λ _ w. omega arith)) (a .before k m l l');
         least = λ k l l'. elim (ℕ-discrete h k) as (λ _. LeastOn c M F size n v k j) [

@@ -11,6 +11,7 @@ use Rattle.heights.specs.Table.{cellOf}
 use Rattle.reach.specs.Flags.{Wanted, homeOf}
 use Rattle.sparse.specs.Cells.{isLast, Tables}
 use Rattle.sparse.specs.Steps.{Sound, LeastOn, Empties, HandedOn, Listed}
+use Rattle.spread.specs.Spread.{lowFrom, Low}
 
 -- the row x is of a rule, or of a dot that is neither first, nor an end, nor before a last symbol
 pub data Row (c : List ℕ) (x : ℕ) : Type 0 where
@@ -28,6 +29,12 @@ pub record Untouched (j : ℕ) (C C' : List ℕ) : Type 0 where
   pub long : length C' ≡ length C
   pub before : (z : ℕ) → z < 513 → getD C' z 0 ≡ getD C z 0
   pub flags : (i : ℕ) → i < j → getD C' (513 + i) 0 ≡ 0
+
+-- of the rows before x nothing is noted
+pub record Unnoted (j x : ℕ) (C C' : List ℕ) : Type 0 where
+  pub long : length C' ≡ length C
+  pub before : (z : ℕ) → z < 1226 → getD C' z 0 ≡ getD C z 0
+  pub from : (y : ℕ) → y < x → lowFrom C' y ≡ j
 
 module _ (c M : List ℕ) (n j : ℕ) where
   -- the dots before x are listed, if their rule is wanted
@@ -70,6 +77,7 @@ module _ (c M F : List ℕ) (size n j : ℕ) where
     pub least : (k : ℕ) → i ≤ k → k < j → LeastOn c M F size n t k j
     pub on : (p m : ℕ) → p < size → i ≤ m → m ≤ j → HandedOn c M F size n m j t p
     pub bare : (k : ℕ) → k < i → k < j → getD C (513 + k) 0 ≡ 0 → Bare c M n j size k t
+    pub low : Low size n i j t C
 
 -- heights of stretches that are not empty are those of derivations, and the least of them
 pub record Filled (c M F : List ℕ) (size n : ℕ) (t : List ℕ) : Type 0 where

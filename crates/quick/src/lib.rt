@@ -8,7 +8,7 @@ ghost use Rattle.chart.specs.Heights.{stretches};
 ghost use Rattle.sparse.specs.Cells.{Shape, Tables};
 ghost use Rattle.sparse.specs.Steps.{Empties, Listed};
 ghost use Rattle.settle.specs.Queue.{countOf, Queued};
-ghost use Rattle.quick.specs.Quick.{Row, Emptied, Untouched, ListedTo, ClearedTo, DotCleared, Before, From, Filled};
+ghost use Rattle.quick.specs.Quick.{Row, Emptied, Untouched, Unnoted, ListedTo, ClearedTo, DotCleared, Before, From, Filled};
 use chart::AT_END;
 use chart::CODE_COLUMNS;
 use chart::CODE_GOES;
@@ -20,6 +20,7 @@ use settle::settle;
 use sparse::COLUMN;
 use sparse::HOMES;
 use sparse::LISTED;
+use sparse::LOW_FROM;
 use sparse::Stretch;
 use sparse::TOUCHED;
 use sparse::is_last;
@@ -89,7 +90,7 @@ fn list_column(
     column: &mut [u32],
     s: Stretch,
 )
-    requires { ⌜ Tables (now code) (now marks) (now notes) (s .size) (s .n .0) (length (now main)) × (s .j .0 ≤ s .n .0) × (length (now column) ≡ 714) ⌝ }
+    requires { ⌜ Tables (now code) (now marks) (now notes) (s .size) (s .n .0) (length (now main)) × (s .j .0 ≤ s .n .0) × (length (now column) ≡ 1738) ⌝ }
     ensures { λ _. ⌜ Listed (now (code .entry)) (now (marks .entry)) (s .size) (s .j .0) (now (column .exit))
         × ClearedTo (now (code .entry)) (now (marks .entry)) (s .n .0) (s .j .0) (s .size) (now (main .entry)) (now (main .exit)) ⌝ }
 {
@@ -113,6 +114,18 @@ fn untouch(column: &mut [u32], j: usize)
     }
 }
 
+// Of no row is it known that its cells are low.
+fn forget(column: &mut [u32], size: usize, j: usize)
+    requires { ⌜ (length (now column) ≡ 1738) × (size ≤ 512) × (j ≤ 200) ⌝ }
+    ensures { λ _. ⌜ Unnoted j size (now (column .entry)) (now (column .exit)) ⌝ }
+{
+    let mut y = 0;
+    while y < size {
+        column[LOW_FROM + y] = j as u32;
+        y += 1;
+    }
+}
+
 // The empty stretch s hands on.
 fn begin_column(
     code: &[u32],
@@ -122,11 +135,12 @@ fn begin_column(
     column: &mut [u32],
     s: Stretch,
 )
-    requires { ⌜ Before (now code) (now marks) (now notes) (s .size) (s .n .0) (s .j .0) (now main) × (s .i .0 ≡ s .j .0) × (s .j .0 ≤ s .n .0) × (length (now column) ≡ 714) ⌝ }
+    requires { ⌜ Before (now code) (now marks) (now notes) (s .size) (s .n .0) (s .j .0) (now main) × (s .i .0 ≡ s .j .0) × (s .j .0 ≤ s .n .0) × (length (now column) ≡ 1738) ⌝ }
     ensures { λ _. ⌜ From (now (code .entry)) (now (marks .entry)) (now (notes .entry)) (s .size) (s .n .0) (s .j .0) (s .j .0) (now (main .exit)) (now (column .exit)) ⌝ }
 {
     list_column(code, marks, notes, main, column, s);
     untouch(column, s.j.0);
+    forget(column, s.size, s.j.0);
     spread(code, marks, notes, main, column, s);
 }
 
@@ -163,8 +177,8 @@ fn fill_column(
     s: Stretch,
 )
     requires { ⌜ Before (now code) (now marks) (now notes) (s .size) (s .n .0) (s .j .0) (now main) × (s .i .0 ≡ s .j .0) × (s .j .0 ≤ s .n .0)
-        × (length (now column) ≡ 714) × Queued (s .size) (now queue) × (countOf (now queue) ≡ 0) ⌝ }
-    ensures { λ _. ⌜ Before (now (code .entry)) (now (marks .entry)) (now (notes .entry)) (s .size) (s .n .0) (s .j .0 + 1) (now (main .exit)) × (length (now (column .exit)) ≡ 714)
+        × (length (now column) ≡ 1738) × Queued (s .size) (now queue) × (countOf (now queue) ≡ 0) ⌝ }
+    ensures { λ _. ⌜ Before (now (code .entry)) (now (marks .entry)) (now (notes .entry)) (s .size) (s .n .0) (s .j .0 + 1) (now (main .exit)) × (length (now (column .exit)) ≡ 1738)
         × Queued (s .size) (now (queue .exit)) × (countOf (now (queue .exit)) ≡ 0) ⌝ }
 {
     begin_column(code, marks, notes, main, column, s);

@@ -30,12 +30,17 @@ pub const NOTES: usize = EMPTIES + text::limits::GRAMMAR_SIZE;
 // The flags of all places.
 pub const MARKS: usize = reach::PLACE * (text::limits::RECORD_CHARACTERS + 1);
 
-// The column of a place: the dots of rules that are wanted there, their count, and a flag for each place before.
+// The column of a place: the dots of rules that are wanted there, their count, a flag for each place before, and for each row from which
+// start on its cells are low, and how low.
 pub const LISTED: usize = text::limits::GRAMMAR_SIZE;
 
 pub const TOUCHED: usize = LISTED + 1;
 
-pub const COLUMN: usize = TOUCHED + text::limits::RECORD_CHARACTERS + 1;
+pub const LEVELS: usize = TOUCHED + text::limits::RECORD_CHARACTERS + 1;
+
+pub const LOW_FROM: usize = LEVELS + text::limits::GRAMMAR_SIZE;
+
+pub const COLUMN: usize = LOW_FROM + text::limits::GRAMMAR_SIZE;
 
 const REACHED: u8 = 1;
 

@@ -6,21 +6,21 @@ use Prim.Native.Nat.{ℕ, _+_, _-_, _<_, _≤_, max, min}
 use native.Mathlib.Decide.{ℕ-discrete, decLt}
 use native.Mathlib.Omega.{arith}
 use lib.ListN.{length, getD, set, length-set}
-use lib.Seq.{getD-set-same, getD-set-other, set-getD}
+use lib.Seq.{getD-set-same, getD-set-other}
 use Rattle.chart.specs.Code.{nextKind, goesAt, ruleAt, ownerAt}
 use Rattle.chart.specs.Heights.{cellAt, none}
 use Rattle.heights.specs.Table.{cellOf, upOf}
 use Rattle.heights.specs.Filling.{Only}
-use Rattle.heights.specs.Part.{by-terminal, by-split}
+use Rattle.heights.specs.Part.{by-terminal}
 use Rattle.heights.proofs.Values.{up-is, up-none}
 use Rattle.reach.specs.Flags.{Fits, Wanted, homeOf}
 use Rattle.reach.proofs.Closed.{home-next}
 use Rattle.sparse.specs.Cells.{rowOf, ruleOf, restOf, Shape, Tables}
 use Rattle.sparse.specs.Steps.{OffersAt, Fell, On, HandedOn, Listed, Lowered, lowered, kept}
-use Rattle.sparse.proofs.Rows.{in-table, last-symbol, last-stop, rule-cell, rest-end}
-use Rattle.sparse.proofs.Falls.{fell-refl, fell-join, fell-widen, fell-set, lowered-cell, other-stretch}
+use Rattle.sparse.proofs.Rows.{in-table, last-symbol}
+use Rattle.sparse.proofs.Falls.{fell-refl, fell-join, fell-widen, fell-set, lowered-cell}
 use Rattle.sparse.proofs.Toward.{target-of, toward-row, fell-toward, fell-rule, fell-rest}
-use Rattle.spread.specs.Spread.{Ahead, Better, Touched, Placed, Offering, Merging, Merged, Spread, DotSpread}
+use Rattle.spread.specs.Spread.{levelAt, lowFrom, Low, Ahead, Better, Touched, Placed, Offering, Merging, Spread, DotSpread}
 
 -- the less of v and what is one more than the larger of a and h
 pub better-less : (a h v m : ℕ) → a ≤ none → v ≤ none → m ≡ max a h → m < v → Better a h v (m + 1)
@@ -74,16 +74,21 @@ listed-kept {c} {M} {size} {j} {C} {D} e s l = record {
 
 module _ (c M F : List ℕ) (size n m j : ℕ) where
   pub spread-none : (t C : List ℕ) → Spread c M F size n m j t C t C
-  spread-none t C = record { fell = fell-refl c M F size n (j + 1); long = refl; before = λ z h. refl; after = λ z h. refl; still = λ i h z. (z, λ y. refl) }
+  spread-none t C = record { fell = fell-refl c M F size n (j + 1); long = refl; before = λ z h. refl; still = λ i h z. (z, λ y. refl); low = λ l. l }
 
   pub spread-join : {t u v C D E : List ℕ} → Spread c M F size n m j t C u D → Spread c M F size n m j u D v E → Spread c M F size n m j t C v E
   spread-join a b = record {
     fell = fell-join c M F size n (j + 1) (a .fell) (b .fell);
     long = b .long ∙ a .long;
     before = λ z h. b .before z h ∙ a .before z h;
-    after = λ z h. b .after z h ∙ a .after z h;
+    low = λ l. b .low (a .low l);
     still = λ i h z. let x = b .still i h z in let y = a .still i h (x .0) in (y .0, λ w. x .1 w ∙ y .1 w);
   }
+
+  -- what is noted of a row stays true where cells fall
+  pub low-kept : (t u C D : List ℕ) → ((x : ℕ) → getD u x 0 ≤ getD t x 0) → ((y : ℕ) → y < size → (lowFrom D y ≡ lowFrom C y) × (levelAt D y ≡ levelAt C y))
+      → Low size n m j t C → Low size n m j u D
+  low-kept t u C D le e l y i h f k = omega (arith, le (cellAt n y i j), e y h .0, e y h .1, l y i h (omega (arith, e y h .0)) k)
 
   -- nothing to hand on
   pub end-on : (t : List ℕ) (p : ℕ) → (nextKind c p ≡ 1 → ⊥) → (nextKind c p ≡ 2 → m < j → Wanted M (ruleAt c p) m → ⊥) → HandedOn c M F size n m j t p
@@ -124,121 +129,6 @@ module _ (c M F : List ℕ) (size n m j : ℕ) where
           let x = l .all (p + 1) next (subst (λ (y : ℕ). Wanted M y j) (sym home) (o .live)) in
           h (x .0) (x .1) p (x .2)
 
-  -- nothing stands after an end, on a stretch that is not empty
-  rest-no-end : (t : List ℕ) (p : ℕ) → m < j → restOf c M F n t (p + 1) m j < none → nextKind c (p + 1) ≡ 0 → ⊥
-  rest-no-end t p w s z = omega (arith, rest-end c M F n t (p + 1) m j (λ e. omega arith) z)
-
-  -- the symbol of p
-  module _ {t₀ : List ℕ} {p x y k h : ℕ} (a : Merging c M F size n m j t₀ p x y k h) where
-    pub merged-none : Merged c M F size n m j t₀ p 0 t₀
-    merged-none = record { fell = fell-refl c M F size n (j + 1); low = λ k l. absurd (omega arith); still = λ k l o y. refl }
-
-    module _ {t : List ℕ} (i r : ℕ) (l : i < m) (b : Merged c M F size n m j t₀ p i t) where
-      abbrev rule : ℕ
-      rule = ruleAt c p
-
-      abbrev row : ℕ
-      row = rowOf c p
-
-      rest-is : restOf c M F n t (p + 1) m j ≡ restOf c M F n t₀ (p + 1) m j
-      rest-is = fell-rest (b .fell) (p + 1) m j (omega (arith, a .wide)) (a .stop) (λ w. omega (arith, w .0))
-
-      source-is : cellOf n t rule i m ≡ cellOf n t₀ rule i m
-      source-is = b .fell .same rule i m (omega arith) (omega (arith, a .wide, a .stop)) (λ w. omega (arith, w .1, a .wide))
-
-      module _ (e : Better (cellOf n t rule i m) h (cellOf n t row i j) r) where
-        value : r ≡ min (cellOf n t row i j) (max (upOf (cellOf n t rule i m)) (restOf c M F n t (p + 1) m j))
-        value = e .is (restOf c M F n t (p + 1) m j) (omega (arith, a .less, rest-is)) (omega (arith, a .some, rest-is))
-
-        rule-is : ruleOf c M F n t rule i m ≡ cellOf n t rule i m
-        rule-is = rule-cell c M F n t rule i m (λ z. omega arith) (a .live)
-
-        offer : r < cellOf n t row i j → OffersAt c M F size n t p i j r
-        offer d = by-split m (a .kind) (omega arith) (omega (arith, a .wide)) tt
-            (let v : r ≡ max (upOf (cellOf n t rule i m)) (restOf c M F n t (p + 1) m j) = omega (arith, value) in
-            v ∙ ap (λ (z : ℕ). max (upOf z) (restOf c M F n t (p + 1) m j)) (sym rule-is))
-
-        kind : nextKind c p ≡ 0 → ⊥
-        kind z = omega (arith, a .kind)
-
-        low-at : (u : List ℕ) → cellOf n u row i j ≤ r → cellOf n u row i j ≤ max (upOf (cellOf n t₀ rule i m)) (restOf c M F n t₀ (p + 1) m j)
-        low-at u s =
-            let v : max (upOf (cellOf n t rule i m)) (restOf c M F n t (p + 1) m j) ≡ max (upOf (cellOf n t₀ rule i m)) (restOf c M F n t₀ (p + 1) m j) =
-            (λ ι. max (upOf (source-is ι)) (rest-is ι)) in
-            omega (arith, value)
-
-        module _ (d : r < cellOf n t row i j) where
-          abbrev u : List ℕ
-          u = set t (cellAt n row i j) r
-
-          other : (z q : ℕ) → q ≤ j → (q ≡ i → ⊥) → cellOf n u z q j ≡ cellOf n t z q j
-          other z q w o = other-stretch c M F size n (a .shape) t p row i j r (a .inside) kind (target-of c p) (omega (arith, a .wide)) (a .stop) (e .some d) d (offer d)
-              z q j w (a .stop) (λ g. o (g .0))
-
-          turn : Merged c M F size n m j t₀ p (i + 1) u
-          turn = record {
-            fell = fell-join c M F size n (j + 1) (b .fell) (fell-widen c M F size n (j + 1) (λ k g w. (omega (arith, w .0), w .1))
-                (fell-set c M F size n (a .shape) t p row i j r (a .inside) kind (target-of c p) (omega (arith, a .wide)) (a .stop) (e .some d) d (offer d)));
-            low = λ q w. elim (ℕ-discrete q i) as (λ _. cellOf n u row q j ≤ max (upOf (cellOf n t₀ rule q m)) (restOf c M F n t₀ (p + 1) m j)) [
-              | yes z ↦ subst (λ (g : ℕ). cellOf n u row g j ≤ max (upOf (cellOf n t₀ rule g m)) (restOf c M F n t₀ (p + 1) m j)) (sym z)
-                  (low-at u (omega (arith, lowered-cell c M F size n (a .shape) t p row i j r (a .inside) kind (target-of c p) (omega (arith, a .wide)) (a .stop) (e .some d) d (offer d))))
-              | no z ↦ omega (arith, other row q (omega (arith, a .wide)) z, b .low q (omega arith))
-            ];
-            still = λ q w s z. elim (ℕ-discrete q i) as (λ _. cellOf n u z q j ≡ cellOf n t₀ z q j) [
-              | yes g ↦ absurd (omega (arith, e .idle (omega (arith, source-is, subst (λ (g : ℕ). none ≤ cellOf n t₀ rule g m) g s))))
-              | no g ↦ other z q (omega (arith, a .wide)) g ∙ b .still q w s z
-            ];
-          }
-
-        stays : r ≡ cellOf n t row i j → Merged c M F size n m j t₀ p (i + 1) t
-        stays d = record {
-          fell = b .fell;
-          low = λ q w. elim (ℕ-discrete q i) as (λ _. cellOf n t row q j ≤ max (upOf (cellOf n t₀ rule q m)) (restOf c M F n t₀ (p + 1) m j)) [
-            | yes z ↦ subst (λ (g : ℕ). cellOf n t row g j ≤ max (upOf (cellOf n t₀ rule g m)) (restOf c M F n t₀ (p + 1) m j)) (sym z) (low-at t (omega arith))
-            | no z ↦ b .low q (omega arith)
-          ];
-          still = b .still;
-        }
-
-        pub merged-set : Merged c M F size n m j t₀ p (i + 1) (set t (cellAt n row i j) r)
-        merged-set = elim (decLt r (cellOf n t row i j)) as (λ _. Merged c M F size n m j t₀ p (i + 1) (set t (cellAt n row i j) r)) [
-          | yes d ↦ turn d
-          | no d ↦ (let z : r ≡ cellOf n t row i j = omega (arith, value) in rw (z, set-getD t (cellAt n row i j) 0) (stays z))
-        ]
-
-    pub merged-next : {t : List ℕ} (i r : ℕ) → i < k → Merged c M F size n m j t₀ p i t → Better (getD t (x + i) 0) h (getD t (y + i) 0) r
-        → Merged c M F size n m j t₀ p (i + 1) (set t (y + i) r)
-    merged-next {t} i r l b e =
-        let zx : x + i ≡ cellAt n (ruleAt c p) i m = omega (arith, a .source) in
-        let zy : y + i ≡ cellAt n (rowOf c p) i j = omega (arith, a .row) in
-        rw zy (merged-set i r (omega (arith, a .count)) b (subst (λ (z : ℕ). Better (cellOf n t (ruleAt c p) i m) h (getD t z 0) r) zy
-        (subst (λ (z : ℕ). Better (getD t z 0) h (getD t (y + i) 0) r) zx e)))
-
-    -- its starts are flagged
-    pub symbol-end : {t C D : List ℕ} → Merged c M F size n m j t₀ p m t → Touched t₀ x m C D → DotSpread c M F size n m j t₀ C t D p
-    symbol-end {t} {C} {D} b g = record {
-      spread = record {
-        fell = b .fell;
-        long = g .long;
-        before = g .before;
-        after = g .after;
-        still = λ i l z. let w = g .at i l z in
-            let zx : x + i ≡ cellAt n (ruleAt c p) i m = omega (arith, a .source) in
-            (w .0, b .still i l (subst (λ (z : ℕ). none ≤ getD t₀ z 0) zx (w .1)));
-      };
-      on = record {
-        terminal = λ i o l k'. absurd (omega (arith, a .kind));
-        split = λ i o l w k' d s.
-            let rest = fell-rest (b .fell) (p + 1) m j (omega (arith, a .wide)) (a .stop) (λ w. omega (arith, w .0)) in
-            let cell = b .fell .same (ruleAt c p) i m (omega arith) (omega (arith, a .wide, a .stop)) (λ w. omega (arith, w .1, a .wide)) in
-            let src = rule-cell c M F n t (ruleAt c p) i m (λ z. omega arith) (a .live) ∙ cell in
-            let v : max (upOf (ruleOf c M F n t (ruleAt c p) i m)) (restOf c M F n t (p + 1) m j) ≡ max (upOf (cellOf n t₀ (ruleAt c p) i m)) (restOf c M F n t₀ (p + 1) m j) =
-            (λ ι. max (upOf (src ι)) (rest ι)) in
-            let no-last = last-stop c p k' (rest-no-end t₀ p (a .wide) (a .some)) in
-            omega (arith, toward-row c M F size n t p i j o (omega arith) (λ z. omega arith) no-last, b .low i l, v);
-      };
-    }
-
   -- the terminal of p, from i on
   module _ {len : ℕ} {t C : List ℕ} {p b i : ℕ} (a : Offering c M F size n m j len t C p b) (kind : nextKind c p ≡ 1) (fit : Fits M p i) (less : i < m) (goes : i + goesAt c p ≡ m) where
     inner : nextKind c p ≡ 0 → ⊥
@@ -278,7 +168,10 @@ module _ (c M F : List ℕ) (size n m j : ℕ) where
           fell = ahead;
           long = length-set C (513 + i) 1;
           before = λ z h. getD-set-other C (513 + i) z 1 0 (λ o. omega arith);
-          after = λ z h. getD-set-other C (513 + i) z 1 0 (λ o. omega arith);
+          low = low-kept t lowerRow C (set C (513 + i) 1) (ahead .le) (λ y h. (
+            getD-set-other C (513 + i) (1226 + y) 1 0 (λ o. omega (arith, a .placed .order, a .placed .stop, a .placed .short)),
+            getD-set-other C (513 + i) (714 + y) 1 0 (λ o. omega (arith, a .placed .order, a .placed .stop, a .placed .short)),
+          ));
           still = λ q h z. elim (ℕ-discrete q i) as (λ _. (getD C (513 + q) 0 ≡ 0) × ((y : ℕ) → cellOf n lowerRow y q j ≡ cellOf n t y q j)) [
             | yes e ↦ absurd (omega (
               arith,
@@ -316,7 +209,7 @@ module _ (c M F : List ℕ) (size n m j : ℕ) where
 
   -- the rest of the dot before x
   module _ {len x : ℕ} (tables : Tables c M F size n len) (order : m ≤ j) (stop : j ≤ n) (inside : x < size) where
-    pub placed : (C : List ℕ) → length C ≡ 714 → Placed c size n m j len C (x - 1)
+    pub placed : (C : List ℕ) → length C ≡ 1738 → Placed c size n m j len C (x - 1)
     placed C column = record {
       shape = tables .shape;
       short = tables .short;
@@ -327,11 +220,11 @@ module _ (c M F : List ℕ) (size n m j : ℕ) where
       inside = omega arith;
     }
 
-    pub offering : {t : List ℕ} {b : ℕ} (C : List ℕ) → length C ≡ 714 → (x ≡ 0 → ⊥) → b ≡ restOf c M F n t x m j → (b ≡ none → ⊥) → b ≤ none
+    pub offering : {t : List ℕ} {b : ℕ} (C : List ℕ) → length C ≡ 1738 → Low size n m j t C → (x ≡ 0 → ⊥) → b ≡ restOf c M F n t x m j → (b ≡ none → ⊥) → b ≤ none
         → Offering c M F size n m j len t C (x - 1) b
-    offering {t} C column d e s l =
+    offering {t} C column noted d e s l =
         let z : x - 1 + 1 ≡ x = omega (arith, d) in
-        record { placed = placed C column; is = e ∙ ap (λ (y : ℕ). restOf c M F n t y m j) (sym z); some = omega (arith, s) }
+        record { placed = placed C column; is = e ∙ ap (λ (y : ℕ). restOf c M F n t y m j) (sym z); some = omega (arith, s); low = noted }
 
     -- a first dot stands after an end
     pub first-on : {t : List ℕ} → (ownerAt c x ≡ 0 → ⊥) → (p : ℕ) → x ≡ p + 1 → HandedOn c M F size n m j t p
@@ -348,9 +241,9 @@ module _ (c M F : List ℕ) (size n m j : ℕ) where
 
   -- a symbol's turn
   module _ {len : ℕ} {t C : List ℕ} {p b : ℕ} (a : Offering c M F size n m j len t C p b) where
-    pub merging : {e x y z h : ℕ} → nextKind c p ≡ 2 → m < j → Wanted M (ruleAt c p) m → e ≡ ruleAt c p → x ≡ cellAt n e 0 m → z ≡ rowOf c p → y ≡ cellAt n z 0 j → h ≡ b - 1
-        → Merging c M F size n m j t p x y m h
-    merging kind wide live rule source row target less = record {
+    pub merging : {e x y z h k : ℕ} → k ≤ m → nextKind c p ≡ 2 → m < j → Wanted M (ruleAt c p) m → e ≡ ruleAt c p → x ≡ cellAt n e 0 m → z ≡ rowOf c p → y ≡ cellAt n z 0 j → h ≡ b - 1
+        → Merging c M F size n m j t p x y k h
+    merging most kind wide live rule source row target less = record {
       shape = a .placed .shape;
       wide = wide;
       stop = a .placed .stop;
@@ -359,7 +252,7 @@ module _ (c M F : List ℕ) (size n m j : ℕ) where
       live = live;
       source = source ∙ ap (λ (w : ℕ). cellAt n w 0 m) rule;
       row = target ∙ ap (λ (w : ℕ). cellAt n w 0 j) row;
-      count = refl;
+      count = most;
       less = omega (arith, a .is);
       some = omega (arith, a .is, a .some);
     }

@@ -15,6 +15,27 @@ use Rattle.sparse.specs.Steps.{Fell, HandedOn}
 abbrev pub Ahead : ℕ → ℕ → ℕ → ℕ → Type 0
 Ahead m j k l = (k < m) × (l ≡ j)
 
+-- what the column notes of the row y: from a start on, its cells are at most one more than the level
+abbrev pub levelAt : List ℕ → ℕ → ℕ
+levelAt C y = getD C (714 + y) 0
+
+abbrev pub lowFrom : List ℕ → ℕ → ℕ
+lowFrom C y = getD C (1226 + y) 0
+
+-- the notes hold of the starts before m
+abbrev pub Low : ℕ → ℕ → ℕ → ℕ → List ℕ → List ℕ → Type 0
+Low size n m j t C = (y i : ℕ) → y < size → lowFrom C y ≤ i → i < m → cellOf n t y i j ≤ levelAt C y + 1
+
+-- from k on the starts before m are low enough for h
+pub record High (C : List ℕ) (y m h k : ℕ) : Type 0 where
+  pub most : k ≤ m
+  pub low : (i : ℕ) → k ≤ i → i < m → (lowFrom C y ≤ i) × (levelAt C y ≤ h)
+
+-- the cells from z + f on, of the first k, are at most one more than h
+pub record LowRun (t : List ℕ) (z k h f : ℕ) : Type 0 where
+  pub most : f ≤ k
+  pub low : (i : ℕ) → f ≤ i → i < k → getD t (z + i) 0 ≤ h + 1
+
 -- r is the less of v and the value of a dot whose symbol's rule has the height a, and whose rest has b, h being one less than b
 pub record Better (a h v r : ℕ) : Type 0 where
   pub is : (b : ℕ) → h ≡ b - 1 → b ≤ none → r ≡ min v (max (upOf a) b)
@@ -35,7 +56,7 @@ pub record Placed (c : List ℕ) (size n m j len : ℕ) (C : List ℕ) (p : ℕ)
   pub room : size * stretches n ≤ len
   pub order : m ≤ j
   pub stop : j ≤ n
-  pub column : length C ≡ 714
+  pub column : length C ≡ 1738
   pub inside : p < size
 
 module _ (c M F : List ℕ) (size n m j : ℕ) where
@@ -44,6 +65,7 @@ module _ (c M F : List ℕ) (size n m j : ℕ) where
     pub placed : Placed c size n m j len C p
     pub is : b ≡ restOf c M F n t (p + 1) m j
     pub some : b < none
+    pub low : Low size n m j t C
 
   -- the cells of its symbol's rule begin at x, those of its row at y
   pub record Merging (t : List ℕ) (p x y k h : ℕ) : Type 0 where
@@ -55,23 +77,24 @@ module _ (c M F : List ℕ) (size n m j : ℕ) where
     pub live : Wanted M (ruleAt c p) m
     pub source : x ≡ cellAt n (ruleAt c p) 0 m
     pub row : y ≡ cellAt n (rowOf c p) 0 j
-    pub count : k ≡ m
+    pub count : k ≤ m
     pub less : h ≡ restOf c M F n t (p + 1) m j - 1
     pub some : restOf c M F n t (p + 1) m j < none
 
-  -- the row of p, at the starts before i
+  -- the row of p, at the starts before i; at the others nothing changed
   pub record Merged (t : List ℕ) (p i : ℕ) (t' : List ℕ) : Type 0 where
     pub fell : Fell c M F size n (j + 1) (Ahead m j) t t'
     pub low : (k : ℕ) → k < i → cellOf n t' (rowOf c p) k j ≤ max (upOf (cellOf n t (ruleAt c p) k m)) (restOf c M F n t (p + 1) m j)
     pub still : (k : ℕ) → k < m → none ≤ cellOf n t (ruleAt c p) k m → (y : ℕ) → cellOf n t' y k j ≡ cellOf n t y k j
+    pub ahead : (k : ℕ) → i ≤ k → k < m → (y : ℕ) → cellOf n t' y k j ≡ cellOf n t y k j
 
   -- heights of longer stretches fell; where a start has no flag, none did
   pub record Spread (t C t' C' : List ℕ) : Type 0 where
     pub fell : Fell c M F size n (j + 1) (Ahead m j) t t'
     pub long : length C' ≡ length C
     pub before : (z : ℕ) → z < 513 → getD C' z 0 ≡ getD C z 0
-    pub after : (z : ℕ) → 513 + m ≤ z → getD C' z 0 ≡ getD C z 0
     pub still : (i : ℕ) → i < m → getD C' (513 + i) 0 ≡ 0 → (getD C (513 + i) 0 ≡ 0) × ((y : ℕ) → cellOf n t' y i j ≡ cellOf n t y i j)
+    pub low : Low size n m j t C → Low size n m j t' C'
 
   pub record DotSpread (t C t' C' : List ℕ) (p : ℕ) : Type 0 where
     pub spread : Spread t C t' C'

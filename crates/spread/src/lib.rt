@@ -8,7 +8,7 @@ ghost use Rattle.chart.specs.Heights.{none};
 ghost use Rattle.reach.specs.Flags.{Wanted};
 ghost use Rattle.sparse.specs.Cells.{Tables};
 ghost use Rattle.sparse.specs.Steps.{HandedOn, Listed};
-ghost use Rattle.spread.specs.Spread.{Better, Touched, Placed, Offering, Merging, Merged, DotSpread, Spread, AllSpread};
+ghost use Rattle.spread.specs.Spread.{Low, High, LowRun, Better, Touched, Placed, Offering, Merging, Merged, DotSpread, Spread, AllSpread};
 use chart::AT_SYMBOL;
 use chart::AT_TERMINAL;
 use chart::CODE_COLUMNS;
@@ -17,7 +17,9 @@ use chart::CODE_OWNER;
 use chart::CODE_RULE;
 use chart::NONE;
 use chart::cell;
+use sparse::LEVELS;
 use sparse::LISTED;
+use sparse::LOW_FROM;
 use sparse::Offer;
 use sparse::Stretch;
 use sparse::TOUCHED;
@@ -93,7 +95,7 @@ fn less_one(b: u32) -> u32
 // By a symbol with the cells from x on, over a rest of the height h + 1, or 0 where h is 0, for k starts: the cells from y on.
 fn merge(main: &mut [u32], x: usize, y: usize, k: usize, h: u32)
     requires { ⌜ (x + k ≤ length (now main)) × (y + k ≤ length (now main)) ⌝ }
-    ensures { λ _. ⌜ ((c M F : List ℕ) (size n m j p : ℕ) → Merging c M F size n m j (now (main .entry)) p x y k h → Merged c M F size n m j (now (main .entry)) p m
+    ensures { λ _. ⌜ ((c M F : List ℕ) (size n m j p : ℕ) → Merging c M F size n m j (now (main .entry)) p x y k h → Merged c M F size n m j (now (main .entry)) p k
         (now (main .exit))) ⌝ }
 {
     let mut i = 0;
@@ -125,10 +127,40 @@ fn touch(main: &[u32], column: &mut [u32], x: usize, k: usize)
     }
 }
 
-// By the symbol at the dot, from every start from which it ends at m. Cells that differ only in the start are neighbours.
+// The starts before m of the row y that may gain by a rest of the height h + 1: all before the one that is returned.
+fn high(column: &[u32], y: usize, m: usize, h: u32) -> usize
+    requires { ⌜ (length (now column) ≡ 1738) × (y < 512) ⌝ }
+    ensures { λ r. ⌜ High (now (column .entry)) y m h r ⌝ }
+{
+    if h < column[LEVELS + y] {
+        return m;
+    }
+    let from = text::wide(column[LOW_FROM + y]);
+    if m < from {
+        return m;
+    }
+    from
+}
+
+// The first of the k starts from which on the cells from z on are at most h + 1.
+fn low_run(main: &[u32], z: usize, k: usize, h: u32) -> usize
+    requires { ⌜ (z + k ≤ length (now main)) × (h < none) ⌝ }
+    ensures { λ r. ⌜ LowRun (now (main .entry)) z k h r ⌝ }
+{
+    let mut i = k;
+    while 0 < i {
+        if h + 1 < main[z + (i - 1)] {
+            return i;
+        }
+        i -= 1;
+    }
+    i
+}
+
+// By the symbol at the dot, from every start from which it ends at m and that may gain by it. Cells that differ only in the start are neighbours.
 fn spread_symbol(code: &[u32], main: &mut [u32], column: &mut [u32], o: Offer, s: Stretch)
     requires { ⌜ Placed (now code) (s .size) (s .n .0) (s .i .0) (s .j .0) (length (now main)) (now column) (o .dot)
-        × (nextKind (now code) (o .dot) ≡ 2) × (s .i .0 < s .j .0) ⌝ }
+        × (nextKind (now code) (o .dot) ≡ 2) × (s .i .0 < s .j .0) × (o .height < none) ⌝ }
     ensures { λ _. ⌜ ((M F : List ℕ)
         → Offering (now (code .entry)) M F (s .size) (s .n .0) (s .i .0) (s .j .0) (length (now (main .entry))) (now (main .entry)) (now (column .entry)) (o .dot) (o .height)
         → Wanted M (ruleAt (now (code .entry)) (o .dot)) (s .i .0)
@@ -137,9 +169,15 @@ fn spread_symbol(code: &[u32], main: &mut [u32], column: &mut [u32], o: Offer, s
 {
     let rule = text::wide(code[CODE_COLUMNS * o.dot + CODE_RULE]);
     let x = cell(s.n.0, rule, 0, s.i.0);
-    let y = cell(s.n.0, row(code, s.size, o.dot), 0, s.j.0);
-    touch(main, column, x, s.i.0);
-    merge(main, x, y, s.i.0, less_one(o.height));
+    let y = row(code, s.size, o.dot);
+    let z = cell(s.n.0, y, 0, s.j.0);
+    let h = less_one(o.height);
+    let k = high(column, y, s.i.0, h);
+    touch(main, column, x, k);
+    merge(main, x, z, k, h);
+    let from = low_run(main, z, k, h);
+    column[LOW_FROM + y] = from as u32;
+    column[LEVELS + y] = h;
 }
 
 // By the symbol before x.
@@ -152,8 +190,8 @@ fn spread_dot(
     x: usize,
     s: Stretch,
 )
-    requires { ⌜ Tables (now code) (now marks) (now notes) (s .size) (s .n .0) (length (now main)) × (length (now column) ≡ 714) × (x < s .size) × (s .i .0 ≤ s .j .0)
-        × (s .j .0 ≤ s .n .0) ⌝ }
+    requires { ⌜ Tables (now code) (now marks) (now notes) (s .size) (s .n .0) (length (now main)) × (length (now column) ≡ 1738) × (x < s .size) × (s .i .0 ≤ s .j .0)
+        × (s .j .0 ≤ s .n .0) × Low (s .size) (s .n .0) (s .i .0) (s .j .0) (now main) (now column) ⌝ }
     ensures { λ _. ⌜ Spread (now (code .entry)) (now (marks .entry)) (now (notes .entry)) (s .size) (s .n .0) (s .i .0) (s .j .0) (now (main .entry)) (now (column .entry))
         (now (main .exit)) (now (column .exit)) × ((p : ℕ) → x ≡ p + 1
         → HandedOn (now (code .entry)) (now (marks .entry)) (now (notes .entry)) (s .size) (s .n .0) (s .i .0) (s .j .0) (now (main .exit)) p) ⌝ }
@@ -199,7 +237,7 @@ pub fn spread(
     s: Stretch,
 )
     requires { ⌜ Tables (now code) (now marks) (now notes) (s .size) (s .n .0) (length (now main)) × Listed (now code) (now marks) (s .size) (s .j .0) (now column)
-        × (s .i .0 ≤ s .j .0) × (s .j .0 ≤ s .n .0) ⌝ }
+        × (s .i .0 ≤ s .j .0) × (s .j .0 ≤ s .n .0) × Low (s .size) (s .n .0) (s .i .0) (s .j .0) (now main) (now column) ⌝ }
     ensures { λ _. ⌜ AllSpread (now (code .entry)) (now (marks .entry)) (now (notes .entry)) (s .size) (s .n .0) (s .i .0) (s .j .0) (now (main .entry)) (now (column .entry))
         (now (main .exit)) (now (column .exit)) ⌝ }
 {

@@ -1,9 +1,9 @@
-use mathlib.Core.Path.{sym, subst}
+use borrow.Author.Needs.{needs}
+use mathlib.Core.Path.{sym, subst, _∙_}
 use native.Mathlib.Omega.{arith}
 use Rattle.sparse.specs.Cells.{Tables}
 use Rattle.spread.proofs.Handing.{listed-kept}
 use Rattle.quick.proofs.Columns.{from-start}
-use borrow.Author.Needs.{needs}
 use Rattle.quick.proofs.begin_column.Statement.{statement}
 use Rattle.quick.proofs.begin_column.Tie as tie
 
@@ -13,16 +13,26 @@ list-column-requires c κs = search needs
 untouch-requires : tie.Need-untouch-requires
 untouch-requires c κs = search needs
 
+forget-requires : tie.Need-forget-requires
+forget-requires c κs = search needs
+
 spread-requires : tie.Need-spread-requires
 spread-requires c κs =
-    let at-untouch = c .before .before .before .before in
+    let at-forget = c .before .before .before .before in
+    let at-untouch = at-forget .before .before .before .before in
     let at-list-column = at-untouch .before .before .before .before .before .before in
     let start = at-list-column .before .before .before .before .before .before .before .before in
     let a = start .args in
     let g = start .pre in
     let l = at-list-column .list-column .ensures in
     let u = at-untouch .untouch .ensures in
-    (subst (Tables (a .code .now) (a .marks .now) (a .notes .now) (a .s .size) (a .s .n .0)) (sym (l .1 .long)) (g .0 .tables), listed-kept (u .long) (u .before) (l .0), omega (arith, g .1), g .2)
+    let d = at-forget .forget .ensures in (
+      subst (Tables (a .code .now) (a .marks .now) (a .notes .now) (a .s .size) (a .s .n .0)) (sym (l .1 .long)) (g .0 .tables),
+      listed-kept (d .long ∙ u .long) (λ z h. d .before z (omega arith) ∙ u .before z h) (l .0),
+      omega (arith, g .1),
+      g .2,
+      λ y i h h' h''. absurd (omega (arith, d .from y h, g .1)),
+    )
 
 same-length : tie.Need-same-length
 same-length c = search needs
@@ -33,12 +43,13 @@ same-length-2 c = search needs
 returns : tie.Need-returns
 returns c =
     let at-spread = c .before .before .before .before in
-    let at-untouch = at-spread .before .before .before .before .before in
+    let at-forget = at-spread .before .before .before .before .before in
+    let at-untouch = at-forget .before .before .before .before in
     let at-list-column = at-untouch .before .before .before .before .before .before in
     let start = at-list-column .before .before .before .before .before .before .before .before in
     let g = start .pre in
     let l = at-list-column .list-column .ensures in
-    from-start _ _ _ _ _ _ (g .2) (g .0) (l .1) (l .0) (at-untouch .untouch .ensures) (g .1) (at-spread .spread .ensures)
+    from-start _ _ _ _ _ _ (g .2) (g .0) (l .1) (l .0) (at-untouch .untouch .ensures) (at-forget .forget .ensures) (g .1) (at-spread .spread .ensures)
 
 pub begin-column-spec : {M : Type 1} → statement M
 begin-column-spec =
@@ -46,6 +57,7 @@ begin-column-spec =
     (tie.spec
     list-column-requires
     untouch-requires
+    forget-requires
     spread-requires
     same-length
     same-length-2

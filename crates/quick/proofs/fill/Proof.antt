@@ -13,7 +13,7 @@ use Rattle.quick.proofs.fill.Tie as tie
 abbrev Inv-loop : tie.InvT-loop
 Inv-loop code marks notes size n main₀ queue₀ column₀ j₀ main queue column j =
     (j .0 ≤ n .0 + 1) × (length main ≡ length main₀) × Before code marks notes size (n .0) (j .0) main
-    × (length column ≡ 714) × Queued size queue × (countOf queue ≡ 0)
+    × (length column ≡ 1738) × Queued size queue × (countOf queue ≡ 0)
 
 abbrev μ-loop : tie.MeasureT-loop
 μ-loop code marks notes size n main₀ queue₀ column₀ j₀ main queue column j = n .0 + 1 - j .0

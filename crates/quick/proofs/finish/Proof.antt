@@ -1,6 +1,7 @@
-use mathlib.Core.Path.{sym, subst}
+use mathlib.Core.Path.{refl, sym, subst}
 use native.Mathlib.Omega.{arith}
 use Rattle.sparse.specs.Cells.{Tables}
+use Rattle.spread.proofs.Handing.{low-kept}
 use Rattle.quick.proofs.Columns.{from-bare, from-next}
 use borrow.Author.Needs.{needs}
 use Rattle.quick.proofs.finish.Statement.{statement}
@@ -35,6 +36,8 @@ spread-requires c κs =
       g .0 .listed,
       omega (arith, g .1),
       g .0 .stop,
+      low-kept (a .code .now) (a .marks .now) (a .notes .now) (a .s .size) (a .s .n .0) (a .s .i .0) (a .s .j .0) (a .main .now) (at-settle .settle .last .1 .1 .1 .0) (a .column .now) (a .column .now)
+          (at-settle .settle .ensures .fell .le) (λ y l. (refl, refl)) (λ y i l l' l''. g .0 .low y i l l' (omega arith)),
     )
 
 same-length : tie.Need-same-length

@@ -4,7 +4,7 @@ use Prim.Native.Nat.{ℕ, _+_, _-_, _≤_}
 use native.Mathlib.Omega.{arith}
 use lib.ListN.{length, length-set}
 use Rattle.spread.specs.Spread.{Merging, Merged}
-use Rattle.spread.proofs.Handing.{merged-none, merged-next}
+use Rattle.spread.proofs.Merging.{merged-none, merged-next}
 use borrow.Author.Needs.{needs}
 use Rattle.spread.proofs.merge.Statement.{statement}
 use Rattle.spread.proofs.merge.Tie as tie

@@ -59,7 +59,7 @@ spread-dot-requires c κs =
     let k : l .k < getD (start .args .column .now) 512 0 = omega (arith, at-if1 .if1 .taken, at-wide .wide .ensures, l .inv .1 .before 512 (omega arith)) in
     let x = q .1 .each (l .k) k .0 in
     let y = at-wide2 .wide2 .ensures ∙ l .inv .1 .before (l .k) (omega (arith, q .1 .count)) in
-    (rw e (q .0), l .inv .1 .long ∙ q .1 .long, omega arith, q .2, q .3)
+    (rw e (q .0), l .inv .1 .long ∙ q .1 .long, omega arith, q .2, q .3, l .inv .1 .low (q .4))
 
 add-k : tie.Need-add-k Inv-loop μ-loop
 add-k c =

@@ -88,7 +88,7 @@ returns-4 c =
     let a = start .args in
     let d = at-spread-terminal .spread-terminal .ensures (a .notes .now)
     (offering _ _ _ _ _ _ _ (start .pre .0) (start .pre .3) (start .pre .4) (start .pre .2)
-    (a .column .now) (start .pre .1) (at-if2 .if2 .left) (at-rest-height .rest-height .ensures) (at-if3 .if3 .left) (omega arith)) in
+    (a .column .now) (start .pre .1) (start .pre .5) (at-if2 .if2 .left) (at-rest-height .rest-height .ensures) (at-if3 .if3 .left) (omega arith)) in
     (d .spread, before-next _ _ _ _ _ _ _ (d .on))
 
 same-length-4 : tie.Need-same-length-4
@@ -148,12 +148,14 @@ spread-symbol-requires : tie.Need-spread-symbol-requires
 spread-symbol-requires c κs =
     let at-if6 = c .before .before .before .before .before .before in
     let at-if5 = at-if6 .before .before in
+    let at-if3 = at-if5 .before .before .before in
     let start = at-if5 .before .before .before .before .before .before .before .before .before .before .before .before .before .before in
     let a = start .args in (
       placed _ _ _ _ _ _ _ (start .pre .0) (start .pre .3) (start .pre .4) (start .pre .2)
           (a .column .now) (start .pre .1),
       at-if5 .if5 .left,
       omega (arith, start .pre .3, at-if6 .if6 .left),
+      omega (arith, at-if3 .if3 .left),
     )
 
 same-length-6 : tie.Need-same-length-6
@@ -176,7 +178,7 @@ returns-7 c =
     let w = at-wanted .wanted .ensures ∙ ap (λ (z : ℕ). leb 2 (endAt (a .marks .now) z (a .s .i .0))) (at-wide .wide .ensures) in
     let d = at-spread-symbol .spread-symbol .ensures (a .marks .now) (a .notes .now)
     (offering _ _ _ _ _ _ _ (start .pre .0) (start .pre .3) (start .pre .4) (start .pre .2)
-    (a .column .now) (start .pre .1) (at-if2 .if2 .left) (at-rest-height .rest-height .ensures) (at-if3 .if3 .left) (omega arith)) (flagged _ _ w (at-if7 .if7 .taken)) in
+    (a .column .now) (start .pre .1) (start .pre .5) (at-if2 .if2 .left) (at-rest-height .rest-height .ensures) (at-if3 .if3 .left) (omega arith)) (flagged _ _ w (at-if7 .if7 .taken)) in
     (d .spread, before-next _ _ _ _ _ _ _ (d .on))
 
 same-length-8 : tie.Need-same-length-8
