@@ -23,8 +23,33 @@ use Rattle.places.specs.Tokens.{tokenParts}
 use Rattle.places.proofs.Parts.{bare, Local, in-alts, in-prolog, all-written}
 use Rattle.places.proofs.Unique.{left-known}
 
+-- a number from 5 to 10, one by one
+pub by-rule : (P : ℕ → Type 0) → P 5 → P 6 → P 7 → P 8 → P 9 → P 10 → (n : ℕ) → 5 ≤ n → n ≤ 10 → P n
+by-rule P p5 p6 p7 p8 p9 p10 n l h = elim (ℕ-discrete n 5) as (λ _. P n) [
+  | yes e ↦ subst P (sym e) p5
+  | no a ↦ elim (ℕ-discrete n 6) as (λ _. P n) [
+    | yes e ↦ subst P (sym e) p6
+    | no b ↦ elim (ℕ-discrete n 7) as (λ _. P n) [
+      | yes e ↦ subst P (sym e) p7
+      | no c ↦ elim (ℕ-discrete n 8) as (λ _. P n) [
+        | yes e ↦ subst P (sym e) p8
+        | no d ↦ elim (ℕ-discrete n 9) as (λ _. P n) [
+          | yes e ↦ subst P (sym e) p9
+          | no f ↦ subst P (ten a b c d f) p10
+        ]
+      ]
+    ]
+  ]
+]
+  where
+    out : (n ≡ 5 → ⊥) → (n ≡ 6 → ⊥) → (n ≡ 7 → ⊥) → (n ≡ 8 → ⊥) → (n ≡ 9 → ⊥) → (10 ≡ n → ⊥) → ⊥
+    out a b c d f g = omega arith
+
+    ten : (n ≡ 5 → ⊥) → (n ≡ 6 → ⊥) → (n ≡ 7 → ⊥) → (n ≡ 8 → ⊥) → (n ≡ 9 → ⊥) → 10 ≡ n
+    ten a b c d f = elim (ℕ-discrete 10 n) as (λ _. 10 ≡ n) [ yes e ↦ e | no g ↦ absurd (out a b c d f g) ]
+
 -- 1. A first one is where there is any.
-abbrev hits : (List Part → Part → Bool) → List Part → List Part → Bool
+abbrev pub hits : (List Part → Part → Bool) → List Part → List Part → Bool
 hits f before [] = false
 hits f before (x ∷ xs) = f before x || hits f (x ∷ before) xs
 
@@ -131,7 +156,7 @@ hexes-terminal (exclusion m ms) = hexes-set ms ∙ sym (append-nil (concatMap he
 hexes-terminal (insertion (string cs)) = refl
 hexes-terminal (insertion (hex n)) = refl
 
-written-hexes : {t : Text} {g : Grammar} (d : Ixml t g) → concatMap hexesAt (bare (spots d)) ≡ hexes g
+pub written-hexes : {t : Text} {g : Grammar} (d : Ixml t g) → concatMap hexesAt (bare (spots d)) ≡ hexes g
 written-hexes {t} {g} d =
     let r : Terminal → List ℕ = λ x. concatMap hexIn (charsIn x) in
     all-written hexesAt (λ s. concatMap r (terminalsIn s)) (by-terminal hexesAt r refl (λ n. refl) hexes-terminal) (λ n. refl) d
@@ -185,9 +210,9 @@ alone : (f : List Part → Part → Bool) (h : Part → Bool) → ((before : Lis
 alone f h e before [] = refl
 alone f h e before (x ∷ xs) = ap₂ _||_ (e before x) (alone f h e (x ∷ before) xs)
 
-by-parts : {A : Type 0} (f : List Part → Part → Bool) (b : A → Bool) (p : Part → List A) (ps : List Part) (xs : List A)
-    → ((before : List Part) (x : Part) → f before x ≡ any b (p x)) → concatMap p ps ≡ xs → hits f [] ps ≡ any b xs
-by-parts f b p ps xs h e = alone f (λ x. any b (p x)) h [] ps ∙ sym (any-concat b p ps) ∙ ap (any b) e
+pub by-parts : {A : Type 0} (f : List Part → Part → Bool) (b : A → Bool) (p : Part → List A) (before ps : List Part) (xs : List A)
+    → ((before : List Part) (x : Part) → f before x ≡ any b (p x)) → concatMap p ps ≡ xs → hits f before ps ≡ any b xs
+by-parts f b p before ps xs h e = alone f (λ x. any b (p x)) h before ps ∙ sym (any-concat b p ps) ∙ ap (any b) e
 
 -- 6: looking back for an equal one is looking ahead
 any-or : {A : Type 0} (f h : A → Bool) (xs : List A) → any (λ x. f x || h x) xs ≡ any f xs || any h xs
@@ -250,7 +275,7 @@ pub place-5 : (t : Text) (g : Grammar) → Ixml t g → T (undefined g) → (p :
 unfolding atFault undefined
 place-5 t g d h =
     place-from 5 d
-    (by-parts (atFault 5 (heads g)) (λ k. not (any (same k) (heads g))) usedAt (bare (spots d)) (names g) (λ before x. refl) (written-names d) ∙ T-true (undefined g) h)
+    (by-parts (atFault 5 (heads g)) (λ k. not (any (same k) (heads g))) usedAt [] (bare (spots d)) (names g) (λ before x. refl) (written-names d) ∙ T-true (undefined g) h)
 
 pub place-6 : (t : Text) (g : Grammar) → Ixml t g → T (duplicate g) → (p : ℕ) × Place 6 t p
 unfolding atFault duplicate
@@ -260,16 +285,16 @@ place-6 t g d h =
 
 pub place-7 : (t : Text) (g : Grammar) → Ixml t g → T (beyond g) → (p : ℕ) × Place 7 t p
 unfolding atFault beyond
-place-7 t g d h = place-from 7 d (by-parts (atFault 7 (heads g)) (ltb 0x10ffff) hexesAt (bare (spots d)) (hexes g) (λ before x. refl) (written-hexes d) ∙ T-true (beyond g) h)
+place-7 t g d h = place-from 7 d (by-parts (atFault 7 (heads g)) (ltb 0x10ffff) hexesAt [] (bare (spots d)) (hexes g) (λ before x. refl) (written-hexes d) ∙ T-true (beyond g) h)
 
 pub place-8 : (t : Text) (g : Grammar) → Ixml t g → T (banned g) → (p : ℕ) × Place 8 t p
 unfolding atFault banned
-place-8 t g d h = place-from 8 d (by-parts (atFault 8 (heads g)) unassignable hexesAt (bare (spots d)) (hexes g) (λ before x. refl) (written-hexes d) ∙ T-true (banned g) h)
+place-8 t g d h = place-from 8 d (by-parts (atFault 8 (heads g)) unassignable hexesAt [] (bare (spots d)) (hexes g) (λ before x. refl) (written-hexes d) ∙ T-true (banned g) h)
 
 pub place-9 : (t : Text) (g : Grammar) → Ixml t g → T (backwards g) → (p : ℕ) × Place 9 t p
 unfolding atFault backwards
-place-9 t g d h = place-from 9 d (by-parts (atFault 9 (heads g)) runsBack membersAt (bare (spots d)) (members g) (λ before x. refl) (written-members d) ∙ T-true (backwards g) h)
+place-9 t g d h = place-from 9 d (by-parts (atFault 9 (heads g)) runsBack membersAt [] (bare (spots d)) (members g) (λ before x. refl) (written-members d) ∙ T-true (backwards g) h)
 
 pub place-10 : (t : Text) (g : Grammar) → Ixml t g → T (unclassed g) → (p : ℕ) × Place 10 t p
 unfolding atFault unclassed
-place-10 t g d h = place-from 10 d (by-parts (atFault 10 (heads g)) noClass membersAt (bare (spots d)) (members g) (λ before x. refl) (written-members d) ∙ T-true (unclassed g) h)
+place-10 t g d h = place-from 10 d (by-parts (atFault 10 (heads g)) noClass membersAt [] (bare (spots d)) (members g) (λ before x. refl) (written-members d) ∙ T-true (unclassed g) h)

@@ -1,0 +1,21 @@
+use mathlib.Core.Path.{sym, _∙_}
+use Rattle.locate.specs.Spots.{shown}
+use Rattle.locate.proofs.Modes.{afresh}
+use borrow.Author.Needs.{needs}
+use Rattle.locate.proofs.spots.step.Statement.{statement}
+use Rattle.locate.proofs.spots.step.Tie as tie
+
+within-requires : tie.Need-within-requires
+within-requires c κs = record { on = sym (c .before .pre .is) ∙ c .if1 .taken; deep = c .before .pre .deep }
+
+returns : tie.Need-returns
+returns c = search needs
+
+onward-requires : tie.Need-onward-requires
+onward-requires c κs = search needs
+
+returns-2 : tie.Need-returns-2
+returns-2 c = c .onward .ensures ∙ afresh (shown (c .before .before .args .mode) (c .before .before .args .of)) (c .before .before .args .c) (sym (c .before .before .pre .is) ∙ c .before .if1 .left)
+
+pub step-spec : {M : Type 1} → statement M
+step-spec = tie.close (tie.spec within-requires returns onward-requires returns-2)
