@@ -22,7 +22,8 @@ use Rattle.derive.specs.Yield.{unproductive}
 use Rattle.places.proofs.Fronted.{same-tree}
 use Rattle.answer.specs.Answer.{GrammarText, Job, job, Shown, asNumbers, asXml, Answer, Checks, Reads, Converts}
 use Rattle.answer.specs.Compute.{Test, test, firstOf, onText, onTree, isText, isTree, afterMark as treeAfter, treeOf, grammarTests, recordTests, documentTests, longTest}
-use Rattle.answer.specs.Compute.{Value, value, valueAt, Values, grammarValues, inputValues, placeValues, Result, result, resultOf, resultBy, Outcome, outcome, mismatch, checkOf, readOf, convertOf}
+use Rattle.answer.specs.Compute.{Value, value, valueAt, Values, grammarValues, inputValues, placeValues}
+use Rattle.answer.specs.Compute.{Result, result, resultOf, resultBy, Outcome, outcome, mismatch, checkOf, readOf, convertOf}
 use Rattle.answer.specs.Fronted.{Fronts, Past, Alike, FrontedLaws}
 use Rattle.answer.proofs.Noted.{value-skip}
 use Rattle.answer.proofs.Settled.{check-settled, read-settled, convert-settled}
@@ -81,7 +82,8 @@ tree-of bs t x = ap treeAfter (decode-complete bs (x .0) (x .1)) ∙ ap parse (s
 
 one-tree : (bs bs' : List ℕ) → Fronts bs bs' → onText (decode bs) (λ cs. not (isTree (parse (unmarked cs)))) ≡ false → OneTree bs bs'
 one-tree bs bs' f e = go (parse (f .text)) refl
-    (sym (ap (λ (d : Decoded). onText d (λ cs. not (isTree (parse (unmarked cs))))) (decode-complete bs (f .first .0) (f .first .1)) ∙ ap (λ (c : Text). not (isTree (parse c))) (sym (f .first .2))) ∙ e)
+    (sym (ap (λ (d : Decoded). onText d (λ cs. not (isTree (parse (unmarked cs))))) (decode-complete bs (f .first .0) (f .first .1))
+    ∙ ap (λ (c : Text). not (isTree (parse c))) (sym (f .first .2))) ∙ e)
   where
     go : (p : Parsed) → parse (f .text) ≡ p → not (isTree p) ≡ false → OneTree bs bs'
     go (parsed g) q h = record {
@@ -170,7 +172,8 @@ module _ (gs gs' rs : List ℕ) (main second : ℕ) (f : Fronts gs gs') (old new
 
   -- by what the call's answers are, and that its tests depend on the tree alone
   by-calls : ((t : OneTree gs gs') → firstOf (recordTests first (ts first)) ≡ firstOf (recordTests next (ts next)))
-      → (a ≡ madeOf first .answer) × (new ≡ madeOf first .buffer) → (a' ≡ madeOf next .answer) × (new' ≡ madeOf next .buffer) → Past (a .number) → Past (a' .number) → Alike a a' × (new ≡ new')
+      → (a ≡ madeOf first .answer) × (new ≡ madeOf first .buffer) → (a' ≡ madeOf next .answer) × (new' ≡ madeOf next .buffer)
+      → Past (a .number) → Past (a' .number) → Alike a a' × (new ≡ new')
   by-calls h e e' z z' =
       let v = inputValues rs [] in
       let n = firstOf (grammarTests gs (recordTests first (ts first))) in

@@ -120,5 +120,6 @@ unfolding table buffer job answer placed filled passes leaves same-answer same-p
     decoding.decode decoding.breakIn decoding.breakOf category.categories category.classes category.isClass
     static.undefined static.duplicate static.beyond static.unassignable static.banned static.codeOf static.runsBack static.backwards static.noClass static.unclassed plain.size
     names.xmlChar names.nameStart names.nameChar names.xmlName document.twice document.misnamed document.unwritable document.isAttribute document.notOne document.namespaced bytes.escape bytes.bytes
-    static.mismatched utf8.width ranks.total ranks.codeAt ranks.rankIn ranks.someKnown yield.unproductive scan.sign scan.opens scan.onward scan.lefts place.atFault places.placeOf compute.treeOf checkOf readOf convertOf
+    static.mismatched utf8.width ranks.total ranks.codeAt ranks.rankIn ranks.someKnown yield.unproductive
+    scan.sign scan.opens scan.onward scan.lefts place.atFault places.placeOf compute.treeOf checkOf readOf convertOf
 cases-hold = every table tt

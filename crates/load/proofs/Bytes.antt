@@ -150,7 +150,8 @@ too-long bs l = record { some = λ e. omega arith; early = inl (omega arith); fi
 between-of : (g : Grammar) (n : ℕ) → Refuses g n → (5 ≤ n) × (n ≤ 11)
 between-of g n r = by (undefined g) (duplicate g) (beyond g) (banned g) (backwards g) (unclassed g) (ltb mostSize (size g)) (r .first [])
   where
-    by : (a b c d e f s : Bool) → firstOf (test 5 (λ _. a) ∷ test 6 (λ _. b) ∷ test 7 (λ _. c) ∷ test 8 (λ _. d) ∷ test 9 (λ _. e) ∷ test 10 (λ _. f) ∷ test 11 (λ _. s) ∷ []) ≡ n → (5 ≤ n) × (n ≤ 11)
+    by : (a b c d e f s : Bool) → firstOf (test 5 (λ _. a) ∷ test 6 (λ _. b) ∷ test 7 (λ _. c) ∷ test 8 (λ _. d) ∷ test 9 (λ _. e) ∷ test 10 (λ _. f)
+        ∷ test 11 (λ _. s) ∷ []) ≡ n → (5 ≤ n) × (n ≤ 11)
     by true b c d e f s q = (omega arith, omega arith)
     by false true c d e f s q = (omega arith, omega arith)
     by false false true d e f s q = (omega arith, omega arith)
@@ -161,7 +162,8 @@ between-of g n r = by (undefined g) (duplicate g) (beyond g) (banned g) (backwar
     by false false false false false false false q = absurd (r .some (sym q))
 
 -- a refusal from 4 on
-late-turned : (bs : List ℕ) (p : ℕ) (d : Diagnostic) → d ≡ atCharacter (d .number) p → valueAt (placeValues bs) (d .number) ≡ p → (d .number ≡ 0 → ⊥) → 4 ≤ d .number → d .number ≤ 11
+late-turned : (bs : List ℕ) (p : ℕ) (d : Diagnostic) → d ≡ atCharacter (d .number) p → valueAt (placeValues bs) (d .number) ≡ p
+    → (d .number ≡ 0 → ⊥) → 4 ≤ d .number → d .number ≤ 11
     → ((ts : List Test) → firstOf (grammarTests bs ts) ≡ d .number) → Turned bs d
 late-turned bs p d e g z l h f = record { some = z; early = inl h; first = f; places = ap (λ (x : Diagnostic). placesOf (x .places)) e ∙ sym (at (d .number) l g) }
   where

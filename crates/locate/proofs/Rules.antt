@@ -103,7 +103,8 @@ module _ (f : List Part → Part → Bool) (done : List Part) (a b : Chars) (h :
   which false e = second-of f done (member (range a b)) (to b) e h
 
 module _ (hs : List Text) (done : List Part) (a b : Chars) where
-  range-7 : hits (atFault 7 hs) done (member (range a b) ∷ to b ∷ []) ≡ true → index (atFault 7 hs) done (member (range a b) ∷ to b ∷ []) ≡ pick (any (badCode 7) (endCodes (endFlag a) (endCode a))) 0 1
+  range-7 : hits (atFault 7 hs) done (member (range a b) ∷ to b ∷ []) ≡ true
+      → index (atFault 7 hs) done (member (range a b) ∷ to b ∷ []) ≡ pick (any (badCode 7) (endCodes (endFlag a) (endCode a))) 0 1
   unfolding atFault
   range-7 h = which (atFault 7 hs) done a b h (any (badCode 7) (endCodes (endFlag a) (endCode a))) (sym (ap (any (badCode 7)) (end-codes a) ∙ seven (hexIn a)))
 

@@ -132,7 +132,10 @@ module _ (t : List ℕ) (end : ℕ) (list : List ℕ) (n rule : ℕ) where
   module _ (s : Searching t end list n) where
     pub start : Sought 0 0 0
     start = record {
-      reached = record { low = omega arith; go = λ ts h. (ts, h, record { done = []; first = λ g. omega arith; later = s .indexed .heads ts h ∙ heads-tokens ts; looks = λ k. refl; fine = λ g. g }) };
+      reached = record {
+        low = omega arith;
+        go = λ ts h. (ts, h, record { done = []; first = λ g. omega arith; later = s .indexed .heads ts h ∙ heads-tokens ts; looks = λ k. refl; fine = λ g. g });
+      };
       few = omega arith;
       small = omega arith;
     }
@@ -218,12 +221,14 @@ module _ (t : List ℕ) (end : ℕ) (list : List ℕ) (n rule : ℕ) where
                 record {
                   done = onto d ps;
                   first = λ g.
-                      a .related .first g ∙ ap (_+_ spot) (index-miss f d ps (partsOf (a .later)) (told ts u g ∙ q) ∙ ap (λ (j : ℕ). j + index f (onto d ps) (partsOf (a .later))) (sym (count-is ts u)))
+                      a .related .first g
+                      ∙ ap (_+_ spot) (index-miss f d ps (partsOf (a .later)) (told ts u g ∙ q) ∙ ap (λ (j : ℕ). j + index f (onto d ps) (partsOf (a .later))) (sym (count-is ts u)))
                       ∙ shift spot c (index f (onto d ps) (partsOf (a .later)));
                   later = sym (drop-drop m before hs) ∙ ap (drop m) (rest-is ts u) ∙ ap (λ (j : ℕ). drop j (ys ++ zs)) (heads-is ts u) ∙ drop-append-seam ys zs;
                   looks = λ k.
                       any-onto (same k) d ps ∙ ap (λ (b : Bool). b || any (same k) ys) (a .related .looks k) ∙ sym (any-append (same k) (take before hs) ys)
-                      ∙ ap (any (same k)) (sym (take-add before m hs ∙ ap (_++_ (take before hs)) (ap (take m) (rest-is ts u) ∙ ap (λ (j : ℕ). take j (ys ++ zs)) (heads-is ts u) ∙ take-append-seam ys zs)));
+                      ∙ ap (any (same k)) (sym (take-add before m hs
+                      ∙ ap (_++_ (take before hs)) (ap (take m) (rest-is ts u) ∙ ap (λ (j : ℕ). take j (ys ++ zs)) (heads-is ts u) ∙ take-append-seam ys zs)));
                   fine = λ g. fine-later rule (a .first) (a .later) (a .related .fine g);
                 }
               where

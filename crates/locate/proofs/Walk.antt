@@ -30,7 +30,8 @@ pub walk-start : (t : Text) (old : List ℕ) → Walked t old old 0 0 scan.betwe
 walk-start t old =
     record { size = refl; place = omega arith; few = omega arith; low = omega arith; found = []; count = refl; split = refl; each = λ k l. absurd (omega arith) }
 
-at-text : (t : Text) (i : ℕ) (s : scan.State) → i < length t → lefts s (drop i t) ≡ pick (begins s (getD t i 0)) (suc (length (drop (i + 1) t)) ∷ []) [] ++ lefts (step s (getD t i 0)) (drop (i + 1) t)
+at-text : (t : Text) (i : ℕ) (s : scan.State) → i < length t
+    → lefts s (drop i t) ≡ pick (begins s (getD t i 0)) (suc (length (drop (i + 1) t)) ∷ []) [] ++ lefts (step s (getD t i 0)) (drop (i + 1) t)
 unfolding lefts
 at-text t i s h = rw (at-char t i h)
 
@@ -96,7 +97,8 @@ module _ (t : Text) (old places : List ℕ) (n i : ℕ) (s : scan.State) (w : Wa
         ];
       })
 
-  pub walk : n < length places → (r : ℕ) (new : List ℕ) (s' : scan.State) → r ≡ pick b (n + 1) n → new ≡ pick b (set places n i) places → s' ≡ step s (getD t i 0) → Walked t old new r (i + 1) s'
+  pub walk : n < length places → (r : ℕ) (new : List ℕ) (s' : scan.State) → r ≡ pick b (n + 1) n → new ≡ pick b (set places n i) places
+      → s' ≡ step s (getD t i 0) → Walked t old new r (i + 1) s'
   walk h r new s' x y q = go b refl
     where
       go : (a : Bool) → b ≡ a → Walked t old new r (i + 1) s'

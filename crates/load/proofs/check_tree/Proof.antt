@@ -18,7 +18,9 @@ use Rattle.text.proofs.plain.Reads as plain-reads
 
 -- src/lib.rt:77:9
 static-refusal-requires : tie.Need-static-refusal-requires
-static-refusal-requires c κs = static-asks (c .before .before .args .text .now) (c .before .before .args .table .now) (c .before .before .args .end) (c .before .before .pre)
+static-refusal-requires c κs =
+    let start = c .before .before in
+    static-asks (start .args .text .now) (start .args .table .now) (start .args .end) (start .pre)
 
 enum-told : tie.Need-enum-told
 enum-told c = search needs
@@ -30,9 +32,13 @@ why-broken-requires c κs = search needs
 -- src/lib.rt:80:13
 fault-place-requires : tie.Need-fault-place-requires
 fault-place-requires c κs =
-    place-asks (c .before .before .before .before .before .args .text .now) (c .before .before .before .before .before .args .table .now) (c .before .before .before .before .before .args .end) (c .before .before .before .before .before .pre) (c .before .before .static-refusal .result) (c .why-broken .result) (c .before .match .keys2)
-    (c .why-broken .ensures) (c .before .before .static-refusal .ensures (c .before .before .before .before .before .pre .grammar)
-    (to-static (c .before .before .before .before .before .args .table .now) (c .before .before .before .before .before .args .end) (c .before .before .before .before .before .pre .grammar) (c .before .before .before .before .before .pre .within) (c .before .before .before .before .before .pre .stands)))
+    let at-match = c .before in
+    let at-static-refusal = at-match .before in
+    let start = at-static-refusal .before .before .before in
+    place-asks (start .args .text .now) (start .args .table .now) (start .args .end) (start .pre) (at-static-refusal .static-refusal .result) (c .why-broken .result)
+    (at-match .match .keys2)
+    (c .why-broken .ensures) (at-static-refusal .static-refusal .ensures (start .pre .grammar)
+    (to-static (start .args .table .now) (start .args .end) (start .pre .grammar) (start .pre .within) (start .pre .stands)))
 
 -- src/lib.rt:81:32
 at-character-requires : tie.Need-at-character-requires
@@ -41,15 +47,24 @@ at-character-requires c κs = search needs
 -- src/lib.rt:81:9
 returns : tie.Need-returns
 returns c =
+    let at-fault-place = c .before in
+    let at-why-broken = at-fault-place .before in
+    let at-match = at-why-broken .before in
+    let at-static-refusal = at-match .before in
+    let start = at-static-refusal .before .before .before in
     λ g h.
-    let e = c .before .before .before .before .static-refusal .ensures g (to-static (c .before .before .before .before .before .before .before .args .table .now) (c .before .before .before .before .before .before .before .args .end) g (c .before .before .before .before .before .before .before .pre .within) h) in
-    placed-is (Refuses g) (c .before .before .before .before .before .before .before .args .text .now) (c .before .before .why-broken .result) (c .before .fault-place .result .0) (c .at-character .result) (c .at-character .ensures)
-    (place-for (c .before .before .before .before .before .before .before .args .text .now) (c .before .before .why-broken .result) (c .before .fault-place .result .0) (at-most-10 g (c .before .before .why-broken .result) (c .before .before .why-broken .ensures ∙ e)) (c .before .fault-place .ensures))
-    (broken g (c .before .before .before .before .static-refusal .result) (c .before .before .why-broken .result) (c .before .before .before .match .keys2) (c .before .before .why-broken .ensures) e)
+    let e = at-static-refusal .static-refusal .ensures g (to-static (start .args .table .now) (start .args .end) g (start .pre .within) h) in
+    placed-is (Refuses g) (start .args .text .now) (at-why-broken .why-broken .result) (at-fault-place .fault-place .result .0) (c .at-character .result)
+    (c .at-character .ensures)
+    (place-for (start .args .text .now) (at-why-broken .why-broken .result) (at-fault-place .fault-place .result .0)
+    (at-most-10 g (at-why-broken .why-broken .result) (at-why-broken .why-broken .ensures ∙ e)) (at-fault-place .fault-place .ensures))
+    (broken g (at-static-refusal .static-refusal .result) (at-why-broken .why-broken .result) (at-match .match .keys2) (at-why-broken .why-broken .ensures) e)
 
 -- src/lib.rt:83:9
 grammar-size-requires : tie.Need-grammar-size-requires
-grammar-size-requires c κs = size-asks (c .before .before .before .before .before .args .text .now) (c .before .before .before .before .before .args .table .now) (c .before .before .before .before .before .args .end) (c .before .before .before .before .before .pre)
+grammar-size-requires c κs =
+    let start = c .before .before .before .before .before in
+    size-asks (start .args .text .now) (start .args .table .now) (start .args .end) (start .pre)
 
 -- src/lib.rt:85:32
 plain-requires : tie.Need-plain-requires
@@ -58,24 +73,34 @@ plain-requires c κs = search needs
 -- src/lib.rt:85:9
 returns-2 : tie.Need-returns-2
 returns-2 c =
-    λ g h. plain-is (Refuses g) (c .before .before .before .before .before .before .before .before .args .text .now) (c .plain .result) (c .plain .ensures)
-    (size-refuses g (c .before .before .grammar-size .result)
-    (kept g (c .before .before .before .before .before .static-refusal .result) (c .before .before .before .enum-told .given .1)
-    (c .before .before .before .before .before .static-refusal .ensures g (to-static (c .before .before .before .before .before .before .before .before .args .table .now) (c .before .before .before .before .before .before .before .before .args .end) g (c .before .before .before .before .before .before .before .before .pre .within) h)))
-    (c .before .before .grammar-size .ensures g (to-size (c .before .before .before .before .before .before .before .before .args .table .now) (c .before .before .before .before .before .before .before .before .args .end) g h)) (search needs))
+    let at-grammar-size = c .before .before in
+    let at-enum-told = at-grammar-size .before in
+    let at-static-refusal = at-enum-told .before .before in
+    let start = at-static-refusal .before .before .before in
+    λ g h. plain-is (Refuses g) (start .args .text .now) (c .plain .result) (c .plain .ensures)
+    (size-refuses g (at-grammar-size .grammar-size .result)
+    (kept g (at-static-refusal .static-refusal .result) (at-enum-told .enum-told .given .1)
+    (at-static-refusal .static-refusal .ensures g (to-static (start .args .table .now) (start .args .end) g (start .pre .within) h)))
+    (at-grammar-size .grammar-size .ensures g (to-size (start .args .table .now) (start .args .end) g h)) (search needs))
 
 -- src/lib.rt:87:9
 version-mismatch-requires : tie.Need-version-mismatch-requires
-version-mismatch-requires c κs = static-asks (c .before .before .before .before .before .before .before .args .text .now) (c .before .before .before .before .before .before .before .args .table .now) (c .before .before .before .before .before .before .before .args .end) (c .before .before .before .before .before .before .before .pre)
+version-mismatch-requires c κs =
+    let start = c .before .before .before .before .before .before .before in
+    static-asks (start .args .text .now) (start .args .table .now) (start .args .end) (start .pre)
 
 -- src/lib.rt:73:1
 returns-3 : tie.Need-returns-3
 returns-3 c =
-    λ g h. passes g (c .before .before .before .before .before .before .before .before .args .end) (c .before .before .grammar-size .result) (c .version-mismatch .result)
-    (kept g (c .before .before .before .before .before .static-refusal .result) (c .before .before .before .enum-told .given .1)
-    (c .before .before .before .before .before .static-refusal .ensures g (to-static (c .before .before .before .before .before .before .before .before .args .table .now) (c .before .before .before .before .before .before .before .before .args .end) g (c .before .before .before .before .before .before .before .before .pre .within) h)))
-    (c .before .before .grammar-size .ensures g (to-size (c .before .before .before .before .before .before .before .before .args .table .now) (c .before .before .before .before .before .before .before .before .args .end) g h)) (search needs)
-    (c .version-mismatch .ensures g (to-static (c .before .before .before .before .before .before .before .before .args .table .now) (c .before .before .before .before .before .before .before .before .args .end) g (c .before .before .before .before .before .before .before .before .pre .within) h))
+    let at-grammar-size = c .before .before in
+    let at-enum-told = at-grammar-size .before in
+    let at-static-refusal = at-enum-told .before .before in
+    let start = at-static-refusal .before .before .before in
+    λ g h. passes g (start .args .end) (at-grammar-size .grammar-size .result) (c .version-mismatch .result)
+    (kept g (at-static-refusal .static-refusal .result) (at-enum-told .enum-told .given .1)
+    (at-static-refusal .static-refusal .ensures g (to-static (start .args .table .now) (start .args .end) g (start .pre .within) h)))
+    (at-grammar-size .grammar-size .ensures g (to-size (start .args .table .now) (start .args .end) g h)) (search needs)
+    (c .version-mismatch .ensures g (to-static (start .args .table .now) (start .args .end) g (start .pre .within) h))
 
 pub check-tree-spec : {M : Type 1} → statement M
 check-tree-spec =

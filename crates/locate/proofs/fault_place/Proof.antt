@@ -21,8 +21,13 @@ look-requires c κs = search needs
 
 returns : tie.Need-returns
 returns c =
-    law.place-at (now (c .before .before .before .before .before .before .before .before .args .text)) (now (c .before .before .before .before .before .before .before .before .args .table)) (c .before .before .before .before .before .before .before .before .args .end) (c .before .before .before .before .before .before .before .before .args .rule) (c .before .before .before .before .before .before .before .before .pre) _ (c .before .before .first-fault .result) (c .look .result) (c .before .before .before .before .locate .ensures)
-    (c .before .before .first-fault .ensures (c .before .before .before .before .before .before .before .before .pre .grammar) (c .before .before .before .before .before .before .before .before .pre .holds) (law.rated (now (c .before .before .before .before .before .before .before .before .args .text)) (now (c .before .before .before .before .before .before .before .before .args .table)) (c .before .before .before .before .before .before .before .before .args .end) (c .before .before .before .before .before .before .before .before .args .rule) (c .before .before .before .before .before .before .before .before .pre)))
+    let at-first-fault = c .before .before in
+    let at-locate = at-first-fault .before .before in
+    let start = at-locate .before .before .before .before in
+    law.place-at (now (start .args .text)) (now (start .args .table)) (start .args .end) (start .args .rule) (start .pre) _ (at-first-fault .first-fault .result)
+    (c .look .result) (at-locate .locate .ensures)
+    (at-first-fault .first-fault .ensures (start .pre .grammar) (start .pre .holds)
+    (law.rated (now (start .args .text)) (now (start .args .table)) (start .args .end) (start .args .rule) (start .pre)))
     (c .look .ensures .0)
 
 pub fault-place-spec : {M : Type 1} → statement M

@@ -9,21 +9,29 @@ slice-aggregate-heads : tie.Need-slice-aggregate-heads
 slice-aggregate-heads c = search needs
 
 heads-requires : tie.Need-heads-requires
-heads-requires c κs = record { some = some-tokens (now (c .before .before .args .table)) (c .before .before .args .end) (c .before .before .pre); short = c .before .before .pre .short; room = c .before .before .pre .short }
+heads-requires c κs =
+    let start = c .before .before in
+    record { some = some-tokens (now (start .args .table)) (start .args .end) (start .pre); short = start .pre .short; room = start .pre .short }
 
 slice-aggregate-search : tie.Need-slice-aggregate-search
 slice-aggregate-search c = search needs
 
 search-requires : tie.Need-search-requires
 search-requires c κs =
+    let at-heads = c .before .before in
+    let start = at-heads .before .before .before in
     record {
-      scanning = record { some = some-tokens (now (c .before .before .before .before .before .args .table)) (c .before .before .before .before .before .args .end) (c .before .before .before .before .before .pre); listing = c .before .before .heads .ensures .listing };
-      indexed = c .before .before .heads .ensures;
-      short = c .before .before .before .before .before .pre .short;
+      scanning = record { some = some-tokens (now (start .args .table)) (start .args .end) (start .pre); listing = at-heads .heads .ensures .listing };
+      indexed = at-heads .heads .ensures;
+      short = start .pre .short;
     }
 
 returns : tie.Need-returns
-returns c = law.fault-at (now (c .before .before .before .before .before .before .args .table)) (c .before .before .before .before .before .before .args .end) _ (c .before .before .before .heads .result) (c .before .before .before .before .before .before .args .rule) (c .search .result) (c .before .before .before .heads .ensures) (c .search .ensures)
+returns c =
+    let at-heads = c .before .before .before in
+    let start = at-heads .before .before .before in
+    law.fault-at (now (start .args .table)) (start .args .end) _ (at-heads .heads .result) (start .args .rule) (c .search .result) (at-heads .heads .ensures)
+    (c .search .ensures)
 
 pub first-fault-spec : {M : Type 1} → statement M
 first-fault-spec =

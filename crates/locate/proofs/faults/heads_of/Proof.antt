@@ -9,16 +9,24 @@ mul-form : tie.Need-mul-form
 mul-form c = search needs
 
 shared-slice-read-form : tie.Need-shared-slice-read-form
-shared-slice-read-form c = forms.first-in (now (c .before .before .args .table)) (c .before .before .args .k) (c .before .before .pre)
+shared-slice-read-form c =
+    let start = c .before .before in
+    forms.first-in (now (start .args .table)) (start .args .k) (start .pre)
 
 form-requires : tie.Need-form-requires
 form-requires c κs = search needs
 
 returns : tie.Need-returns
-returns c = rw (law.is-headed (now (c .before .before .before .before .args .table)) (c .before .before .before .before .args .k) (c .before .form .result) (c .before .form .ensures) (c .if1 .taken))
+returns c =
+    let at-form = c .before in
+    let start = at-form .before .before .before in
+    rw (law.is-headed (now (start .args .table)) (start .args .k) (at-form .form .result) (at-form .form .ensures) (c .if1 .taken))
 
 returns-2 : tie.Need-returns-2
-returns-2 c = rw (law.not-headed (now (c .before .before .before .before .args .table)) (c .before .before .before .before .args .k) (c .before .form .result) (c .before .form .ensures) (c .if1 .left))
+returns-2 c =
+    let at-form = c .before in
+    let start = at-form .before .before .before in
+    rw (law.not-headed (now (start .args .table)) (start .args .k) (at-form .form .result) (at-form .form .ensures) (c .if1 .left))
 
 pub heads-of-spec : {M : Type 1} → statement M
 heads-of-spec =

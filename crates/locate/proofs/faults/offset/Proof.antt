@@ -16,13 +16,19 @@ mul-form : tie.Need-mul-form
 mul-form c = search needs
 
 shared-slice-read-form : tie.Need-shared-slice-read-form
-shared-slice-read-form c = forms.first-in (now (c .before .before .before .args .table)) (c .before .before .before .args .k) (c .before .before .before .pre)
+shared-slice-read-form c =
+    let start = c .before .before .before in
+    forms.first-in (now (start .args .table)) (start .args .k) (start .pre)
 
 form-requires : tie.Need-form-requires
 form-requires c κs = search needs
 
 returns-2 : tie.Need-returns-2
-returns-2 c = offset-none (now (c .before .before .before .before .before .args .table)) (c .before .before .before .before .before .args .k) (c .before .form .result) (c .before .form .ensures) (c .before .before .before .before .before .args .rule) (c .before .before .before .if1 .left) (c .if2 .taken)
+returns-2 c =
+    let at-form = c .before in
+    let at-if1 = at-form .before .before in
+    let start = at-if1 .before .before in
+    offset-none (now (start .args .table)) (start .args .k) (at-form .form .result) (at-form .form .ensures) (start .args .rule) (at-if1 .if1 .left) (c .if2 .taken)
 
 add-bad-end : tie.Need-add-bad-end
 add-bad-end c = search needs
@@ -31,7 +37,15 @@ mul-bad-end : tie.Need-mul-bad-end
 mul-bad-end c = search needs
 
 shared-slice-read-bad-end : tie.Need-shared-slice-read-bad-end
-shared-slice-read-bad-end c = omega (arith, forms.sized (now (c .before .before .before .before .before .before .args .table)) (c .before .before .before .before .before .before .args .k) (c .before .before .before .before .before .before .pre) (c .before .before .form .result) 5 (c .before .before .form .ensures) (forms.length-range _ _ (c .before .if2 .left)))
+shared-slice-read-bad-end c =
+    let at-if2 = c .before in
+    let at-form = at-if2 .before in
+    let start = at-form .before .before .before .before in
+    omega (
+      arith,
+      forms.sized (now (start .args .table)) (start .args .k) (start .pre) (at-form .form .result) 5 (at-form .form .ensures)
+          (forms.length-range _ _ (at-if2 .if2 .left)),
+    )
 
 add-bad-end-2 : tie.Need-add-bad-end-2
 add-bad-end-2 c = search needs
@@ -40,16 +54,38 @@ mul-bad-end-2 : tie.Need-mul-bad-end-2
 mul-bad-end-2 c = search needs
 
 shared-slice-read-bad-end-2 : tie.Need-shared-slice-read-bad-end-2
-shared-slice-read-bad-end-2 c = omega (arith, forms.sized (now (c .before .before .before .before .before .before .before .args .table)) (c .before .before .before .before .before .before .before .args .k) (c .before .before .before .before .before .before .before .pre) (c .before .before .before .form .result) 5 (c .before .before .before .form .ensures) (forms.length-range _ _ (c .before .before .if2 .left)))
+shared-slice-read-bad-end-2 c =
+    let at-if2 = c .before .before in
+    let at-form = at-if2 .before in
+    let start = at-form .before .before .before .before in
+    omega (
+      arith,
+      forms.sized (now (start .args .table)) (start .args .k) (start .pre) (at-form .form .result) 5 (at-form .form .ensures)
+          (forms.length-range _ _ (at-if2 .if2 .left)),
+    )
 
 bad-end-requires : tie.Need-bad-end-requires
 bad-end-requires c κs = search needs
 
 returns-3 : tie.Need-returns-3
-returns-3 c = sym (ap (λ (b : Bool). pick b 0 1) (c .if3 .taken)) ∙ offset-range (now (c .before .before .before .before .before .before .before .before .before .args .table)) (c .before .before .before .before .before .before .before .before .before .args .k) (c .before .before .before .before .before .form .result) (c .before .before .before .before .before .form .ensures) (c .before .before .before .before .before .before .before .before .before .args .rule) (c .before .bad-end .result) (c .before .before .before .before .before .before .before .if1 .left) (c .before .before .before .before .if2 .left) (c .before .bad-end .ensures)
+returns-3 c =
+    let at-bad-end = c .before in
+    let at-if2 = at-bad-end .before .before .before in
+    let at-form = at-if2 .before in
+    let at-if1 = at-form .before .before in
+    let start = at-if1 .before .before in
+    sym (ap (λ (b : Bool). pick b 0 1) (c .if3 .taken)) ∙ offset-range (now (start .args .table)) (start .args .k) (at-form .form .result) (at-form .form .ensures)
+    (start .args .rule) (at-bad-end .bad-end .result) (at-if1 .if1 .left) (at-if2 .if2 .left) (at-bad-end .bad-end .ensures)
 
 returns-4 : tie.Need-returns-4
-returns-4 c = sym (ap (λ (b : Bool). pick b 0 1) (c .if3 .left)) ∙ offset-range (now (c .before .before .before .before .before .before .before .before .before .args .table)) (c .before .before .before .before .before .before .before .before .before .args .k) (c .before .before .before .before .before .form .result) (c .before .before .before .before .before .form .ensures) (c .before .before .before .before .before .before .before .before .before .args .rule) (c .before .bad-end .result) (c .before .before .before .before .before .before .before .if1 .left) (c .before .before .before .before .if2 .left) (c .before .bad-end .ensures)
+returns-4 c =
+    let at-bad-end = c .before in
+    let at-if2 = at-bad-end .before .before .before in
+    let at-form = at-if2 .before in
+    let at-if1 = at-form .before .before in
+    let start = at-if1 .before .before in
+    sym (ap (λ (b : Bool). pick b 0 1) (c .if3 .left)) ∙ offset-range (now (start .args .table)) (start .args .k) (at-form .form .result) (at-form .form .ensures)
+    (start .args .rule) (at-bad-end .bad-end .result) (at-if1 .if1 .left) (at-if2 .if2 .left) (at-bad-end .bad-end .ensures)
 
 pub offset-spec : {M : Type 1} → statement M
 offset-spec =

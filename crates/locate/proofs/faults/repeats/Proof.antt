@@ -13,31 +13,42 @@ mul-form : tie.Need-mul-form
 mul-form c = search needs
 
 shared-slice-read-form : tie.Need-shared-slice-read-form
-shared-slice-read-form c = forms.first-in (now (c .before .before .before .args .table)) (c .before .before .before .args .k) (c .before .before .before .pre .fits)
+shared-slice-read-form c =
+    let start = c .before .before .before in
+    forms.first-in (now (start .args .table)) (start .args .k) (start .pre .fits)
 
 form-requires : tie.Need-form-requires
 form-requires c κs = search needs
 
 returns : tie.Need-returns
-returns c = repeats-none (now (c .before .before .before .before .before .args .table)) (c .before .before .before .before .before .args .k) (c .before .form .result) (c .before .form .ensures) (namesAt (now (c .before .before .before .before .before .args .table)) (take (c .before .before .before .before .before .args .before) (now (c .before .before .before .before .before .args .index)))) (c .if1 .taken)
+returns c =
+    let at-form = c .before in
+    let start = at-form .before .before .before .before in
+    repeats-none (now (start .args .table)) (start .args .k) (at-form .form .result) (at-form .form .ensures)
+    (namesAt (now (start .args .table)) (take (start .args .before) (now (start .args .index)))) (c .if1 .taken)
 
 found-requires : tie.Need-found-requires
 found-requires c κs =
+    let at-form = c .before in
+    let start = at-form .before .before .before .before in
     let e = c .if1 .left in record {
       name = omega (
         arith,
-        forms.sized (now (c .before .before .before .before .before .args .table)) (c .before .before .before .before .before .args .k) (c .before .before .before .before .before .pre .fits)
-            (c .before .form .result) (getD (now (c .before .before .before .before .before .args .table)) ((c .before .before .before .before .before .args .k) + 1) 0 + 2) (c .before .form .ensures)
-            (forms.length-text (c .before .form .result) (getD (now (c .before .before .before .before .before .args .table)) ((c .before .before .before .before .before .args .k) + 1) 0) (omega arith)),
+        forms.sized (now (start .args .table)) (start .args .k) (start .pre .fits)
+            (at-form .form .result) (getD (now (start .args .table)) ((start .args .k) + 1) 0 + 2) (at-form .form .ensures)
+            (forms.length-text (at-form .form .result) (getD (now (start .args .table)) ((start .args .k) + 1) 0) (omega arith)),
       );
-      listing = c .before .before .before .before .before .pre .listing;
+      listing = start .pre .listing;
       low = omega arith;
     }
 
 returns-2 : tie.Need-returns-2
 returns-2 c =
-    repeats-it (now (c .before .before .before .before .before .before .args .table)) (c .before .before .before .before .before .before .args .k) (c .before .before .form .result) (c .before .before .form .ensures)
-    (namesAt (now (c .before .before .before .before .before .before .args .table)) (take (c .before .before .before .before .before .before .args .before) (now (c .before .before .before .before .before .before .args .index)))) (c .found .result) (c .before .if1 .left) (c .found .ensures)
+    let at-if1 = c .before in
+    let at-form = at-if1 .before in
+    let start = at-form .before .before .before .before in
+    repeats-it (now (start .args .table)) (start .args .k) (at-form .form .result) (at-form .form .ensures)
+    (namesAt (now (start .args .table)) (take (start .args .before) (now (start .args .index)))) (c .found .result) (at-if1 .if1 .left) (c .found .ensures)
 
 pub repeats-spec : {M : Type 1} → statement M
 repeats-spec =

@@ -13,19 +13,31 @@ standing-requires : tie.Need-standing-requires
 standing-requires c κs = search needs
 
 returns : tie.Need-returns
-returns c = ap (λ (s : State). meant s) (c .standing .ensures) ∙ deeper (c .before .before .args .depth) (c .before .before .args .c) (c .before .if1 .taken)
+returns c =
+    let at-if1 = c .before in
+    let start = at-if1 .before in
+    ap (λ (s : State). meant s) (c .standing .ensures) ∙ deeper (start .args .depth) (start .args .c) (at-if1 .if1 .taken)
 
 standing-requires-2 : tie.Need-standing-requires-2
 standing-requires-2 c κs = search needs
 
 returns-2 : tie.Need-returns-2
-returns-2 c = ap (λ (s : State). meant s) (c .standing2 .ensures) ∙ same-depth (c .before .before .before .args .depth) (c .before .before .before .args .c) (c .before .before .if1 .left) (c .before .if2 .taken)
+returns-2 c =
+    let at-if2 = c .before in
+    let at-if1 = at-if2 .before in
+    let start = at-if1 .before in
+    ap (λ (s : State). meant s) (c .standing2 .ensures) ∙ same-depth (start .args .depth) (start .args .c) (at-if1 .if1 .left) (at-if2 .if2 .taken)
 
 standing-requires-3 : tie.Need-standing-requires-3
 standing-requires-3 c κs = search needs
 
 returns-3 : tie.Need-returns-3
-returns-3 c = ap (λ (s : State). meant s) (c .standing3 .ensures) ∙ outside (c .before .before .before .before .args .depth) (c .before .before .before .before .args .c) (c .before .before .before .if1 .left) (c .before .before .if2 .left) (c .before .if3 .taken)
+returns-3 c =
+    let at-if3 = c .before in
+    let at-if2 = at-if3 .before in
+    let at-if1 = at-if2 .before in
+    let start = at-if1 .before in
+    ap (λ (s : State). meant s) (c .standing3 .ensures) ∙ outside (start .args .depth) (start .args .c) (at-if1 .if1 .left) (at-if2 .if2 .left) (at-if3 .if3 .taken)
 
 sub-standing : tie.Need-sub-standing
 sub-standing c = search needs
@@ -34,7 +46,12 @@ standing-requires-4 : tie.Need-standing-requires-4
 standing-requires-4 c κs = search needs
 
 returns-4 : tie.Need-returns-4
-returns-4 c = ap (λ (s : State). meant s) (c .standing4 .ensures) ∙ less-deep (c .before .before .before .before .args .depth) (c .before .before .before .before .args .c) (c .before .before .before .if1 .left) (c .before .before .if2 .left) (c .before .if3 .left)
+returns-4 c =
+    let at-if3 = c .before in
+    let at-if2 = at-if3 .before in
+    let at-if1 = at-if2 .before in
+    let start = at-if1 .before in
+    ap (λ (s : State). meant s) (c .standing4 .ensures) ∙ less-deep (start .args .depth) (start .args .c) (at-if1 .if1 .left) (at-if2 .if2 .left) (at-if3 .if3 .left)
 
 pub in-comment-spec : {M : Type 1} → statement M
 in-comment-spec =

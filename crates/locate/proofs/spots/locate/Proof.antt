@@ -15,7 +15,9 @@ abbrev μ-loop : tie.MeasureT-loop
 μ-loop text places₀ n₀ i₀ mode₀ of₀ places n i mode of = length text - i
 
 loop-holds : tie.Need-loop-holds Inv-loop μ-loop
-loop-holds c = law.walk-start (now (c .before .before .args .text)) (now (c .before .before .args .places))
+loop-holds c =
+    let start = c .before .before in
+    law.walk-start (now (start .args .text)) (now (start .args .places))
 
 mul-c : tie.Need-mul-c Inv-loop μ-loop
 mul-c c = search needs
@@ -31,13 +33,24 @@ begins-requires c κs = search needs
 
 put-requires : tie.Need-put-requires Inv-loop μ-loop
 put-requires c κs =
-    let p = c .before .before .before .before .before .before .before .before .pre in
-    let w = c .before .before .before .before .before .loop .inv in
-    let l = c .before .before .before .before .loop-test .taken in
+    let at-loop-test = c .before .before .before .before in
+    let at-loop = at-loop-test .before in
+    let start = at-loop .before .before .before in
+    let p = start .pre in
+    let w = at-loop .loop .inv in
+    let l = at-loop-test .loop-test .taken in
     (omega (arith, p .0, w .few, w .size), omega (arith, p .1))
 
 step-requires : tie.Need-step-requires Inv-loop μ-loop
-step-requires c κs = record { is = c .before .before .before .before .before .goes-on .ensures; deep = law.walk-deep (now (c .before .before .before .before .before .before .before .before .before .before .before .args .text)) (now (c .before .before .before .before .before .before .before .before .before .before .before .args .places)) (c .before .before .before .before .before .before .before .before .loop .places) (c .before .before .before .before .before .before .before .before .loop .n) (c .before .before .before .before .before .before .before .before .loop .i) (c .before .before .before .before .before .before .before .before .loop .mode) (c .before .before .before .before .before .before .before .before .loop .of) (c .before .before .before .before .before .before .before .before .loop .inv) (c .before .before .before .before .before .before .before .before .before .before .before .pre .1) }
+step-requires c κs =
+    let at-goes-on = c .before .before .before .before .before in
+    let at-loop = at-goes-on .before .before .before in
+    let start = at-loop .before .before .before in
+    record {
+      is = at-goes-on .goes-on .ensures;
+      deep = law.walk-deep (now (start .args .text)) (now (start .args .places)) (at-loop .loop .places) (at-loop .loop .n)
+          (at-loop .loop .i) (at-loop .loop .mode) (at-loop .loop .of) (at-loop .loop .inv) (start .pre .1);
+    }
 
 add-i : tie.Need-add-i Inv-loop μ-loop
 add-i c = search needs
@@ -47,16 +60,31 @@ loop-less c = search needs
 
 loop-again : tie.Need-loop-again Inv-loop μ-loop
 loop-again c =
-    let p = c .before .before .before .before .before .before .before .before .before .before .before .before .pre in
-    let w = c .before .before .before .before .before .before .before .before .before .loop .inv in
-    law.walk (now (c .before .before .before .before .before .before .before .before .before .before .before .before .args .text)) (now (c .before .before .before .before .before .before .before .before .before .before .before .before .args .places)) (c .before .before .before .before .before .before .before .before .before .loop .places) (c .before .before .before .before .before .before .before .before .before .loop .n) (c .before .before .before .before .before .before .before .before .before .loop .i) (shown (c .before .before .before .before .before .before .before .before .before .loop .mode) (c .before .before .before .before .before .before .before .before .before .loop .of)) (c .before .before .before .before .before .before .before .before .before .loop .inv) (c .before .before .before .before .before .before .before .before .loop-test .taken) (c .before .before .before .before .before .before .goes-on .result) (c .before .before .before .before .begins .result) (c .before .before .before .before .before .before .goes-on .ensures) (c .before .before .before .before .begins .ensures)
-    (omega (arith, p .0, w .few, w .size, c .before .before .before .before .before .before .before .before .loop-test .taken)) (c .before .before .before .put .result) _ (meant (c .step .result)) (c .before .before .before .put .ensures .0) (c .before .before .before .put .ensures .1) (c .step .ensures)
+    let at-put = c .before .before .before in
+    let at-begins = at-put .before in
+    let at-goes-on = at-begins .before .before in
+    let at-loop-test = at-goes-on .before .before in
+    let at-loop = at-loop-test .before in
+    let start = at-loop .before .before .before in
+    let p = start .pre in
+    let w = at-loop .loop .inv in
+    law.walk (now (start .args .text)) (now (start .args .places)) (at-loop .loop .places) (at-loop .loop .n) (at-loop .loop .i)
+    (shown (at-loop .loop .mode) (at-loop .loop .of)) (at-loop .loop .inv) (at-loop-test .loop-test .taken) (at-goes-on .goes-on .result) (at-begins .begins .result)
+    (at-goes-on .goes-on .ensures) (at-begins .begins .ensures)
+    (omega (arith, p .0, w .few, w .size, at-loop-test .loop-test .taken)) (at-put .put .result) _ (meant (c .step .result)) (at-put .put .ensures .0)
+    (at-put .put .ensures .1) (c .step .ensures)
 
 same-length : tie.Need-same-length Inv-loop μ-loop
-same-length c = c .before .loop .inv .size
+same-length c =
+    let at-loop = c .before in
+    at-loop .loop .inv .size
 
 returns : tie.Need-returns Inv-loop μ-loop
-returns c = law.walk-end (now (c .before .before .before .before .args .text)) (now (c .before .before .before .before .args .places)) (c .before .loop .places) (c .before .loop .n) (c .before .loop .i) (shown (c .before .loop .mode) (c .before .loop .of)) (c .before .loop .inv) (c .loop-test .left)
+returns c =
+    let at-loop = c .before in
+    let start = at-loop .before .before .before in
+    law.walk-end (now (start .args .text)) (now (start .args .places)) (at-loop .loop .places) (at-loop .loop .n) (at-loop .loop .i)
+    (shown (at-loop .loop .mode) (at-loop .loop .of)) (at-loop .loop .inv) (c .loop-test .left)
 
 pub locate-spec : {M : Type 1} → statement M
 locate-spec =

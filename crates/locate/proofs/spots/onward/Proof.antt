@@ -13,13 +13,20 @@ standing-requires : tie.Need-standing-requires
 standing-requires c κs = search needs
 
 returns : tie.Need-returns
-returns c = ap (λ (s : State). meant s) (c .standing .ensures) ∙ onward-name _ (sym (c .before .before .name-start .ensures) ∙ c .before .if1 .taken)
+returns c =
+    let at-if1 = c .before in
+    let at-name-start = at-if1 .before in
+    ap (λ (s : State). meant s) (c .standing .ensures) ∙ onward-name _ (sym (at-name-start .name-start .ensures) ∙ at-if1 .if1 .taken)
 
 standing-requires-2 : tie.Need-standing-requires-2
 standing-requires-2 c κs = search needs
 
 returns-2 : tie.Need-returns-2
-returns-2 c = ap (λ (s : State). meant s) (c .standing2 .ensures) ∙ onward-hash _ (sym (c .before .before .before .name-start .ensures) ∙ c .before .before .if1 .left) (c .before .if2 .taken)
+returns-2 c =
+    let at-if2 = c .before in
+    let at-if1 = at-if2 .before in
+    let at-name-start = at-if1 .before in
+    ap (λ (s : State). meant s) (c .standing2 .ensures) ∙ onward-hash _ (sym (at-name-start .name-start .ensures) ∙ at-if1 .if1 .left) (at-if2 .if2 .taken)
 
 quote-requires : tie.Need-quote-requires
 quote-requires c κs = search needs
@@ -28,19 +35,42 @@ standing-requires-3 : tie.Need-standing-requires-3
 standing-requires-3 c κs = search needs
 
 returns-3 : tie.Need-returns-3
-returns-3 c = ap (λ (s : State). meant s) (c .standing3 .ensures) ∙ onward-quote _ (sym (c .before .before .before .before .before .name-start .ensures) ∙ c .before .before .before .before .if1 .left) (c .before .before .before .if2 .left) (sym (c .before .before .quote .ensures) ∙ c .before .if3 .taken)
+returns-3 c =
+    let at-if3 = c .before in
+    let at-quote = at-if3 .before in
+    let at-if2 = at-quote .before in
+    let at-if1 = at-if2 .before in
+    let at-name-start = at-if1 .before in
+    ap (λ (s : State). meant s) (c .standing3 .ensures) ∙ onward-quote _ (sym (at-name-start .name-start .ensures) ∙ at-if1 .if1 .left) (at-if2 .if2 .left)
+    (sym (at-quote .quote .ensures) ∙ at-if3 .if3 .taken)
 
 standing-requires-4 : tie.Need-standing-requires-4
 standing-requires-4 c κs = search needs
 
 returns-4 : tie.Need-returns-4
-returns-4 c = ap (λ (s : State). meant s) (c .standing4 .ensures) ∙ onward-brace _ (sym (c .before .before .before .before .before .before .name-start .ensures) ∙ c .before .before .before .before .before .if1 .left) (c .before .before .before .before .if2 .left) (sym (c .before .before .before .quote .ensures) ∙ c .before .before .if3 .left) (c .before .if4 .taken)
+returns-4 c =
+    let at-if4 = c .before in
+    let at-if3 = at-if4 .before in
+    let at-quote = at-if3 .before in
+    let at-if2 = at-quote .before in
+    let at-if1 = at-if2 .before in
+    let at-name-start = at-if1 .before in
+    ap (λ (s : State). meant s) (c .standing4 .ensures) ∙ onward-brace _ (sym (at-name-start .name-start .ensures) ∙ at-if1 .if1 .left) (at-if2 .if2 .left)
+    (sym (at-quote .quote .ensures) ∙ at-if3 .if3 .left) (at-if4 .if4 .taken)
 
 standing-requires-5 : tie.Need-standing-requires-5
 standing-requires-5 c κs = search needs
 
 returns-5 : tie.Need-returns-5
-returns-5 c = ap (λ (s : State). meant s) (c .standing5 .ensures) ∙ onward-none _ (sym (c .before .before .before .before .before .before .name-start .ensures) ∙ c .before .before .before .before .before .if1 .left) (c .before .before .before .before .if2 .left) (sym (c .before .before .before .quote .ensures) ∙ c .before .before .if3 .left) (c .before .if4 .left)
+returns-5 c =
+    let at-if4 = c .before in
+    let at-if3 = at-if4 .before in
+    let at-quote = at-if3 .before in
+    let at-if2 = at-quote .before in
+    let at-if1 = at-if2 .before in
+    let at-name-start = at-if1 .before in
+    ap (λ (s : State). meant s) (c .standing5 .ensures) ∙ onward-none _ (sym (at-name-start .name-start .ensures) ∙ at-if1 .if1 .left) (at-if2 .if2 .left)
+    (sym (at-quote .quote .ensures) ∙ at-if3 .if3 .left) (at-if4 .if4 .left)
 
 pub onward-spec : {M : Type 1} → statement M
 onward-spec =

@@ -15,7 +15,9 @@ returns-2 c = rw (c .if2 .taken)
 
 returns-3 : tie.Need-returns-3
 unfolding sign
-returns-3 c = rw (ne-eqb _ _ (c .before .if1 .left), ne-eqb _ _ (c .if2 .left)) (sym (or-false _))
+returns-3 c =
+    let at-if1 = c .before in
+    rw (ne-eqb _ _ (at-if1 .if1 .left), ne-eqb _ _ (c .if2 .left)) (sym (or-false _))
 
 pub sign-spec : {M : Type 1} → statement M
 sign-spec = tie.close (tie.spec returns returns-2 returns-3)

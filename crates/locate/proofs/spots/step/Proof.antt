@@ -6,7 +6,9 @@ use Rattle.locate.proofs.spots.step.Statement.{statement}
 use Rattle.locate.proofs.spots.step.Tie as tie
 
 within-requires : tie.Need-within-requires
-within-requires c κs = record { on = sym (c .before .pre .is) ∙ c .if1 .taken; deep = c .before .pre .deep }
+within-requires c κs =
+    let start = c .before in
+    record { on = sym (start .pre .is) ∙ c .if1 .taken; deep = start .pre .deep }
 
 returns : tie.Need-returns
 returns c = search needs
@@ -15,7 +17,10 @@ onward-requires : tie.Need-onward-requires
 onward-requires c κs = search needs
 
 returns-2 : tie.Need-returns-2
-returns-2 c = c .onward .ensures ∙ afresh (shown (c .before .before .args .mode) (c .before .before .args .of)) (c .before .before .args .c) (sym (c .before .before .pre .is) ∙ c .before .if1 .left)
+returns-2 c =
+    let at-if1 = c .before in
+    let start = at-if1 .before in
+    c .onward .ensures ∙ afresh (shown (start .args .mode) (start .args .of)) (start .args .c) (sym (start .pre .is) ∙ at-if1 .if1 .left)
 
 pub step-spec : {M : Type 1} → statement M
 step-spec = tie.close (tie.spec within-requires returns onward-requires returns-2)
