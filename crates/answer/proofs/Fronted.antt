@@ -22,7 +22,7 @@ use Rattle.derive.specs.Yield.{unproductive}
 use Rattle.places.proofs.Fronted.{same-tree}
 use Rattle.answer.specs.Answer.{GrammarText, Job, job, Shown, asNumbers, asXml, Answer, Checks, Reads, Converts}
 use Rattle.answer.specs.Compute.{Test, test, firstOf, onText, onTree, isText, isTree, afterMark as treeAfter, treeOf, grammarTests, recordTests, documentTests, longTest}
-use Rattle.answer.specs.Compute.{Value, value, valueAt, Values, grammarValues, inputValues, placeValues}
+use Rattle.answer.specs.Compute.{Value, value, valueAt, Values, grammarValues, inputValues, placeValues, jobValues}
 use Rattle.answer.specs.Compute.{Result, result, resultOf, resultBy, Outcome, outcome, mismatch, checkOf, readOf, convertOf}
 use Rattle.answer.specs.Fronted.{Fronts, Past, Alike, FrontedLaws}
 use Rattle.answer.proofs.Noted.{value-skip}
@@ -113,9 +113,9 @@ same-outcome old m v w n x p q = go (eqb n 0) refl
     go true e = rw (e, outcome) (record { alike = record { number = refl; length = refl; ambiguous = refl; version = refl; byte = p; fault = q }; buffer = refl })
     go false e = rw (e, outcome) (record { alike = record { number = refl; length = refl; ambiguous = refl; version = refl; byte = p; fault = q }; buffer = refl })
 
--- the values of a call, by its grammar and the byte places that are not the grammar's
-abbrev valuesOf : List ℕ → List Value → Values
-valuesOf bs vs = record { bytes = grammarValues bs vs; faults = []; grammars = placeValues bs }
+-- the values of a call, by its grammar, the byte places that are not the grammar's, and the places in the record
+abbrev valuesOf : List ℕ → List Value → List Value → Values
+valuesOf bs vs fs = record { bytes = grammarValues bs vs; faults = fs; grammars = placeValues bs }
 
 no-bytes : (bs : List ℕ) (vs : List Value) (n : ℕ) → Past n → valueAt (grammarValues bs vs) n ≡ valueAt vs n
 no-bytes bs vs n z =
@@ -123,10 +123,10 @@ no-bytes bs vs n z =
     let at-3 = value 3 (λ _. breakOf known bs (afterMark bs)) in
     value-skip at-2 (at-3 ∷ vs) n (z .two) ∙ value-skip at-3 vs n (z .three)
 
-module _ (bs bs' : List ℕ) (f : Fronts bs bs') (old : List ℕ) (vs : List Value) (ts ts' : List Test) (x x' : Result)
-    (after : OneTree bs bs' → (firstOf ts ≡ firstOf ts') × (x ≡ x')) where
+module _ (bs bs' : List ℕ) (f : Fronts bs bs') (old : List ℕ) (vs fs fs' : List Value) (ts ts' : List Test) (x x' : Result)
+    (after : OneTree bs bs' → (firstOf ts ≡ firstOf ts') × (x ≡ x') × ((n : ℕ) → valueAt fs n ≡ valueAt fs' n)) where
   pub call-alike : Past (firstOf (grammarTests bs ts)) → Past (firstOf (grammarTests bs' ts'))
-      → Same (outcome old (mismatch bs) (valuesOf bs vs) (firstOf (grammarTests bs ts)) x) (outcome old (mismatch bs') (valuesOf bs' vs) (firstOf (grammarTests bs' ts')) x')
+      → Same (outcome old (mismatch bs) (valuesOf bs vs fs) (firstOf (grammarTests bs ts)) x) (outcome old (mismatch bs') (valuesOf bs' vs fs') (firstOf (grammarTests bs' ts')) x')
   call-alike z z' =
       let l = later-there bs ts z in
       let l' = later-there bs' ts' z' in
@@ -136,10 +136,10 @@ module _ (bs bs' : List ℕ) (f : Fronts bs bs') (old : List ℕ) (vs : List Val
       let n : firstOf (grammarTests bs ts) ≡ firstOf (grammarTests bs' ts') =
       l .same ∙ first-cong (later (treeOf bs)) ts ts' (a .0) ∙ ap (λ (p : Parsed). firstOf (later p ++ ts')) same ∙ sym (l' .same) in
       let m : mismatch bs ≡ mismatch bs' = ap (λ (p : Parsed). onTree p mismatched) same in
-      subst (λ (o : Outcome). Same (outcome old (mismatch bs) (valuesOf bs vs) (firstOf (grammarTests bs ts)) x) o)
-      (λ ι. outcome old (m ι) (valuesOf bs' vs) (n ι) (a .1 ι))
-      (same-outcome old (mismatch bs) (valuesOf bs vs) (valuesOf bs' vs) (firstOf (grammarTests bs ts)) x
-      (no-bytes bs vs (firstOf (grammarTests bs ts)) z ∙ sym (no-bytes bs' vs (firstOf (grammarTests bs ts)) z)) refl)
+      subst (λ (o : Outcome). Same (outcome old (mismatch bs) (valuesOf bs vs fs) (firstOf (grammarTests bs ts)) x) o)
+      (λ ι. outcome old (m ι) (valuesOf bs' vs fs') (n ι) (a .1 ι))
+      (same-outcome old (mismatch bs) (valuesOf bs vs fs) (valuesOf bs' vs fs') (firstOf (grammarTests bs ts)) x
+      (no-bytes bs vs (firstOf (grammarTests bs ts)) z ∙ sym (no-bytes bs' vs (firstOf (grammarTests bs ts)) z)) (a .2 (firstOf (grammarTests bs ts))))
 
 -- 4. The calls.
 past-of : (a : Answer) (o : Outcome) (n : ℕ) → a ≡ o .answer → o .answer .number ≡ n → Past (a .number) → Past n
@@ -154,11 +154,12 @@ checks-fronted gs gs' f a a' c c' z z' =
     let x = result [] false in
     let e = check-settled gs a c in
     let e' = check-settled gs' a' c' in
-    let o = outcome [] (mismatch gs) (valuesOf gs []) (firstOf (grammarTests gs [])) x in
-    let o' = outcome [] (mismatch gs') (valuesOf gs' []) (firstOf (grammarTests gs' [])) x in
+    let o = outcome [] (mismatch gs) (valuesOf gs [] []) (firstOf (grammarTests gs [])) x in
+    let o' = outcome [] (mismatch gs') (valuesOf gs' [] []) (firstOf (grammarTests gs' [])) x in
     alike-by a a' o o' e e'
-    (call-alike gs gs' f [] [] [] [] x x (λ t. (refl, refl)) (past-of a o (firstOf (grammarTests gs [])) e (number-of [] (mismatch gs) (valuesOf gs []) (firstOf (grammarTests gs [])) x) z)
-    (past-of a' o' (firstOf (grammarTests gs' [])) e' (number-of [] (mismatch gs') (valuesOf gs' []) (firstOf (grammarTests gs' [])) x) z'))
+    (call-alike gs gs' f [] [] [] [] [] [] x x (λ t. (refl, refl, λ n. refl)) (past-of a o (firstOf (grammarTests gs [])) e
+    (number-of [] (mismatch gs) (valuesOf gs [] []) (firstOf (grammarTests gs [])) x) z)
+    (past-of a' o' (firstOf (grammarTests gs' [])) e' (number-of [] (mismatch gs') (valuesOf gs' [] []) (firstOf (grammarTests gs' [])) x) z'))
 
 module _ (gs gs' rs : List ℕ) (main second : ℕ) (f : Fronts gs gs') (old new new' : List ℕ) (a a' : Answer) (ts : Job → List Test) (F : Shown) where
   abbrev first : Job
@@ -168,7 +169,12 @@ module _ (gs gs' rs : List ℕ) (main second : ℕ) (f : Fronts gs gs') (old new
   next = job gs' rs main second
 
   abbrev madeOf : Job → Outcome
-  madeOf j = outcome old (mismatch (j .grammar)) (valuesOf (j .grammar) (inputValues rs [])) (firstOf (grammarTests (j .grammar) (recordTests j (ts j)))) (resultOf j (resultBy F))
+  madeOf j = outcome old (mismatch (j .grammar)) (valuesOf (j .grammar) (inputValues rs []) (jobValues j .faults))
+      (firstOf (grammarTests (j .grammar) (recordTests j (ts j)))) (resultOf j (resultBy F))
+
+  -- places in the record depend on the tree and the record alone
+  same-faults : OneTree gs gs' → (n : ℕ) → valueAt (jobValues first .faults) n ≡ valueAt (jobValues next .faults) n
+  same-faults t n = refl
 
   -- by what the call's answers are, and that its tests depend on the tree alone
   by-calls : ((t : OneTree gs gs') → firstOf (recordTests first (ts first)) ≡ firstOf (recordTests next (ts next)))
@@ -178,10 +184,11 @@ module _ (gs gs' rs : List ℕ) (main second : ℕ) (f : Fronts gs gs') (old new
       let v = inputValues rs [] in
       let n = firstOf (grammarTests gs (recordTests first (ts first))) in
       let n' = firstOf (grammarTests gs' (recordTests next (ts next))) in
-      let s = call-alike gs gs' f old v (recordTests first (ts first)) (recordTests next (ts next)) (resultOf first (resultBy F)) (resultOf next (resultBy F))
-      (λ t. (h t, rw (t .first, t .second)))
-      (past-of a (madeOf first) n (e .0) (number-of old (mismatch gs) (valuesOf gs v) n (resultOf first (resultBy F))) z)
-      (past-of a' (madeOf next) n' (e' .0) (number-of old (mismatch gs') (valuesOf gs' v) n' (resultOf next (resultBy F))) z') in
+      let s = call-alike gs gs' f old v (jobValues first .faults) (jobValues next .faults)
+      (recordTests first (ts first)) (recordTests next (ts next)) (resultOf first (resultBy F)) (resultOf next (resultBy F))
+      (λ t. (h t, rw (t .first, t .second), same-faults t))
+      (past-of a (madeOf first) n (e .0) (number-of old (mismatch gs) (valuesOf gs v (jobValues first .faults)) n (resultOf first (resultBy F))) z)
+      (past-of a' (madeOf next) n' (e' .0) (number-of old (mismatch gs') (valuesOf gs' v (jobValues next .faults)) n' (resultOf next (resultBy F))) z') in
       (alike-by a a' (madeOf first) (madeOf next) (e .0) (e' .0) s, e .1 ∙ s .buffer ∙ sym (e' .1))
 
 pub fronted-laws : FrontedLaws
