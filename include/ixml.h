@@ -80,7 +80,12 @@ typedef struct {
     size_t byte;
     /* 0 so far. */
     size_t fault;
-    /* 0 so far. */
+    /*
+     * With 5 to 10: the first name, hex number (its #), range (the quote or #
+     * that begins it) or class of the grammar at fault, in characters from the
+     * grammar's start after a byte order mark; with 6 the first rule's name that
+     * an earlier rule has.
+     */
     size_t grammar;
 } ixml_places;
 

@@ -27,7 +27,9 @@ pub struct Places {
     pub byte: usize,
     /// 0 so far.
     pub fault: usize,
-    /// 0 so far.
+    /// With 5 to 10: the first name, hex number (its `#`), range or class of the
+    /// grammar at fault, in characters after a byte order mark; with 6 the first
+    /// rule's name that an earlier rule has.
     pub grammar: usize,
 }
 
@@ -38,7 +40,7 @@ impl Answer {
     /// use ixml::{check, Error};
     ///
     /// assert!(check(b"a: 'x'.").ok().is_ok());
-    /// assert_eq!(check(b"a: b.").ok(), Err(Error::UndefinedName));
+    /// assert_eq!(check(b"a: b.").ok(), Err(Error::UndefinedName { place: 3 }));
     /// ```
     pub fn ok(self) -> Result<Answer, Error> {
         match self.number {

@@ -47,7 +47,7 @@ pub fn tidy(grammar: &[u8], result: &mut [u8]) -> Answer {
 ///
 /// ```
 /// assert_eq!(ixml::tidy_text("a={x}'b'|.").as_deref(), Ok("a: \"b\"; .\n"));
-/// assert_eq!(ixml::tidy_text("a: b."), Err(ixml::Error::UndefinedName));
+/// assert_eq!(ixml::tidy_text("a: b."), Err(ixml::Error::UndefinedName { place: 3 }));
 /// ```
 pub fn tidy_text(grammar: impl AsRef<[u8]>) -> Result<String, Error> {
     let grammar = grammar.as_ref();

@@ -1,6 +1,6 @@
 use std::fmt;
 
-use crate::Answer;
+use crate::{Answer, Spot};
 
 /// Declares the refusals, each with its number and its sentence.
 macro_rules! errors {
@@ -8,16 +8,17 @@ macro_rules! errors {
         /// Why a job was refused. The order is that in which refusals are
         /// judged: the first that applies is given. `byte` is the place of the
         /// first byte at fault and `quote` what stands there, as far as it is
-        /// known; `version_mismatch` says that the grammar's prolog names another
+        /// known; `place` is that of the first character of the grammar at fault,
+        /// after a byte order mark; `version_mismatch` says that the grammar's prolog names another
         /// version than 1.0.
         ///
         /// ```
         /// let error = ixml::check(b"a: ['b'-'a'].").ok().unwrap_err();
-        /// assert_eq!(error, ixml::Error::BackwardRange);
+        /// assert_eq!(error, ixml::Error::BackwardRange { place: 4 });
         /// assert_eq!(error.number(), 9);
         /// assert_eq!(
         ///     error.to_string(),
-        ///     "refused 9: the grammar has a range that runs backwards"
+        ///     "refused 9: the grammar has a range that runs backwards, at character 4"
         /// );
         /// ```
         #[derive(Clone, Copy, Debug, PartialEq, Eq, Hash)]
@@ -68,12 +69,12 @@ errors! {
     GrammarNotUtf8 { byte: usize = byte, quote: Quote = unquoted } = 2, "the grammar is not UTF-8";
     GrammarCharacter { byte: usize = byte, quote: Quote = unquoted } = 3, "the grammar holds a character outside the alphabet (U+0000 to U+017F, U+0300 to U+036F, U+203F, U+2040)";
     NotIxml = 4, "the grammar is not in the ixml language, or nests brackets or comments over 16 deep";
-    UndefinedName = 5, "the grammar uses a name that has no rule";
-    RepeatedRule = 6, "the grammar has two rules of one name";
-    HexTooLarge = 7, "the grammar has a hex number above 10FFFF";
-    HexNoCharacter = 8, "the grammar has a hex number of a surrogate or a noncharacter";
-    BackwardRange = 9, "the grammar has a range that runs backwards";
-    UnknownClass = 10, "the grammar names a character class that does not exist";
+    UndefinedName { place: usize = place } = 5, "the grammar uses a name that has no rule";
+    RepeatedRule { place: usize = place } = 6, "the grammar has two rules of one name";
+    HexTooLarge { place: usize = place } = 7, "the grammar has a hex number above 10FFFF";
+    HexNoCharacter { place: usize = place } = 8, "the grammar has a hex number of a surrogate or a noncharacter";
+    BackwardRange { place: usize = place } = 9, "the grammar has a range that runs backwards";
+    UnknownClass { place: usize = place } = 10, "the grammar names a character class that does not exist";
     GrammarTooLarge = 11, "the grammar's size is over 512";
     UnproductiveRule = 24, "a rule of the grammar derives no text at all: each of its alternatives needs itself, or a character that no record may hold";
     RecordNotUtf8 { byte: usize = byte, quote: Quote = unquoted } = 12, "the record is not UTF-8";
@@ -110,6 +111,40 @@ impl Error {
         }
     }
 
+    /// The place of the first character of the grammar at fault, after a byte
+    /// order mark, for the refusals that name one.
+    pub fn place(self) -> Option<usize> {
+        match self {
+            Error::UndefinedName { place }
+            | Error::RepeatedRule { place }
+            | Error::HexTooLarge { place }
+            | Error::HexNoCharacter { place }
+            | Error::BackwardRange { place }
+            | Error::UnknownClass { place } => Some(place),
+            _ => None,
+        }
+    }
+
+    /// What is wrong, for a person who has the grammar before them: line,
+    /// column, and the line itself with a mark under the place.
+    ///
+    /// ```
+    /// let grammar = "a: b.\nb: 'x', c?.";
+    /// let error = ixml::check(grammar.as_bytes()).ok().unwrap_err();
+    /// assert_eq!(
+    ///     error.shown_in(grammar),
+    ///     "refused 5: the grammar uses a name that has no rule, at line 2, column 9\n\
+    ///      b: 'x', c?.\n        ^"
+    /// );
+    /// ```
+    pub fn shown_in(self, grammar: impl AsRef<[u8]>) -> String {
+        let Some(place) = self.place() else {
+            return self.to_string();
+        };
+        let spot = Spot::at(grammar.as_ref(), place);
+        format!("refused {}: {}, at {spot}", self.number(), self.sentence())
+    }
+
     /// The same error with the bytes at fault, from the job's texts.
     ///
     /// ```
@@ -143,6 +178,10 @@ impl Error {
 
 fn byte(answer: Answer) -> usize {
     answer.places.byte
+}
+
+fn place(answer: Answer) -> usize {
+    answer.places.grammar
 }
 
 fn version(answer: Answer) -> bool {
@@ -185,6 +224,9 @@ impl fmt::Display for Error {
         write!(formatter, "refused {}: {}", self.number(), self.sentence())?;
         if let Some(byte) = self.byte() {
             write!(formatter, ", at byte {byte}")?;
+        }
+        if let Some(place) = self.place() {
+            write!(formatter, ", at character {place}")?;
         }
         match self.quote().bytes() {
             [] => Ok(()),

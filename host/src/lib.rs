@@ -15,7 +15,7 @@
 //! are the library's calls themselves, for a caller who provides tables and
 //! buffers: see [`limits`] for their lengths. An [`Answer`] tells how a call went;
 //! [`Answer::ok`] turns it into a `Result` whose [`Error`] has a sentence for each
-//! refusal.
+//! refusal, and shows where a grammar is at fault ([`Error::shown_in`]).
 //!
 //! [`Gate`] judges a position by the texts of its two attributes, and [`number`]
 //! gives the value of such a text.
@@ -30,6 +30,7 @@ pub mod ffi;
 mod gate;
 pub mod limits;
 mod reader;
+mod spot;
 
 pub use answer::{Answer, Places};
 pub use calls::{check, convert, read, read_plain, tidy, tidy_text};
@@ -37,3 +38,4 @@ pub use category::{category, Category};
 pub use error::{Error, Quote};
 pub use gate::{number, Gate, GateError, Latitude, Longitude, Verdict};
 pub use reader::{Converted, Engine, Reader, Reading};
+pub use spot::Spot;

@@ -116,7 +116,9 @@ fn the_command_tidies_files() {
     assert_eq!(code(&["--check", &loose]), Some(0));
     let said = String::from_utf8(command(&[&wrong]).stderr).expect("text");
     assert!(
-        said.ends_with(": refused 5: the grammar uses a name that has no rule\n"),
+        said.ends_with(
+            ": refused 5: the grammar uses a name that has no rule, at line 1, column 4\na: b.\n   ^\n"
+        ),
         "{said}"
     );
     assert_eq!(code(&[&wrong]), Some(1));

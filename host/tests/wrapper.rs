@@ -17,14 +17,16 @@ fn every_refusal_has_its_number_and_a_sentence_of_its_own() {
         let error = answer.ok().expect_err("a refusal");
         assert_eq!(error.number(), number);
         assert!(sentences.insert(error.sentence()));
-        let place = error.byte().map(|byte| format!(", at byte {byte}"));
-        assert_eq!(place.is_some(), [2, 3, 12, 13].contains(&number));
+        let byte = error.byte().map(|byte| format!(", at byte {byte}"));
+        assert_eq!(byte.is_some(), [2, 3, 12, 13].contains(&number));
+        let place = error.place().map(|place| format!(", at character {place}"));
+        assert_eq!(place.is_some(), (5..=10).contains(&number));
         assert_eq!(
             error.to_string(),
             format!(
                 "refused {number}: {}{}",
                 error.sentence(),
-                place.unwrap_or_default()
+                byte.or(place).unwrap_or_default()
             )
         );
     }
@@ -78,7 +80,7 @@ fn a_reader_reads_jobs_of_all_lengths() {
         assert!(!reading.ambiguous && !reading.version_mismatch);
     }
     let refusals = [
-        ("a: b.", "", Error::UndefinedName),
+        ("a: b.", "", Error::UndefinedName { place: 3 }),
         (
             "a: 'x'.",
             &"x".repeat(RECORD_CHARACTERS + 1),
@@ -130,4 +132,32 @@ fn a_reader_converts_jobs_of_all_lengths() {
         reader.convert("a: .", "").map(|converted| converted.xml),
         Ok("<a/>".to_string())
     );
+}
+
+#[test]
+fn refusals_show_where_the_grammar_is_at_fault() {
+    let cases = [
+        // The name, not its mark; the byte order mark is no column.
+        ("\u{FEFF}a: - b.", "line 1, column 6\na: - b.\n     ^"),
+        // The first rule's name that an earlier rule has.
+        (
+            "a: b.\r\nb: 'x'. c: 'y'. c: 'z'. b: 'w'.",
+            "line 2, column 17\nb: 'x'. c: 'y'. c: 'z'. b: 'w'.\n                ^",
+        ),
+        // A range's second end; a tab stays a tab, a combining mark has no width.
+        (
+            "a: 'e\u{301}',\t['a'-#110000].",
+            "line 1, column 15\na: 'e\u{301}',\t['a'-#110000].\n       \t     ^",
+        ),
+        (
+            "a: ['b'-'a'; Xx].",
+            "line 1, column 5\na: ['b'-'a'; Xx].\n    ^",
+        ),
+        ("a: [Xx].\n", "line 1, column 5\na: [Xx].\n    ^"),
+    ];
+    for (grammar, shown) in cases {
+        let error = check(grammar.as_bytes()).ok().expect_err("a refusal");
+        let text = error.shown_in(grammar);
+        assert!(text.ends_with(&format!(", at {shown}")), "{text}");
+    }
 }

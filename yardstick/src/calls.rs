@@ -113,7 +113,7 @@ struct Accepted<'t> {
 fn accept(grammar: &[u8]) -> Result<Accepted<'_>, Refusal> {
     let text = text::grammar(grammar)?;
     let syntax = syntax::read(text).map_err(|_| Refusal::NotIxml)?;
-    statics::check(&syntax)?;
+    statics::check(&syntax, text)?;
     let known = |version: &Vec<char>| version[..] == ['1', '.', '0'];
     let version = syntax.version.as_ref().is_some_and(|v| !known(v));
     let plain = plain(&syntax);

@@ -267,7 +267,7 @@ const RECORD_CHARACTERS: [char; 9] = ['x', 'y', 'z', 'x', 'y', '\'', '<', '\n', 
 pub fn record(random: &mut Random, grammar: &str, longest: usize) -> String {
     let mut characters = Vec::new();
     let accepted = syntax::read(grammar).ok();
-    let accepted = accepted.filter(|syntax| statics::check(syntax).is_ok());
+    let accepted = accepted.filter(|syntax| statics::check(syntax, grammar).is_ok());
     let found = accepted.is_some_and(|syntax| {
         let sampler = Sampler::new(plain(&syntax));
         (0..4).any(|_| {

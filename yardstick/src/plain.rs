@@ -212,7 +212,7 @@ fn char_set(set: &Set) -> CharSet {
                 }
             }
             Member::Text(Text::Encoded(hex)) => included.insert(hex.code()),
-            Member::Range(from, to) => included.insert_range(from.code(), to.code()),
+            Member::Range(from, to, _) => included.insert_range(from.code(), to.code()),
             Member::Class(code) => {
                 included = included.union(category::class(code).unwrap_or(CharSet::EMPTY));
             }

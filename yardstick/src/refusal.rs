@@ -22,12 +22,13 @@ pub enum Refusal {
     /// With the byte place of the first character outside the alphabet.
     GrammarAlphabet(usize),
     NotIxml,
-    UndefinedName,
-    RepeatedRule,
-    HexTooLarge,
-    HexNoCharacter,
-    BackwardRange,
-    UnknownClass,
+    /// From here on to `UnknownClass` with the place of the first character at fault.
+    UndefinedName(usize),
+    RepeatedRule(usize),
+    HexTooLarge(usize),
+    HexNoCharacter(usize),
+    BackwardRange(usize),
+    UnknownClass(usize),
     GrammarTooLarge,
     UnproductiveRule,
     RecordNotUtf8(usize),
@@ -57,12 +58,12 @@ impl Refusal {
             Refusal::GrammarNotUtf8(_) => 2,
             Refusal::GrammarAlphabet(_) => 3,
             Refusal::NotIxml => 4,
-            Refusal::UndefinedName => 5,
-            Refusal::RepeatedRule => 6,
-            Refusal::HexTooLarge => 7,
-            Refusal::HexNoCharacter => 8,
-            Refusal::BackwardRange => 9,
-            Refusal::UnknownClass => 10,
+            Refusal::UndefinedName(_) => 5,
+            Refusal::RepeatedRule(_) => 6,
+            Refusal::HexTooLarge(_) => 7,
+            Refusal::HexNoCharacter(_) => 8,
+            Refusal::BackwardRange(_) => 9,
+            Refusal::UnknownClass(_) => 10,
             Refusal::GrammarTooLarge => 11,
             Refusal::UnproductiveRule => 24,
             Refusal::RecordNotUtf8(_) => 12,
@@ -94,10 +95,19 @@ impl Refusal {
             | Refusal::RecordAlphabet(place) => place,
             _ => 0,
         };
+        let grammar = match self {
+            Refusal::UndefinedName(place)
+            | Refusal::RepeatedRule(place)
+            | Refusal::HexTooLarge(place)
+            | Refusal::HexNoCharacter(place)
+            | Refusal::BackwardRange(place)
+            | Refusal::UnknownClass(place) => place,
+            _ => 0,
+        };
         Places {
             byte,
             fault: 0,
-            grammar: 0,
+            grammar,
         }
     }
 }

@@ -6,13 +6,13 @@ use crate::category;
 use crate::limits;
 use crate::refusal::Refusal;
 use crate::syntax::{
-    each_factor, Alternatives, Bound, Factor, Grammar, Hex, Member, Set, Term, Text,
+    each_factor, Alternatives, Bound, Factor, Grammar, Hex, Left, Member, Set, Term, Text,
 };
 
 /// Refusals 5 to 11. Each of 5 to 10 is judged over the whole text, so the
-/// lowest fault anywhere is given.
-pub fn check(grammar: &Grammar) -> Result<(), Refusal> {
-    if let Some(fault) = faults(grammar).into_iter().min() {
+/// lowest fault anywhere is given, at the first of its places.
+pub fn check(grammar: &Grammar, text: &str) -> Result<(), Refusal> {
+    if let Some(fault) = faults(grammar, text).into_iter().min() {
         return Err(fault);
     }
     if size(grammar) > limits::GRAMMAR_SIZE {
@@ -21,67 +21,83 @@ pub fn check(grammar: &Grammar) -> Result<(), Refusal> {
     Ok(())
 }
 
+/// The faults found so far, and the text that they are in.
+struct Faults<'t> {
+    text: &'t str,
+    found: Vec<Refusal>,
+}
+
+impl<'t> Faults<'t> {
+    /// A fault where so many bytes are left, by the characters before it.
+    fn add(&mut self, fault: fn(usize) -> Refusal, Left(left): Left) {
+        let before = &self.text[..self.text.len() - left];
+        self.found.push(fault(before.chars().count()));
+    }
+
+    /// A fault of a part of the text.
+    fn add_part(&mut self, fault: fn(usize) -> Refusal, part: &str) {
+        let before = part.as_ptr() as usize - self.text.as_ptr() as usize;
+        self.add(fault, Left(self.text.len() - before));
+    }
+
+    fn hex(&mut self, hex: Hex) {
+        if hex.is_too_large() {
+            self.add(Refusal::HexTooLarge, hex.1);
+        } else if hex.is_no_character() {
+            self.add(Refusal::HexNoCharacter, hex.1);
+        }
+    }
+
+    fn text(&mut self, text: &Text) {
+        if let Text::Encoded(hex) = text {
+            self.hex(*hex);
+        }
+    }
+
+    fn set(&mut self, set: &Set) {
+        for member in &set.members {
+            match member {
+                Member::Text(text) => self.text(text),
+                Member::Range(from, to, left) => {
+                    for bound in [from, to] {
+                        if let Bound::Encoded(hex) = bound {
+                            self.hex(*hex);
+                        }
+                    }
+                    if from.code() > to.code() {
+                        self.add(Refusal::BackwardRange, *left);
+                    }
+                }
+                Member::Class(code) if category::class(code).is_none() => {
+                    self.add_part(Refusal::UnknownClass, code);
+                }
+                Member::Class(_) => {}
+            }
+        }
+    }
+}
+
 /// Every fault among 5 to 10, in no particular order.
-fn faults(grammar: &Grammar) -> Vec<Refusal> {
-    let mut faults = Vec::new();
+fn faults(grammar: &Grammar, text: &str) -> Vec<Refusal> {
+    let found = Vec::new();
+    let mut faults = Faults { text, found };
     let mut defined = HashSet::new();
     for rule in &grammar.rules {
         if !defined.insert(rule.name) {
-            faults.push(Refusal::RepeatedRule);
+            faults.add_part(Refusal::RepeatedRule, rule.name);
         }
     }
     for rule in &grammar.rules {
         each_factor(&rule.alternatives, &mut |factor| match factor {
             Factor::Nonterminal { name, .. } if !defined.contains(name) => {
-                faults.push(Refusal::UndefinedName);
+                faults.add_part(Refusal::UndefinedName, name);
             }
-            Factor::Literal { text, .. } | Factor::Insertion(text) => {
-                faults.extend(text_fault(text));
-            }
-            Factor::Set { set, .. } => set_faults(set, &mut faults),
+            Factor::Literal { text, .. } | Factor::Insertion(text) => faults.text(text),
+            Factor::Set { set, .. } => faults.set(set),
             Factor::Nonterminal { .. } | Factor::Bracket(_) => {}
         });
     }
-    faults
-}
-
-fn hex_fault(hex: Hex) -> Option<Refusal> {
-    if hex.is_too_large() {
-        Some(Refusal::HexTooLarge)
-    } else if hex.is_no_character() {
-        Some(Refusal::HexNoCharacter)
-    } else {
-        None
-    }
-}
-
-fn text_fault(text: &Text) -> Option<Refusal> {
-    match text {
-        Text::Quoted(_) => None,
-        Text::Encoded(hex) => hex_fault(*hex),
-    }
-}
-
-fn set_faults(set: &Set, faults: &mut Vec<Refusal>) {
-    for member in &set.members {
-        match member {
-            Member::Text(text) => faults.extend(text_fault(text)),
-            Member::Range(from, to) => {
-                for bound in [from, to] {
-                    if let Bound::Encoded(hex) = bound {
-                        faults.extend(hex_fault(*hex));
-                    }
-                }
-                if from.code() > to.code() {
-                    faults.push(Refusal::BackwardRange);
-                }
-            }
-            Member::Class(code) if category::class(code).is_none() => {
-                faults.push(Refusal::UnknownClass);
-            }
-            Member::Class(_) => {}
-        }
-    }
+    faults.found
 }
 
 /// The sum of symbols plus 1 over the alternatives of the plain rules.

@@ -8,6 +8,19 @@
 use crate::category;
 use crate::limits::NESTING;
 
+/// How many bytes of the text are left at a place. Places are no part of what
+/// a grammar says, so they make no difference between two.
+#[derive(Clone, Copy, Debug, Default)]
+pub struct Left(pub usize);
+
+impl PartialEq for Left {
+    fn eq(&self, _: &Left) -> bool {
+        true
+    }
+}
+
+impl Eq for Left {}
+
 /// The text is not in the ixml language, or nests too deep.
 #[derive(Clone, Copy, Debug, PartialEq, Eq)]
 pub struct NotIxml;
@@ -72,7 +85,7 @@ pub struct Set<'t> {
 #[derive(Clone, Debug, PartialEq, Eq)]
 pub enum Member<'t> {
     Text(Text),
-    Range(Bound, Bound),
+    Range(Bound, Bound, Left),
     Class(&'t str),
 }
 
@@ -95,13 +108,13 @@ impl Bound {
 /// The value of a hex number. Digits have no limit, so the value stops at the
 /// first number above the code points instead of wrapping.
 #[derive(Clone, Copy, Debug, Default, PartialEq, Eq)]
-pub struct Hex(u32);
+pub struct Hex(u32, pub Left);
 
 impl Hex {
     const TOO_LARGE: u32 = 0x11_0000;
 
     fn append(self, digit: u32) -> Hex {
-        Hex((self.0 * 16 + digit).min(Self::TOO_LARGE))
+        Hex((self.0 * 16 + digit).min(Self::TOO_LARGE), self.1)
     }
 
     pub fn code(self) -> u32 {
@@ -174,6 +187,10 @@ struct Reader<'t> {
 }
 
 impl<'t> Reader<'t> {
+    fn left(&self) -> Left {
+        Left(self.rest.len())
+    }
+
     fn peek(&self) -> Option<char> {
         self.rest.chars().next()
     }
@@ -440,9 +457,9 @@ impl<'t> Reader<'t> {
     }
 
     fn hex(&mut self) -> Parsed<Hex> {
+        let mut hex = Hex(0, self.left());
         self.expect("#")?;
         let digits = self.rest;
-        let mut hex = Hex::default();
         while let Some(digit) = self.peek().and_then(|digit| digit.to_digit(16)) {
             hex = hex.append(digit);
             self.next()?;
@@ -472,6 +489,7 @@ impl<'t> Reader<'t> {
 
     /// A member of a set, with the spacing after it.
     fn member(&mut self) -> Parsed<Member<'t>> {
+        let left = self.left();
         let Some(text) = self.text()? else {
             return self.class();
         };
@@ -482,7 +500,7 @@ impl<'t> Reader<'t> {
         self.spacing()?;
         let to = self.text()?.ok_or(NotIxml)?;
         self.spacing()?;
-        Ok(Member::Range(bound(text)?, bound(to)?))
+        Ok(Member::Range(bound(text)?, bound(to)?, left))
     }
 
     fn class(&mut self) -> Parsed<Member<'t>> {

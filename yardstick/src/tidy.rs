@@ -67,7 +67,7 @@ fn members(set: &Set) -> String {
 fn member(member: &Member) -> String {
     match member {
         Member::Text(text) => characters(text),
-        Member::Range(from, to) => format!("{}-{}", bound(*from), bound(*to)),
+        Member::Range(from, to, _) => format!("{}-{}", bound(*from), bound(*to)),
         Member::Class(code) => code.to_string(),
     }
 }

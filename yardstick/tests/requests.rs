@@ -34,3 +34,26 @@ fn between_11_and_12() {
     assert_check(&[(&large, 11), ("a: [Xx], a.", 10)]);
     assert_reading(&[("a: a.", "\u{180}", "refused 24")]);
 }
+
+/// T-10: refusals 5 to 10 name the first place at fault, in characters after a
+/// byte order mark.
+#[test]
+fn places_in_a_grammar() {
+    let cases = [
+        ("a: - b.", 5, 5),
+        ("a: b. b: 'x'. c: 'y'. c: 'z'. b: 'w'.", 6, 22),
+        ("a: ['a'-#110000].", 7, 8),
+        ("a: ['é'; #ffff].", 8, 9),
+        ("a: ['b'-'a'].", 9, 4),
+        ("a: 'x', {x} [L; Xx].", 10, 16),
+        ("a: [Xx], b.", 5, 9),
+    ];
+    for (grammar, number, place) in cases {
+        for (front, moved) in [("", 0), ("\u{FEFF}", 0), ("{é} ", 4)] {
+            let answer = ixml_yardstick::check(format!("{front}{grammar}").as_bytes());
+            assert_eq!(answer.number, number, "{grammar}");
+            assert_eq!(answer.places.grammar, place + moved, "{grammar}");
+        }
+    }
+    assert_eq!(ixml_yardstick::check(b"a: a.").places, Default::default());
+}

@@ -1,21 +1,31 @@
 -- The places of an answer: its number has one, and the computed one is it.
 use mathlib.Core.Bool.{Bool, true, false, not, _&&_}
 use mathlib.Core.Path.{_≡_, refl, sym, subst, ap, _∙_}
-use mathlib.Core.Logic.{_⊎_, inl, inr}
+use mathlib.Core.Logic.{_⊎_, inl, inr, ⊎-elim}
 use mathlib.Core.List.{List, [], _∷_}
-use Prim.Native.Nat.{ℕ}
+use Prim.Native.Nat.{ℕ, _<_, _≤_}
 use native.Mathlib.Omega.{arith}
-use lib.Dec.{T, eqb}
+use lib.Dec.{T, eqb, leb, leb→le}
 use lib.ListN.{drop}
 use borrow.Author.Tests.{eqb-true, eqb-false}
 use Rattle.text.specs.Lists.{Text, all}
 use Rattle.text.specs.Utf8.{Utf8, unmarked, known}
-use Rattle.text.specs.Decode.{breakOf}
+use Rattle.text.specs.Decode.{Decoded, decode, breakOf}
 use Rattle.text.specs.Faults.{every, Breaks, afterMark}
-use Rattle.text.proofs.Decode.{utf8-unique}
+use Rattle.text.proofs.Decode.{utf8-unique, decode-complete}
 use Rattle.text.proofs.Faults.{scalars, passing, one-break, Whole, break-there}
+use Rattle.text.proofs.Tests.{and-left, and-right}
 use Rattle.text.proofs.Marks.{marked-text}
+use Rattle.tree.specs.Tree.{Grammar}
+use Rattle.syntax.specs.Syntax.{Ixml}
+use Rattle.plain.specs.Static.{undefined, duplicate, beyond, banned, backwards, unclassed}
+use Rattle.places.specs.Place.{Place}
+use Rattle.places.specs.Tokens.{placeOf}
+use Rattle.places.proofs.Unique.{place-is, one-place}
+use Rattle.places.proofs.Exists.{by-rule, place-5, place-6, place-7, place-8, place-9, place-10}
+use Rattle.answer.specs.Answer.{GrammarText, ofTree, placeNote, placeNotes}
 use Rattle.answer.specs.Answer.{Line, Topmost, Note, Noted, Notes, Placed, Places, grammarLines, recordLines, grammarNotes, inputNotes, checkNotes, jobNotes, Job}
+use Rattle.answer.specs.Compute.{placeIn, placeValue, placeValues}
 use Rattle.answer.specs.Compute.{Value, valueAt, Values, placesAt, grammarValues, inputValues, checkValues, jobValues}
 use Rattle.answer.proofs.Lines.{numbers, distinct, given}
 
@@ -94,7 +104,57 @@ outside bs from cs one h =
     no-not true t e = t
     no-not false t e = subst T (sym e) tt
 
--- 4. The notes of the calls.
+-- 4. The place in a grammar.
+one-text : (bs : List ℕ) (cs ds : Text) → GrammarText bs cs → GrammarText bs ds → cs ≡ ds
+one-text bs cs ds x y = x .2 ∙ ap unmarked (utf8-unique bs (x .0) (y .0) (x .1) (y .1)) ∙ sym (y .2)
+
+one-in : (bs : List ℕ) (k p q : ℕ) → placeNote bs k .Says p → placeNote bs k .Says q → p ≡ q
+one-in bs k p q x y = one-place k (y .0) p q (subst (λ (cs : Text). Place k cs p) (one-text bs (x .0) (y .0) (x .1) (y .1)) (x .2)) (y .2)
+
+single-places : (bs : List ℕ) → Single (placeNotes bs)
+single-places bs = (one-in bs 5, (one-in bs 6, (one-in bs 7, (one-in bs 8, (one-in bs 9, (one-in bs 10, tt))))))
+
+-- where the refusal applies, the computed place is it
+place-at : (bs : List ℕ) (k : ℕ) (P : Grammar → Bool) → ((t : Text) (g : Grammar) → Ixml t g → T (P g) → (p : ℕ) × Place k t p)
+    → ofTree bs (λ g. T (P g)) → placeNote bs k .Says (placeIn (decode bs) k)
+place-at bs k P there x =
+    let cs = x .1 .0 in
+    let t = x .1 .1 in
+    let w = there cs (x .0) (x .1 .2) (x .2) in
+    let e : placeIn (decode bs) k ≡ w .0 =
+    ap (λ (d : Decoded). placeIn d k) (decode-complete bs (t .0) (t .1)) ∙ ap (placeOf k) (sym (t .2)) ∙ sym (place-is k cs (w .0) (w .1)) in
+    (cs, t, subst (Place k cs) (sym e) (w .1))
+
+pub place-value : (bs : List ℕ) (n : ℕ) → 5 ≤ n → n ≤ 10 → valueAt (placeValues bs) n ≡ placeIn (decode bs) n
+place-value bs n l h = by-rule (λ k. valueAt (placeValues bs) k ≡ placeIn (decode bs) k) refl refl refl refl refl refl n l h
+
+-- other numbers have none
+pub placeless : (bs : List ℕ) (n : ℕ) → (n < 5) ⊎ (10 < n) → valueAt (placeValues bs) n ≡ 0
+placeless bs n h = skip (5 ∷ 6 ∷ 7 ∷ 8 ∷ 9 ∷ 10 ∷ []) tt
+  where
+    values : List ℕ → List Value
+    values [] = []
+    values (k ∷ ks) = placeValue bs k ∷ values ks
+
+    skip : (ks : List ℕ) → T (all (λ k. leb 5 k && leb k 10) ks) → valueAt (values ks) n ≡ 0
+    skip [] l = refl
+    skip (k ∷ ks) l =
+        let c = and-left (leb 5 k && leb k 10) (all (λ k. leb 5 k && leb k 10) ks) l in
+        let a = leb→le 5 k (and-left (leb 5 k) (leb k 10) c) in
+        let b = leb→le k 10 (and-right (leb 5 k) (leb k 10) c) in
+        value-skip (placeValue bs k) (values ks) n (λ e. ⊎-elim (λ l. omega arith) (λ l. omega arith) h)
+        ∙ skip ks (and-right (leb 5 k && leb k 10) (all (λ k. leb 5 k && leb k 10) ks) l)
+
+pub none-kept : (bs : List ℕ) (n : ℕ) → (n < 5) ⊎ (10 < n) → Kept n (placeNotes bs) (placeValues bs)
+none-kept bs n h = (refl, out 5 tt, (refl, out 6 tt, (refl, out 7 tt, (refl, out 8 tt, (refl, out 9 tt, (refl, out 10 tt, tt))))))
+  where
+    out : (k : ℕ) {A : Type 0} → T (leb 5 k && leb k 10) → n ≡ k → A
+    out k c e =
+        let a = leb→le 5 k (and-left (leb 5 k) (leb k 10) c) in
+        let b = leb→le k 10 (and-right (leb 5 k) (leb k 10) c) in
+        absurd (⊎-elim (λ l. omega arith) (λ l. omega arith) h)
+
+-- 5. The notes of the calls.
 module _ (bs : List ℕ) (ls : List Line) (d : T (distinct (numbers (grammarLines bs ls)))) (n : ℕ) (t : Topmost (grammarLines bs ls) n) where
   at-2 : n ≡ 2 → Breaks every bs (afterMark bs) (breakOf every bs (afterMark bs))
   at-2 e =
@@ -107,11 +167,38 @@ module _ (bs : List ℕ) (ls : List Line) (d : T (distinct (numbers (grammarLine
       outside bs (afterMark bs) (x .0)
       (λ cs u. let w = marked-text bs cs u in w .2 ∙ ap unmarked (utf8-unique bs (w .0) (x .1 .0) (w .1) (x .1 .1)) ∙ sym (x .1 .2)) (x .2)
 
+  placed-at : (k : ℕ) (P : Grammar → Bool) → ((t : Text) (g : Grammar) → Ixml t g → T (P g) → (p : ℕ) × Place k t p)
+      → (Topmost (grammarLines bs ls) k → ofTree bs (λ g. T (P g))) → n ≡ k → placeNote bs k .Says (placeIn (decode bs) k)
+  placed-at k P there one e = place-at bs k P there (one (subst (Topmost (grammarLines bs ls)) e t))
+
+  kept-places : Kept n (placeNotes bs) (placeValues bs)
+  kept-places = (
+    refl,
+    placed-at 5 undefined place-5 (given (grammarLines bs ls) 5 d (λ z. omega arith)),
+    (
+      refl,
+      placed-at 6 duplicate place-6 (given (grammarLines bs ls) 6 d (λ z. omega arith)),
+      (
+        refl,
+        placed-at 7 beyond place-7 (given (grammarLines bs ls) 7 d (λ z. omega arith)),
+        (
+          refl,
+          placed-at 8 banned place-8 (given (grammarLines bs ls) 8 d (λ z. omega arith)),
+          (
+            refl,
+            placed-at 9 backwards place-9 (given (grammarLines bs ls) 9 d (λ z. omega arith)),
+            (refl, placed-at 10 unclassed place-10 (given (grammarLines bs ls) 10 d (λ z. omega arith)), tt),
+          ),
+        ),
+      ),
+    ),
+  )
+
   kept-grammar : (xs : List Note) (vs : List Value) → Kept n xs vs → Kept n (grammarNotes bs xs) (grammarValues bs vs)
   kept-grammar xs vs k = (refl, at-2, (refl, at-3, k))
 
 pub keeps-check : (bs : List ℕ) (n : ℕ) → Topmost (grammarLines bs []) n → Keeps n (checkNotes bs) (checkValues bs)
-keeps-check bs n t = record { bytes = kept-grammar bs [] tt n t [] [] tt; faults = tt; grammars = tt }
+keeps-check bs n t = record { bytes = kept-grammar bs [] tt n t [] [] tt; faults = tt; grammars = kept-places bs [] tt n t }
 
 module _ (j : Job) (ls : List Line) (d : T (distinct (numbers (grammarLines (j .grammar) (recordLines j ls))))) (n : ℕ) (t : Topmost (grammarLines (j .grammar) (recordLines j ls)) n) where
   at-12 : n ≡ 12 → Breaks every (j .input) 0 (breakOf every (j .input) 0)
@@ -128,11 +215,11 @@ module _ (j : Job) (ls : List Line) (d : T (distinct (numbers (grammarLines (j .
   keeps-job = record {
     bytes = kept-grammar (j .grammar) (recordLines j ls) d n t (inputNotes (j .input) []) (inputValues (j .input) []) (refl, at-12, (refl, at-13, tt));
     faults = tt;
-    grammars = tt;
+    grammars = kept-places (j .grammar) (recordLines j ls) d n t;
   }
 
 pub sole-check : (bs : List ℕ) → Sole (checkNotes bs)
-sole-check bs = record { bytes = (one-break every bs (afterMark bs), (one-break known bs (afterMark bs), tt)); faults = tt; grammars = tt }
+sole-check bs = record { bytes = (one-break every bs (afterMark bs), (one-break known bs (afterMark bs), tt)); faults = tt; grammars = single-places bs }
 
 pub sole-job : (j : Job) → Sole (jobNotes j)
 sole-job j = record {
@@ -144,5 +231,5 @@ sole-job j = record {
     ),
   );
   faults = tt;
-  grammars = tt;
+  grammars = single-places (j .grammar);
 }

@@ -15,6 +15,7 @@ use Rattle.tree.specs.Tree.{Grammar}
 use Rattle.syntax.specs.Syntax.{Ixml}
 use Rattle.plain.specs.Static.{undefined, duplicate, beyond, banned, backwards, unclassed, mismatched}
 use Rattle.plain.specs.Plain.{size}
+use Rattle.places.specs.Place.{Place}
 use Rattle.derive.specs.Derive.{Row, Derivation, root}
 use Rattle.derive.specs.Chosen.{Reading, Second}
 use Rattle.derive.specs.Productive.{Unproductive}
@@ -166,11 +167,18 @@ grammarNotes bs xs = note 2 (Breaks every bs (afterMark bs)) ∷ note 3 (Breaks 
 abbrev pub inputNotes : List ℕ → List Note → List Note
 inputNotes bs xs = note 12 (Breaks every bs 0) ∷ note 13 (Breaks known bs 0) ∷ xs
 
+-- "Refusals 5 to 10 should name the place, in characters from the grammar's start after any byte order mark"
+abbrev pub placeNote : List ℕ → ℕ → Note
+placeNote bs n = note n (λ p. ofText GrammarText bs (λ cs. Place n cs p))
+
+abbrev pub placeNotes : List ℕ → List Note
+placeNotes bs = placeNote bs 5 ∷ placeNote bs 6 ∷ placeNote bs 7 ∷ placeNote bs 8 ∷ placeNote bs 9 ∷ placeNote bs 10 ∷ []
+
 abbrev pub checkNotes : List ℕ → Notes
-checkNotes bs = record { bytes = grammarNotes bs []; faults = []; grammars = [] }
+checkNotes bs = record { bytes = grammarNotes bs []; faults = []; grammars = placeNotes bs }
 
 abbrev pub jobNotes : Job → Notes
-jobNotes j = record { bytes = grammarNotes (j .grammar) (inputNotes (j .input) []); faults = []; grammars = [] }
+jobNotes j = record { bytes = grammarNotes (j .grammar) (inputNotes (j .input) []); faults = []; grammars = placeNotes (j .grammar) }
 
 -- "An answer holds the number, a length, an ambiguous mark and a version mark", and the places
 pub record Answer : Type 0 where

@@ -13,6 +13,7 @@ use Rattle.tree.specs.Tree.{Grammar}
 use Rattle.syntax.specs.Parser.{Parsed, parsed, no-parse, parse}
 use Rattle.plain.specs.Static.{undefined, duplicate, beyond, banned, backwards, unclassed, mismatched}
 use Rattle.plain.specs.Plain.{size}
+use Rattle.places.specs.Tokens.{placeOf}
 use Rattle.derive.specs.Derive.{Row, root, leftParse}
 use Rattle.derive.specs.Pick.{Choice, found, no-choice, chosenOf}
 use Rattle.derive.specs.Another.{ambiguousOf}
@@ -159,11 +160,21 @@ grammarValues bs vs = value 2 (λ _. breakOf every bs (afterBytes bs)) ∷ value
 abbrev pub inputValues : List ℕ → List Value → List Value
 inputValues bs vs = value 12 (λ _. breakOf every bs 0) ∷ value 13 (λ _. breakOf known bs 0) ∷ vs
 
+abbrev pub placeIn : Decoded → ℕ → ℕ
+placeIn (text cs) n = placeOf n (unmarked cs)
+placeIn not-utf8 n = 0
+
+abbrev pub placeValue : List ℕ → ℕ → Value
+placeValue bs n = value n (λ _. placeIn (decode bs) n)
+
+abbrev pub placeValues : List ℕ → List Value
+placeValues bs = placeValue bs 5 ∷ placeValue bs 6 ∷ placeValue bs 7 ∷ placeValue bs 8 ∷ placeValue bs 9 ∷ placeValue bs 10 ∷ []
+
 abbrev pub checkValues : List ℕ → Values
-checkValues bs = record { bytes = grammarValues bs []; faults = []; grammars = [] }
+checkValues bs = record { bytes = grammarValues bs []; faults = []; grammars = placeValues bs }
 
 abbrev pub jobValues : Job → Values
-jobValues j = record { bytes = grammarValues (j .grammar) (inputValues (j .input) []); faults = []; grammars = [] }
+jobValues j = record { bytes = grammarValues (j .grammar) (inputValues (j .input) []); faults = []; grammars = placeValues (j .grammar) }
 
 -- an answer and its buffer, from the number, the result and the places
 pub record Outcome : Type 0 where

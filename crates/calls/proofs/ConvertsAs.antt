@@ -36,7 +36,7 @@ use Rattle.text.specs.Utf8.{known}
 use Rattle.text.specs.Decode.{breakOf}
 use Rattle.text.specs.Faults.{every, afterMark}
 use Rattle.text.specs.declared.Diagnostic.{Diagnostic}
-use Rattle.answer.proofs.Noted.{value-skip}
+use Rattle.answer.proofs.Noted.{value-skip, placeless}
 use Rattle.calls.specs.Calls.{done, shown, refusalOf, ConvertedAs}
 use Rattle.calls.proofs.Outcomes.{refusing, call-refused, call-answered, call-not-chosen, result-is, too-long, fitting, done-is}
 
@@ -164,7 +164,8 @@ module _ (j : Job) (old : List ℕ) where
         let thirteen = value 13 (λ _. breakOf known (j .input) 0) in
         let e = value-skip two (three ∷ twelve ∷ thirteen ∷ []) k (λ q. omega arith) ∙ value-skip three (twelve ∷ thirteen ∷ []) k (λ q. omega arith)
         ∙ value-skip twelve (thirteen ∷ []) k (λ q. omega arith) ∙ value-skip thirteen [] k (λ q. omega arith) in
-        λ ι. record { byte = sym e ι; fault = 0; grammar = 0 }
+        let g = placeless (j .grammar) k (inr (omega arith)) in
+        λ ι. record { byte = sym e ι; fault = 0; grammar = sym g ι }
 
     pub convert-refused : (k n : ℕ) (d : Diagnostic) (a : Answer) → v ≡ Not-converted k → n ≡ convertedNumber v → d ≡ plainly n
         → a ≡ refusalOf (record { why = d; mismatch = f .mismatch }) → ConvertedAs j old a new′

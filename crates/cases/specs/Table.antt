@@ -10,11 +10,11 @@ use Rattle.answer.specs.Answer.{Job, Answer, Checks, Reads, Converts}
 use Rattle.answer.specs.Program.{programJob}
 
 -- a grammar and a record that are answered: the reading, whether it is ambiguous, and the XML; or refused by reading and
--- converting; or a grammar's number from checking
+-- converting; or a grammar's number from checking, and its place
 pub data Case : Type 0 where
   answered : String → String → List ℕ → Bool → String → Case
   refused : String → String → ℕ → Case
-  checked : String → ℕ → Case
+  checked : String → ℕ → ℕ → Case
 
 unfoldable pub table : List Case
 table =
@@ -26,15 +26,15 @@ table =
     ∷ answered "a: a; \"x\"." "x" (1 ∷ []) true "<a xmlns:ixml='http://invisiblexml.org/NS' ixml:state='ambiguous'>x</a>"
     ∷ answered "a: (\"x\"?)*." "" (0 ∷ 1 ∷ []) true "<a xmlns:ixml='http://invisiblexml.org/NS' ixml:state='ambiguous'/>"
     ∷ answered "a: +\"z\"." "" (0 ∷ []) false "<a>z</a>"
-    ∷ checked "a: \"\"." 4
-    ∷ checked "a: \"x\".b: \"y\"." 4
-    ∷ checked "a: b." 5
-    ∷ checked "a: \"x\". a: \"y\"." 6
-    ∷ checked "a: #110000." 7
-    ∷ checked "a: #10ffff." 8
-    ∷ checked "a: [\"b\"-\"a\"]." 9
-    ∷ checked "a: [Xx]." 10
-    ∷ checked "a: #10fffd." 24
+    ∷ checked "a: \"\"." 4 0
+    ∷ checked "a: \"x\".b: \"y\"." 4 0
+    ∷ checked "a: b." 5 3
+    ∷ checked "a: \"x\". a: \"y\"." 6 8
+    ∷ checked "a: #110000." 7 3
+    ∷ checked "a: #10ffff." 8 3
+    ∷ checked "a: [\"b\"-\"a\"]." 9 4
+    ∷ checked "a: [Xx]." 10 4
+    ∷ checked "a: #10fffd." 24 0
     ∷ []
 
 -- the tables that the program lends, and a buffer of a hundred cells that hold 7
@@ -47,6 +47,9 @@ job g r = programJob (chars g) (chars r)
 unfoldable pub answer : ℕ → ℕ → Bool → Answer
 answer n k m = record { number = n; length = k; ambiguous = m; version = false; places = record { byte = 0; fault = 0; grammar = 0 } }
 
+unfoldable pub placed : ℕ → ℕ → Answer
+placed n p = record { number = n; length = 0; ambiguous = false; version = false; places = record { byte = 0; fault = 0; grammar = p } }
+
 unfoldable pub filled : List ℕ → List ℕ
 filled xs = xs ++ drop (length xs) buffer
 
@@ -54,7 +57,7 @@ filled xs = xs ++ drop (length xs) buffer
 abbrev pub Holds : Case → Type 0
 Holds (answered g r p m x) = Reads (job g r) buffer (answer 0 (length p) m) (filled p) × Converts (job g r) buffer (answer 0 (length (chars x)) m) (filled (chars x))
 Holds (refused g r n) = Reads (job g r) buffer (answer n 0 false) buffer × Converts (job g r) buffer (answer n 0 false) buffer
-Holds (checked g n) = Checks (chars g) (answer n 0 false)
+Holds (checked g n p) = Checks (chars g) (placed n p)
 
 pub data Every (P : Case → Type 0) : List Case → Type 0 where
   every-none : Every P []

@@ -12,7 +12,7 @@ use borrow.Author.Tests.{lt-ltb, le-ltb}
 use Rattle.text.specs.Limits.{grammarBytes, grammarTable, fileBytes, programBytes, programTable}
 use Rattle.text.specs.Lists.{Text, all}
 use Rattle.text.proofs.Tests.{split, and-left, and-right, clash}
-use Rattle.answer.specs.Answer.{Note, Noted, Places, jobNotes, Line, Topmost, Job, Answer, Converts, grammarLines, recordLines, documentLines, tooLong, asXml}
+use Rattle.answer.specs.Answer.{Note, Noted, Places, placeNotes, jobNotes, Line, Topmost, Job, Answer, Converts, grammarLines, recordLines, documentLines, tooLong, asXml}
 use Rattle.answer.specs.Compute.{convertOf}
 use Rattle.answer.specs.Program.{File, bytes, shows, programJob, Writes, no-grammar, no-record, long-record, job}
 use Rattle.answer.proofs.Settled.{convert-settled, convert-answers}
@@ -60,10 +60,13 @@ long-grammar g h r old a new k l c =
       places = record {
         byte = no-place (jobNotes (programJob g r) .bytes) (jobNotes (programJob h r) .bytes) (a .number) (a .places .byte) (apart e) (apart e) (c .places .byte);
         fault = c .places .fault;
-        grammar = c .places .grammar;
+        grammar = no-place (placeNotes g) (placeNotes h) (a .number) (a .places .grammar) (unplaced g e) (unplaced h e) (c .places .grammar);
       };
     }
   where
+    unplaced : (bs : List ℕ) → a .number ≡ 1 → Apart (a .number) (placeNotes bs)
+    unplaced bs e = (λ z. omega (arith, e, z), (λ z. omega (arith, e, z), (λ z. omega (arith, e, z), (λ z. omega (arith, e, z), (λ z. omega (arith, e, z), (λ z. omega (arith, e, z), tt))))))
+
     apart : a .number ≡ 1 → (a .number ≡ 2 → ⊥) × ((a .number ≡ 3 → ⊥) × ((a .number ≡ 12 → ⊥) × ((a .number ≡ 13 → ⊥) × Unit {0})))
     apart e = (λ z. omega (arith, e, z), (λ z. omega (arith, e, z), (λ z. omega (arith, e, z), (λ z. omega (arith, e, z), tt))))
 

@@ -22,7 +22,7 @@ use Rattle.tokens.proofs.Walk.{by-mark}
 use Rattle.measure.proofs.Sizes.{costs-append, terminal-costs}
 use Rattle.items.specs.declared.Action.{Action}
 use Rattle.items.specs.declared.Action.the-variants.{Skip, Push, Open, Operator, Close, Finish}
-use Rattle.items.specs.Items.{Starts, Among, Stands, st-terminal, st-name, Reads, tokenAt}
+use Rattle.items.specs.Items.{Starts, Among, Stands, st-terminal, st-name, Reads, tokenAt, lead}
 use Rattle.repetitions.specs.Blocks.{Entry, entry, nums, oneBlock}
 use Rattle.items.specs.Machine.{Abs, pushed, One, Two, Block, Closed, Act, Fit, actionOf, lateActionOf}
 use Rattle.repetitions.specs.Blocks.{oneCount, oneFirst, twoBlock, twoCount, twoFirst, starBlock, onceBlock, restBlock, bothEnds}
@@ -75,6 +75,7 @@ pub record Sym (g : Grammar) (K : List ℕ) (s : Symbol) (at : ℕ) (a : Abs) (S
   pub depth : after .depth ≡ a .depth + 1
   pub cost : after .items + after .depth ≡ a .items + a .depth + costs (symbolTokens s)
   pub adds : Adds S starts (concatMap makes (within s))
+  pub leads : (F : List ℕ) (T : Starts) → Final g K (after .list) starts F T → Reads F (e .token) (lead s)
   pub means : (F : List ℕ) (T : Starts) → Final g K (after .list) starts F T → (p : ℕ) → Placed F g T p (e .sort) (e .target) (e .token) → Stands F g T p s
 
 -- a row of symbols leaves a row of entries
@@ -175,6 +176,7 @@ module _ {g : Grammar} {K : List ℕ} where
     depth = refl;
     cost = omega (arith, terminal-costs x);
     adds = adds-none S;
+    leads = λ F T f. reads-final w F T f;
     means = λ F T f p v. let k = v .kept (λ e. omega arith) in st-terminal (k .0) (subst (λ (q : ℕ). Reads F q (terminalTokens x)) (sym (k .2)) (reads-final w F T f)) i;
   }
 
@@ -190,6 +192,7 @@ module _ {g : Grammar} {K : List ℕ} where
     depth = refl;
     cost = omega (arith, name-cost m n);
     adds = adds-none S;
+    leads = λ F T f. reads-final w F T f;
     means = λ F T f p v. v .named refl m n (reads-final w F T f) (not-false (any (same n) (heads g)) (or-false (Bad g n) false (known .0) .0));
   }
 
@@ -201,7 +204,7 @@ afterOne k b under c e =
       items = b .items + oneCount k;
       rows = b .rows;
       rules = b .rules;
-      stack = under ++ nums (entry 4 (b .items + oneFirst k) 0);
+      stack = under ++ nums (entry 4 (b .items + oneFirst k) (e .token));
       depth = c + 1;
       base = b .base;
     }
@@ -214,7 +217,7 @@ afterTwo k b under c e e' =
       items = b .items + twoCount k;
       rows = b .rows;
       rules = b .rules;
-      stack = under ++ nums (entry 4 (b .items + twoFirst k) 0);
+      stack = under ++ nums (entry 4 (b .items + twoFirst k) (e .token));
       depth = c + 1;
       base = b .base;
     }

@@ -22,7 +22,7 @@ use Rattle.tokens.proofs.Walk.{by-mark}
 use Rattle.measure.proofs.Sizes.{costs-append, terminal-costs}
 use Rattle.items.specs.declared.Action.{Action}
 use Rattle.items.specs.declared.Action.the-variants.{Skip, Push, Open, Operator, Close, Finish}
-use Rattle.items.specs.Items.{Starts, Among, Stands, st-terminal, st-name, Reads, tokenAt}
+use Rattle.items.specs.Items.{Starts, Among, Stands, st-terminal, st-name, Reads, tokenAt, lead}
 use Rattle.repetitions.specs.Blocks.{Entry, entry, nums, oneBlock}
 use Rattle.items.specs.Machine.{Abs, pushed, One, Two, Block, Closed, Act, Fit, actionOf, lateActionOf}
 use Rattle.repetitions.specs.Blocks.{oneCount, oneFirst, twoBlock, twoCount, twoFirst, starBlock, onceBlock, restBlock, bothEnds}
@@ -39,14 +39,14 @@ use Rattle.items.proofs.Entries.{afterTwo, three-more}
 
 module _ {g : Grammar} {K : List ℕ} where
   -- an operator of one operand; B n are the rules that it makes, from item n on
-  one-sym : (s f : Symbol) (t : Token) (k : ℕ) (B : ℕ → Starts) → symbolTokens s ≡ symbolTokens f ++ t ∷ [] → kind s ≡ made
+  one-sym : (s f : Symbol) (t : Token) (k : ℕ) (B : ℕ → Starts) → lead s ≡ lead f → symbolTokens s ≡ symbolTokens f ++ t ∷ [] → kind s ≡ made
       → within s ≡ s ∷ within f → ((n : ℕ) → symbolsBack (B n) ≡ makes s)
       → actionOf (firstNumber t) ≡ Operator k → k < 37 → cost t ≡ oneCount k → {at : ℕ} {a : Abs} {S : Starts} → Ok K a → Sym g K f at a S
       → a .items + a .depth + costs (symbolTokens s) ≤ 512 → ((n : ℕ) → Among (n + oneFirst k) s (B n))
       → ((F : List ℕ) (T : Starts) (n : ℕ) (e : Entry) → ((x : ℕ) (u : Symbol) → Among x u (B n) → Among x u T)
-      → ((p : ℕ) → Placed F g T p (e .sort) (e .target) (e .token) → Stands F g T p f) → Blocks F g T n (oneBlock k e n) (B n))
+      → Reads F (e .token) (lead s) → ((p : ℕ) → Placed F g T p (e .sort) (e .target) (e .token) → Stands F g T p f) → Blocks F g T n (oneBlock k e n) (B n))
       → Sym g K s at a S
-  one-sym s f t k B q d v mk y l ct {at} {a} {S} o r h first bl =
+  one-sym s f t k B ld q d v mk y l ct {at} {a} {S} o r h first bl =
       let b = r .after in
       let tc : costs (symbolTokens s) ≡ costs (symbolTokens f) + oneCount k = ap costs q ∙ costs-append (symbolTokens f) (t ∷ [])
       ∙ (let z : costs (symbolTokens f) + (cost t + 0) ≡ costs (symbolTokens f) + oneCount k = omega arith in z) in
@@ -57,7 +57,7 @@ module _ {g : Grammar} {K : List ℕ} where
         list = length-append (r .after .list) (oneBlock k (r .e) (r .after .items))
             ∙ (let z : length (r .after .list) + length (oneBlock k (r .e) (r .after .items)) ≡ 3 *
             (r .after .items + oneCount k) = omega (arith, r .run .ok .list, one-length k (r .e) (r .after .items)) in z);
-        stack = three-more (a .stack) (entry 4 (r .after .items + oneFirst k) 0) (a .depth) (o .stack);
+        stack = three-more (a .stack) (entry 4 (r .after .items + oneFirst k) (r .e .token)) (a .depth) (o .stack);
         fit = record { items = omega (arith, r .cost, r .depth); rules = r .run .ok .fit .rules; depth = omega arith; base = r .run .ok .fit .base };
       } in
       let act : Act (Operator k) (at + length (encode (symbolTokens f))) (r .after)
@@ -76,36 +76,41 @@ module _ {g : Grammar} {K : List ℕ} where
       let later = run-block t (r .starts) (B (r .after .items)) (oneBlock k (r .e) (r .after .items)) (oneCount k)
       (act-as (at + length (encode (symbolTokens f))) (r .after) (afterOne k (r .after) (a .stack) (a .depth) (r .e)) (sym y) act)
       (r .run .ok) okc refl (one-length k (r .e) (r .after .items)) refl refl refl refl
-      (λ F T w. bl F T (r .after .items) (r .e) (λ x u m. w .sub x u (in-first (B (r .after .items)) (r .starts) x u m))
-      (r .means F T (shorter (oneBlock k (r .e) (r .after .items)) (r .run .ok) refl (among-later (B (r .after .items)) (r .starts)) F T
-      w))) in
+      (λ F T w.
+      let w' = shorter (oneBlock k (r .e) (r .after .items)) (r .run .ok) refl (among-later (B (r .after .items)) (r .starts)) F T w in
+      bl F T (r .after .items) (r .e) (λ x u m. w .sub x u (in-first (B (r .after .items)) (r .starts) x u m))
+      (subst (λ (us : List Token). Reads F (r .e .token) us) (sym ld) (r .leads F T w')) (r .means F T w')) in
       record {
         after = afterOne k (r .after) (a .stack) (a .depth) (r .e);
         starts = B (r .after .items) ++ r .starts;
-        e = entry 4 (r .after .items + oneFirst k) 0;
+        e = entry 4 (r .after .items + oneFirst k) (r .e .token);
         run = subst (λ (us : List Token). Run g K us at a (afterOne k (r .after) (a .stack) (a .depth) (r .e)) S (B (r .after .items) ++ r .starts)) (sym q) (run-then (r .run) later);
         stack = refl;
         depth = refl;
         cost = omega (arith, r .cost, r .depth);
         adds = subst (λ (us : List Symbol). Adds S (B (r .after .items) ++ r .starts) (concatMap makes us)) (sym v)
             (adds-made (B (r .after .items)) (within f) s (mk (r .after .items)) (r .adds));
+        leads = λ F T w. subst (λ (us : List Token). Reads F (r .e .token) us) (sym ld)
+            (r .leads F T (shorter (oneBlock k (r .e) (r .after .items)) (r .run .ok) refl (among-later (B (r .after .items)) (r .starts)) F T w));
         means =
-            λ F T w p v. means-made F g T (r .after .items + oneFirst k) s d
+            λ F T w p v. means-made F g T (r .after .items + oneFirst k) (r .e .token) s d
+            (subst (λ (us : List Token). Reads F (r .e .token) us) (sym ld)
+            (r .leads F T (shorter (oneBlock k (r .e) (r .after .items)) (r .run .ok) refl (among-later (B (r .after .items)) (r .starts)) F T w)))
             (w .sub (r .after .items + oneFirst k) s (in-first (B (r .after .items)) (r .starts) (r .after .items + oneFirst k) s
             (first (r .after .items)))) p v;
       }
 
   -- an operator of two operands
-  two-sym : (s f sep : Symbol) (t : Token) (k : ℕ) (B : ℕ → Starts) → symbolTokens s ≡ symbolTokens f ++ (symbolTokens sep ++ t ∷ [])
+  two-sym : (s f sep : Symbol) (t : Token) (k : ℕ) (B : ℕ → Starts) → lead s ≡ lead f → symbolTokens s ≡ symbolTokens f ++ (symbolTokens sep ++ t ∷ [])
       → kind s ≡ made → within s ≡ s ∷ (within f ++ within sep) → ((n : ℕ) → symbolsBack (B n) ≡ makes s)
       → actionOf (firstNumber t) ≡ Operator k → 37 ≤ k → cost t + 1 ≡ twoCount k → {at : ℕ} {a : Abs} {S : Starts} → Ok K a
       → (r : Sym g K f at a S) → (r' : Sym g K sep (at + length (encode (symbolTokens f))) (r .after) (r .starts))
       → a .items + a .depth + costs (symbolTokens s) ≤ 512 → ((n : ℕ) → Among (n + twoFirst k) s (B n))
-      → ((F : List ℕ) (T : Starts) (n : ℕ) (e e' : Entry) → ((x : ℕ) (u : Symbol) → Among x u (B n) → Among x u T)
+      → ((F : List ℕ) (T : Starts) (n : ℕ) (e e' : Entry) → ((x : ℕ) (u : Symbol) → Among x u (B n) → Among x u T) → Reads F (e .token) (lead s)
       → ((p : ℕ) → Placed F g T p (e .sort) (e .target) (e .token) → Stands F g T p f)
       → ((p : ℕ) → Placed F g T p (e' .sort) (e' .target) (e' .token) → Stands F g T p sep) → Blocks F g T n (twoBlock k e e' n) (B n))
       → Sym g K s at a S
-  two-sym s f sep t k B q d v mk y l ct {at} {a} {S} o r r' h first bl =
+  two-sym s f sep t k B ld q d v mk y l ct {at} {a} {S} o r r' h first bl =
       let tc : costs (symbolTokens s) + 1 ≡ costs (symbolTokens f) + costs (symbolTokens sep) + twoCount k = ap (λ (n : ℕ). n + 1)
       (ap costs q ∙ costs-append (symbolTokens f) (symbolTokens sep ++ t ∷ []))
       ∙ (let z : costs (symbolTokens f) + costs (symbolTokens sep ++ t ∷ []) + 1 ≡ costs (symbolTokens f) + costs (symbolTokens sep) +
@@ -117,7 +122,7 @@ module _ {g : Grammar} {K : List ℕ} where
         list = length-append (r' .after .list) (twoBlock k (r .e) (r' .e) (r' .after .items))
             ∙ (let z : length (r' .after .list) + length (twoBlock k (r .e) (r' .e) (r' .after .items)) ≡ 3 *
             (r' .after .items + twoCount k) = omega (arith, r' .run .ok .list, two-length k (r .e) (r' .e) (r' .after .items)) in z);
-        stack = three-more (a .stack) (entry 4 (r' .after .items + twoFirst k) 0) (a .depth) (o .stack);
+        stack = three-more (a .stack) (entry 4 (r' .after .items + twoFirst k) (r .e .token)) (a .depth) (o .stack);
         fit = record { items = omega (arith, r .cost, r .depth, r' .cost, r' .depth); rules = r' .run .ok .fit .rules; depth = omega arith; base = r' .run .ok .fit .base };
       } in
       let act : Act (Operator k) (at + length (encode (symbolTokens f)) + length (encode (symbolTokens sep))) (r' .after)
@@ -142,12 +147,13 @@ module _ {g : Grammar} {K : List ℕ} where
       (two-length k (r .e) (r' .e) (r' .after .items)) refl refl refl refl
       (λ F T w.
       let w' = shorter (twoBlock k (r .e) (r' .e) (r' .after .items)) (r' .run .ok) refl (among-later (B (r' .after .items)) (r' .starts)) F T w in
+      let w'' = shorter (r' .run .more) (r .run .ok) (r' .run .list) (r' .run .later) F T w' in
       bl F T (r' .after .items) (r .e) (r' .e) (λ x u m. w .sub x u (in-first (B (r' .after .items)) (r' .starts) x u m))
-      (r .means F T (shorter (r' .run .more) (r .run .ok) (r' .run .list) (r' .run .later) F T w')) (r' .means F T w')) in
+      (subst (λ (us : List Token). Reads F (r .e .token) us) (sym ld) (r .leads F T w'')) (r .means F T w'') (r' .means F T w')) in
       record {
         after = afterTwo k (r' .after) (a .stack) (a .depth) (r .e) (r' .e);
         starts = B (r' .after .items) ++ r' .starts;
-        e = entry 4 (r' .after .items + twoFirst k) 0;
+        e = entry 4 (r' .after .items + twoFirst k) (r .e .token);
         run = subst (λ (us : List Token). Run g K us at a (afterTwo k (r' .after) (a .stack) (a .depth) (r .e) (r' .e)) S
             (B (r' .after .items) ++ r' .starts)) (sym q) (run-then (r .run) (run-then (r' .run) later));
         stack = refl;
@@ -156,8 +162,16 @@ module _ {g : Grammar} {K : List ℕ} where
         adds = subst (λ (us : List Symbol). Adds S (B (r' .after .items) ++ r' .starts) (concatMap makes us)) (sym v)
             (adds-made (B (r' .after .items)) (within f ++ within sep) s (mk (r' .after .items))
             (adds-both (within f) (within sep) (r' .run .later) (r .adds) (r' .adds)));
+        leads = λ F T w.
+            let w' : Final g K (r' .after .list) (r' .starts) F T =
+            shorter (twoBlock k (r .e) (r' .e) (r' .after .items)) (r' .run .ok) refl (among-later (B (r' .after .items)) (r' .starts)) F T w in
+            subst (λ (us : List Token). Reads F (r .e .token) us) (sym ld) (r .leads F T (shorter (r' .run .more) (r .run .ok) (r' .run .list) (r' .run .later) F T w'));
         means =
-            λ F T w p v. means-made F g T (r' .after .items + twoFirst k) s d
+            λ F T w p v.
+            let w' : Final g K (r' .after .list) (r' .starts) F T =
+            shorter (twoBlock k (r .e) (r' .e) (r' .after .items)) (r' .run .ok) refl (among-later (B (r' .after .items)) (r' .starts)) F T w in
+            means-made F g T (r' .after .items + twoFirst k) (r .e .token) s d
+            (subst (λ (us : List Token). Reads F (r .e .token) us) (sym ld) (r .leads F T (shorter (r' .run .more) (r .run .ok) (r' .run .list) (r' .run .later) F T w')))
             (w .sub (r' .after .items + twoFirst k) s (in-first (B (r' .after .items)) (r' .starts) (r' .after .items + twoFirst k) s
             (first (r' .after .items)))) p v;
       }
@@ -165,21 +179,22 @@ module _ {g : Grammar} {K : List ℕ} where
   pub option-sym : (f : Symbol) {at : ℕ} {a : Abs} {S : Starts} → Ok K a → Sym g K f at a S → a .items + a .depth + costs (symbolTokens (option f)) ≤ 512 → Sym g K (option f) at a S
   unfolding actionOf lateActionOf costOf repeatCostOf oneCount oneFirst oneBlock
   option-sym f o r h =
-      one-sym (option f) f to-option 34 (λ n. (n, option f) ∷ []) refl refl refl (λ n. refl) refl (omega arith) refl o r h (λ n. inl (omega arith, refl))
-      (λ F T n e sub m. b-rule {s = option f} (r-item m (r-more r-last)) b-none)
+      one-sym (option f) f to-option 34 (λ n. (n, option f) ∷ []) refl refl refl refl (λ n. refl) refl (omega arith) refl o r h (λ n. inl (omega arith, refl))
+      (λ F T n e sub rd m. b-rule {s = option f} (r-item m (r-more r-last)) b-none)
 
   pub star-sym : (f : Symbol) {at : ℕ} {a : Abs} {S : Starts} → Ok K a → Sym g K f at a S → a .items + a .depth + costs (symbolTokens (repeat0 f)) ≤ 512 → Sym g K (repeat0 f) at a S
   unfolding actionOf lateActionOf costOf repeatCostOf oneCount oneFirst oneBlock
   star-sym f o r h =
-      one-sym (repeat0 f) f to-repeat0 35 (λ n. (n, repeat0 f) ∷ []) refl refl refl (λ n. refl) refl (omega arith) refl o r h (λ n. inl (omega arith, refl))
-      (λ F T n e sub m. b-rule {s = repeat0 f} (r-item m
-      (r-item (means-made F g T n (repeat0 f) refl (sub n (repeat0 f) (inl (refl, refl)))) (r-more r-last))) b-none)
+      one-sym (repeat0 f) f to-repeat0 35 (λ n. (n, repeat0 f) ∷ []) refl refl refl refl (λ n. refl) refl (omega arith) refl o r h (λ n. inl (omega arith, refl))
+      (λ F T n e sub rd m. b-rule {s = repeat0 f} (r-item m
+      (r-item (means-made F g T n (e .token) (repeat0 f) refl rd (sub n (repeat0 f) (inl (refl, refl)))) (r-more r-last))) b-none)
 
   pub plus-sym : (f : Symbol) {at : ℕ} {a : Abs} {S : Starts} → Ok K a → Sym g K f at a S → a .items + a .depth + costs (symbolTokens (repeat1 f)) ≤ 512 → Sym g K (repeat1 f) at a S
   unfolding actionOf lateActionOf costOf repeatCostOf oneCount oneFirst oneBlock
-  plus-sym f o r h = one-sym (repeat1 f) f to-repeat1 36 (λ n. (n, repeat0 f) ∷ (n + 4, repeat1 f) ∷ []) refl refl refl (λ n. refl) refl (omega arith) refl o r h (λ n. inr (inl (refl, refl)))
-      (λ F T n e sub m.
-      let self = means-made F g T n (repeat0 f) refl (sub n (repeat0 f) (inl (refl, refl))) in
+  plus-sym f o r h =
+      one-sym (repeat1 f) f to-repeat1 36 (λ n. (n, repeat0 f) ∷ (n + 4, repeat1 f) ∷ []) refl refl refl refl (λ n. refl) refl (omega arith) refl o r h (λ n. inr (inl (refl, refl)))
+      (λ F T n e sub rd m.
+      let self = means-made F g T n (e .token) (repeat0 f) refl rd (sub n (repeat0 f) (inl (refl, refl))) in
       b-rule {s = repeat0 f} {xs = starBlock e n} {ys = onceBlock e n} (r-item m (r-item self (r-more r-last)))
       (b-rule {s = repeat1 f} {xs = onceBlock e n} {ys = []} (r-item m (r-item self r-last)) b-none))
 
@@ -188,10 +203,10 @@ module _ {g : Grammar} {K : List ℕ} where
       → a .items + a .depth + costs (symbolTokens (repeat1sep f sep)) ≤ 512 → Sym g K (repeat1sep f sep) at a S
   unfolding actionOf lateActionOf costOf repeatCostOf twoCount twoFirst twoBlock
   list-sym f sep o r r' h =
-      two-sym (repeat1sep f sep) f sep to-repeat1sep 38 (λ n. (n, rest f sep) ∷ (n + 5, repeat1sep f sep) ∷ []) refl refl refl (λ n. refl) refl (omega arith)
+      two-sym (repeat1sep f sep) f sep to-repeat1sep 38 (λ n. (n, rest f sep) ∷ (n + 5, repeat1sep f sep) ∷ []) refl refl refl refl (λ n. refl) refl (omega arith)
       refl o r r' h (λ n. inr (inl (refl, refl)))
-      (λ F T n e e' sub m m'.
-      let self = means-made F g T n (rest f sep) refl (sub n (rest f sep) (inl (refl, refl))) in
+      (λ F T n e e' sub rd m m'.
+      let self = means-made F g T n (e .token) (rest f sep) refl rd (sub n (rest f sep) (inl (refl, refl))) in
       b-rule {s = rest f sep} {xs = restBlock e e' n} {ys = onceBlock e n} (r-item m' (r-item m (r-item self (r-more r-last))))
       (b-rule {s = repeat1sep f sep} {xs = onceBlock e n} {ys = []} (r-item m (r-item self r-last)) b-none))
 
@@ -201,28 +216,28 @@ module _ {g : Grammar} {K : List ℕ} where
   unfolding actionOf lateActionOf costOf repeatCostOf twoCount twoFirst twoBlock
   maybe-sym f sep o r r' h =
       two-sym (repeat0sep f sep) f sep to-repeat0sep 37
-      (λ n. (n, rest f sep) ∷ (n + 5, repeat1sep f sep) ∷ (n + 5 + 3, repeat0sep f sep) ∷ []) refl refl refl (λ n. refl) refl (omega arith) refl o r r' h
+      (λ n. (n, rest f sep) ∷ (n + 5, repeat1sep f sep) ∷ (n + 5 + 3, repeat0sep f sep) ∷ []) refl refl refl refl (λ n. refl) refl (omega arith) refl o r r' h
       (λ n. inr (inr (inl (omega arith, refl))))
-      (λ F T n e e' sub m m'.
-      let self = means-made F g T n (rest f sep) refl (sub n (rest f sep) (inl (refl, refl))) in
-      let whole = means-made F g T (n + 5) (repeat1sep f sep) refl (sub (n + 5) (repeat1sep f sep) (inr (inl (refl, refl)))) in
-      b-rule {s = rest f sep} {xs = restBlock e e' n} {ys = onceBlock e n ++ (4 ∷ (n + 5) ∷ 0 ∷ bothEnds)}
+      (λ F T n e e' sub rd m m'.
+      let self = means-made F g T n (e .token) (rest f sep) refl rd (sub n (rest f sep) (inl (refl, refl))) in
+      let whole = means-made F g T (n + 5) (e .token) (repeat1sep f sep) refl rd (sub (n + 5) (repeat1sep f sep) (inr (inl (refl, refl)))) in
+      b-rule {s = rest f sep} {xs = restBlock e e' n} {ys = onceBlock e n ++ (4 ∷ (n + 5) ∷ e .token ∷ bothEnds)}
       (r-item m' (r-item m (r-item self (r-more r-last))))
-      (b-rule {s = repeat1sep f sep} {xs = onceBlock e n} {ys = 4 ∷ (n + 5) ∷ 0 ∷ bothEnds} (r-item m (r-item self r-last))
-      (b-rule {s = repeat0sep f sep} {xs = 4 ∷ (n + 5) ∷ 0 ∷ bothEnds} {ys = []} (r-item whole (r-more r-last)) b-none)))
+      (b-rule {s = repeat1sep f sep} {xs = onceBlock e n} {ys = 4 ∷ (n + 5) ∷ e .token ∷ bothEnds} (r-item m (r-item self r-last))
+      (b-rule {s = repeat0sep f sep} {xs = 4 ∷ (n + 5) ∷ e .token ∷ bothEnds} {ys = []} (r-item whole (r-more r-last)) b-none)))
 
 abbrev pub opened : ℕ → Abs → Abs
 opened at a = pushed a (entry 0 (a .base) at) (a .depth)
 
-abbrev pub afterClose : Abs → Abs → List ℕ → ℕ → Abs
-afterClose a b body m =
+abbrev pub afterClose : ℕ → Abs → Abs → List ℕ → ℕ → Abs
+afterClose at a b body m =
     record {
       tokens = b .tokens;
       list = b .list ++ (body ++ nums (entry 6 0 0));
       items = b .items + (m + 1);
       rows = b .rows;
       rules = b .rules;
-      stack = a .stack ++ nums (entry 4 (b .items) 0);
+      stack = a .stack ++ nums (entry 4 (b .items) at);
       depth = b .base + 1;
       base = a .base;
     }

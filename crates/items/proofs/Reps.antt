@@ -7,7 +7,7 @@ use Prim.Native.Nat.{ℕ, _+_, _*_, _-_, _<_, _≤_}
 use native.Mathlib.Omega.{arith}
 use borrow.Author.Tests.{eq-eqb, ne-eqb}
 use lib.Dec.{eqb}
-use lib.ListN.{length, getD, take, drop, length-append}
+use lib.ListN.{length, getD, take, drop, length-append, length-take}
 use lib.Seq.{sets, length-sets, take-take, take-at, length-take-le}
 use Rattle.text.specs.Lists.{pick}
 use Rattle.items.specs.declared.State.{State}
@@ -16,7 +16,7 @@ use Rattle.repetitions.specs.Blocks.{Entry, entry, nums, entryAt, bothEnds, onc
 use Rattle.repetitions.specs.Blocks.{oneBlock, oneCount, oneFirst, twoBlock, twoCount, twoFirst, laid}
 use Rattle.items.specs.Machine.{Abs, pushed, One, Two, Block}
 use Rattle.items.specs.Machine.{blockList, Closed, Finished, Fit, Has, Rep, Copied, Space, Act, Ready}
-use Rattle.repetitions.proofs.Stores.{take-sets}
+use Rattle.repetitions.proofs.Stores.{take-sets, entry-kept}
 use Rattle.items.proofs.Windows.{win-before, win-after, win-end, stack-under, stack-at, stack-above}
 
 pub one-length : (k : ℕ) (f : Entry) (i : ℕ) → length (oneBlock k f i) ≡ 3 * oneCount k
@@ -32,7 +32,7 @@ pub two-length : (k : ℕ) (f sep : Entry) (i : ℕ) → length (twoBlock k f se
 unfolding twoBlock twoCount
 two-length k f sep i = both (eqb k 38)
   where
-    both : (p : Bool) → length (pick p (listBlock f sep i) (listBlock f sep i ++ (4 ∷ (i + 5) ∷ 0 ∷ bothEnds))) ≡ 3 * pick p 8 11
+    both : (p : Bool) → length (pick p (listBlock f sep i) (listBlock f sep i ++ (4 ∷ (i + 5) ∷ f .token ∷ bothEnds))) ≡ 3 * pick p 8 11
     both true = refl
     both false = refl
 
@@ -102,30 +102,33 @@ entry-under {T} {a} h under f more c from e w l q =
 
 pub rep-one : {T : List ℕ} {a b : Abs} {T₁ T₂ : List ℕ} (k n d from first : ℕ) (h : Has T a) (o : One k a b) → Fit b → n ≡ a .items
     → d + 1 ≡ a .depth → from ≡ 14848 + 3 * d → T₁ ≡ laid T n (oneBlock k (entryAt T from) n) → first ≡ n + oneFirst k
-    → T₂ ≡ sets T₁ from (nums (entry 4 first 0)) → Has T₂ b
+    → T₂ ≡ sets T₁ from (nums (entry 4 first (getD T₁ (from + 2) 0))) → Has T₂ b
 rep-one {T} {a} {b} {T₁} {T₂} k n d from first h o fit en ed ef e₁ e₃ e₂ =
     let c = o .count in
     let dc : d ≡ c = omega (arith, o .deep) in
     let ff : entryAt T from ≡ o .f = entry-under h (o .under) (o .f) [] c from (o .stacked) (o .long) (omega (arith, o .deep)) (omega arith) in
     let items : a .items + oneCount k ≤ 512 = subst (λ (z : Abs). z .items ≤ 512) (o .result) (fit .items) in
     let deep : c + 1 ≤ 512 = subst (λ (z : Abs). z .depth ≤ 512) (o .result) (fit .depth) in
+    let tk : getD T₁ (from + 2) 0 ≡ o .f .token = ap (λ (e : Entry). e .token)
+    (entry-kept T n (oneBlock k (entryAt T from) n) from e₁ (omega (arith, one-length k (entryAt T from) n)) ∙ ff) in
     let e₄ : T₁ ≡ laid T n (oneBlock k (o .f) (a .items)) = e₁ ∙ ap (λ (f : Entry). laid T n (oneBlock k f n)) ff ∙ ap (λ (m : ℕ). laid T n (oneBlock k (o .f) m)) en in
     let u : Has (laid T n (oneBlock k (o .f) (a .items))) (longer a (oneBlock k (o .f) (a .items)) (oneCount k)) = has-laid h n
     (oneBlock k (o .f) (a .items)) (oneCount k) en (one-length k (o .f) (a .items)) items in
     let v = has-cut u (o .under) (nums (o .f)) c (a .base) (o .stacked) (o .long) (omega (arith, o .deep)) (h .fit .base) in
-    let w = has-push v d (entry 4 (a .items + oneFirst k) 0) (a .base) dc deep (h .fit .base) in
-    let e₅ : T₂ ≡ sets (laid T n (oneBlock k (o .f) (a .items))) (14848 + 3 * d) (nums (entry 4 (a .items + oneFirst k) 0)) = e₂
-    ∙ ap (λ (l : List ℕ). sets l from (nums (entry 4 first 0))) e₄
-    ∙ ap (λ (j : ℕ). sets (laid T n (oneBlock k (o .f) (a .items))) j (nums (entry 4 first 0))) ef
-    ∙ ap (λ (x : ℕ). sets (laid T n (oneBlock k (o .f) (a .items))) (14848 + 3 * d) (nums (entry 4 x 0)))
+    let w = has-push v d (entry 4 (a .items + oneFirst k) (o .f .token)) (a .base) dc deep (h .fit .base) in
+    let e₅ : T₂ ≡ sets (laid T n (oneBlock k (o .f) (a .items))) (14848 + 3 * d) (nums (entry 4 (a .items + oneFirst k) (o .f .token))) = e₂
+    ∙ ap (λ (t : ℕ). sets T₁ from (nums (entry 4 first t))) tk
+    ∙ ap (λ (l : List ℕ). sets l from (nums (entry 4 first (o .f .token)))) e₄
+    ∙ ap (λ (j : ℕ). sets (laid T n (oneBlock k (o .f) (a .items))) j (nums (entry 4 first (o .f .token)))) ef
+    ∙ ap (λ (x : ℕ). sets (laid T n (oneBlock k (o .f) (a .items))) (14848 + 3 * d) (nums (entry 4 x (o .f .token))))
     (e₃ ∙ ap (λ (m : ℕ). m + oneFirst k) en) in
     subst (λ (z : Abs). Has T₂ z) (sym (o .result)) (subst
     (λ (l : List ℕ). Has l (pushed (cut (longer a (oneBlock k (o .f) (a .items)) (oneCount k)) (o .under) c (a .base))
-    (entry 4 (a .items + oneFirst k) 0) (a .base))) (sym e₅) w)
+    (entry 4 (a .items + oneFirst k) (o .f .token)) (a .base))) (sym e₅) w)
 
 pub rep-two : {T : List ℕ} {a b : Abs} {T₁ T₂ : List ℕ} (k n d from first : ℕ) (h : Has T a) (o : Two k a b) → Fit b → n ≡ a .items
     → d + 2 ≡ a .depth → from ≡ 14848 + 3 * d → T₁ ≡ laid T n (twoBlock k (entryAt T from) (entryAt T (from + 3)) n)
-    → first ≡ n + twoFirst k → T₂ ≡ sets T₁ from (nums (entry 4 first 0)) → Has T₂ b
+    → first ≡ n + twoFirst k → T₂ ≡ sets T₁ from (nums (entry 4 first (getD T₁ (from + 2) 0))) → Has T₂ b
 rep-two {T} {a} {b} {T₁} {T₂} k n d from first h o fit en ed ef e₁ e₃ e₂ =
     let c = o .count in
     let dc : d ≡ c = omega (arith, o .deep) in
@@ -137,6 +140,8 @@ rep-two {T} {a} {b} {T₁} {T₂} k n d from first h o fit en ed ef e₁ e₃ e�
     let items : a .items + twoCount k ≤ 512 = subst (λ (z : Abs). z .items ≤ 512) (o .result) (fit .items) in
     let deep : c + 1 ≤ 512 = subst (λ (z : Abs). z .depth ≤ 512) (o .result) (fit .depth) in
     let xs = twoBlock k (o .f) (o .sep) (a .items) in
+    let tk : getD T₁ (from + 2) 0 ≡ o .f .token = ap (λ (e : Entry). e .token)
+    (entry-kept T n (twoBlock k (entryAt T from) (entryAt T (from + 3)) n) from e₁ (omega (arith, two-length k (entryAt T from) (entryAt T (from + 3)) n)) ∙ ff) in
     let e₄ : T₁ ≡ laid T n (twoBlock k (o .f) (o .sep) (a .items)) = e₁
     ∙ ap (λ (f : Entry). laid T n (twoBlock k f (entryAt T (from + 3)) n)) ff ∙ ap (λ (g : Entry). laid T n (twoBlock k (o .f) g n)) gg
     ∙ ap (λ (m : ℕ). laid T n (twoBlock k (o .f) (o .sep) m)) en in
@@ -144,15 +149,16 @@ rep-two {T} {a} {b} {T₁} {T₂} k n d from first h o fit en ed ef e₁ e₃ e�
     (longer a (twoBlock k (o .f) (o .sep) (a .items)) (twoCount k)) = has-laid h n (twoBlock k (o .f) (o .sep) (a .items)) (twoCount k)
     en (two-length k (o .f) (o .sep) (a .items)) items in
     let v = has-cut u (o .under) (nums (o .f) ++ nums (o .sep)) c (a .base) (o .stacked) (o .long) (omega (arith, o .deep)) (h .fit .base) in
-    let w = has-push v d (entry 4 (a .items + twoFirst k) 0) (a .base) dc deep (h .fit .base) in
-    let e₅ : T₂ ≡ sets (laid T n (twoBlock k (o .f) (o .sep) (a .items))) (14848 + 3 * d) (nums (entry 4 (a .items + twoFirst k) 0)) = e₂
-    ∙ ap (λ (l : List ℕ). sets l from (nums (entry 4 first 0))) e₄
-    ∙ ap (λ (j : ℕ). sets (laid T n (twoBlock k (o .f) (o .sep) (a .items))) j (nums (entry 4 first 0))) ef
-    ∙ ap (λ (x : ℕ). sets (laid T n (twoBlock k (o .f) (o .sep) (a .items))) (14848 + 3 * d) (nums (entry 4 x 0)))
+    let w = has-push v d (entry 4 (a .items + twoFirst k) (o .f .token)) (a .base) dc deep (h .fit .base) in
+    let e₅ : T₂ ≡ sets (laid T n (twoBlock k (o .f) (o .sep) (a .items))) (14848 + 3 * d) (nums (entry 4 (a .items + twoFirst k) (o .f .token))) = e₂
+    ∙ ap (λ (t : ℕ). sets T₁ from (nums (entry 4 first t))) tk
+    ∙ ap (λ (l : List ℕ). sets l from (nums (entry 4 first (o .f .token)))) e₄
+    ∙ ap (λ (j : ℕ). sets (laid T n (twoBlock k (o .f) (o .sep) (a .items))) j (nums (entry 4 first (o .f .token)))) ef
+    ∙ ap (λ (x : ℕ). sets (laid T n (twoBlock k (o .f) (o .sep) (a .items))) (14848 + 3 * d) (nums (entry 4 x (o .f .token))))
     (e₃ ∙ ap (λ (m : ℕ). m + twoFirst k) en) in
     subst (λ (z : Abs). Has T₂ z) (sym (o .result)) (subst
     (λ (l : List ℕ). Has l (pushed (cut (longer a (twoBlock k (o .f) (o .sep) (a .items)) (twoCount k)) (o .under) c (a .base))
-    (entry 4 (a .items + twoFirst k) 0) (a .base))) (sym e₅) w)
+    (entry 4 (a .items + twoFirst k) (o .f .token)) (a .base))) (sym e₅) w)
 
 -- a block above a mark
 module _ {T : List ℕ} {a : Abs} (h : Has T a) (o : Block a) where
@@ -189,6 +195,17 @@ pub mark-old : {T : List ℕ} {s : State} {a : Abs} (rep : Rep T s a) (o : Block
 mark-old {T} {s} {a} rep o = ap (λ (n : ℕ). getD T n 0) (let z : 14849 + 3 * s .base ≡ 14848 + 3 * a .base + 1 = omega (arith, rep .base) in
     z) ∙ ap (λ (e : Entry). e .target) (mark-at (rep .has) o)
 
+-- and its place, which stays where the block above it is laid down
+pub mark-place : {T : List ℕ} {s : State} {a : Abs} (rep : Rep T s a) (o : Block a) {T₁ : List ℕ} {next : ℕ} (w : Copied T (s .items) (s .base + 1) (s .depth) next T₁)
+    → a .items + (o .count + 1) ≤ 512 → getD T₁ (14848 + 3 * s .base + 2) 0 ≡ o .place
+mark-place {T} {s} {a} rep o {T₁} w f =
+    let xs = take (3 * w .count) (drop (14848 + 3 * (s .base + 1)) T) in
+    let l : length xs ≤ 3 * w .count = omega (arith, length-take (3 * w .count) (drop (14848 + 3 * (s .base + 1)) T)) in
+    let m = length-append xs (nums (entry 6 0 0)) in
+    let b : 12288 + 3 * s .items + length (xs ++ nums (entry 6 0 0)) ≤ 14848 + 3 * s .base = omega (arith, w .deep, o .deep, rep .items, rep .base, rep .depth) in
+    ap (λ (e : Entry). e .token)
+    (entry-kept T (s .items) (xs ++ nums (entry 6 0 0)) (14848 + 3 * s .base) (w .table) b ∙ ap (λ (n : ℕ). entryAt T (14848 + 3 * n)) (rep .base) ∙ mark-at (rep .has) o)
+
 -- each action keeps table and state together
 module _ {T T' : List ℕ} {s s' : State} {a b : Abs} (rep : Rep T s a) (fit : Fit b) where
   pub rep-pushed : (e : Entry) (c : ℕ) → b ≡ pushed a e c → T' ≡ sets T (14848 + 3 * s .depth) (nums e) → s' .items ≡ s .items
@@ -205,7 +222,7 @@ module _ {T T' : List ℕ} {s s' : State} {a b : Abs} (rep : Rep T s a) (fit : F
 
   pub rep-one' : {T₁ : List ℕ} (k d from first : ℕ) → One k a b → d + 1 ≡ s .depth → from ≡ 14848 + 3 * d
       → T₁ ≡ laid T (s .items) (oneBlock k (entryAt T from) (s .items)) → first ≡ s .items + oneFirst k
-      → T' ≡ sets T₁ from (nums (entry 4 first 0)) → s' .items ≡ s .items + oneCount k → s' .rules ≡ s .rules → s' .depth ≡ d + 1
+      → T' ≡ sets T₁ from (nums (entry 4 first (getD T₁ (from + 2) 0))) → s' .items ≡ s .items + oneCount k → s' .rules ≡ s .rules → s' .depth ≡ d + 1
       → s' .base ≡ s .base → Rep T' s' b
   rep-one' k d from first o e₀ e₁ e₂ e₃ e₄ i r q l = record {
     has = rep-one k (s .items) d from first (rep .has) o fit (rep .items) (omega (arith, rep .depth)) e₁ e₂ e₃ e₄;
@@ -217,7 +234,7 @@ module _ {T T' : List ℕ} {s s' : State} {a b : Abs} (rep : Rep T s a) (fit : F
 
   pub rep-two' : {T₁ : List ℕ} (k d from first : ℕ) → Two k a b → d + 2 ≡ s .depth → from ≡ 14848 + 3 * d
       → T₁ ≡ laid T (s .items) (twoBlock k (entryAt T from) (entryAt T (from + 3)) (s .items)) → first ≡ s .items + twoFirst k
-      → T' ≡ sets T₁ from (nums (entry 4 first 0)) → s' .items ≡ s .items + twoCount k → s' .rules ≡ s .rules → s' .depth ≡ d + 1
+      → T' ≡ sets T₁ from (nums (entry 4 first (getD T₁ (from + 2) 0))) → s' .items ≡ s .items + twoCount k → s' .rules ≡ s .rules → s' .depth ≡ d + 1
       → s' .base ≡ s .base → Rep T' s' b
   rep-two' k d from first o e₀ e₁ e₂ e₃ e₄ i r q l = record {
     has = rep-two k (s .items) d from first (rep .has) o fit (rep .items) (omega (arith, rep .depth)) e₁ e₂ e₃ e₄;
@@ -228,7 +245,7 @@ module _ {T T' : List ℕ} {s s' : State} {a b : Abs} (rep : Rep T s a) (fit : F
   }
 
   pub rep-closed : {T₁ : List ℕ} {next : ℕ} → Closed a b → Copied T (s .items) (s .base + 1) (s .depth) next T₁
-      → T' ≡ sets T₁ (14848 + 3 * s .base) (nums (entry 4 (s .items) 0)) → s' .items ≡ next → s' .rules ≡ s .rules → s' .depth ≡ s .base + 1
+      → T' ≡ sets T₁ (14848 + 3 * s .base) (nums (entry 4 (s .items) (getD T₁ (14848 + 3 * s .base + 2) 0))) → s' .items ≡ next → s' .rules ≡ s .rules → s' .depth ≡ s .base + 1
       → s' .base ≡ getD T (14849 + 3 * s .base) 0 → Rep T' s' b
   rep-closed {T₁} {next} o w t i r d l =
       let p = o .block in
@@ -238,12 +255,14 @@ module _ {T T' : List ℕ} {s s' : State} {a b : Abs} (rep : Rep T s a) (fit : F
       let v = has-cut (u .0) (o .block .under) (nums (entry 0 (o .block .old) (o .block .place)) ++ o .block .body) (a .base)
       (o .block .old) (o .block .stacked) (o .block .long) (omega (arith, o .block .deep))
       (subst (λ (z : Abs). z .base ≤ 512) (o .result) (fit .base)) in
-      let x = has-push v (s .base) (entry 4 (a .items) 0) (o .block .old) (rep .base) deep (subst (λ (z : Abs). z .base ≤ 512) (o .result) (fit .base)) in
-      let t' : T' ≡ sets T₁ (14848 + 3 * s .base) (nums (entry 4 (a .items) 0)) = t ∙ ap (λ (n : ℕ). sets T₁ (14848 + 3 * s .base) (nums (entry 4 n 0))) (rep .items) in
+      let x = has-push v (s .base) (entry 4 (a .items) (o .block .place)) (o .block .old) (rep .base) deep (subst (λ (z : Abs). z .base ≤ 512) (o .result) (fit .base)) in
+      let tk : getD T₁ (14848 + 3 * s .base + 2) 0 ≡ o .block .place = mark-place rep (o .block) w items in
+      let t' : T' ≡ sets T₁ (14848 + 3 * s .base) (nums (entry 4 (a .items) (o .block .place))) = t ∙ ap (λ (q : ℕ). sets T₁ (14848 + 3 * s .base) (nums (entry 4 (s .items) q))) tk
+      ∙ ap (λ (n : ℕ). sets T₁ (14848 + 3 * s .base) (nums (entry 4 n (o .block .place)))) (rep .items) in
       let old : getD T (14849 + 3 * s .base) 0 ≡ o .block .old = mark-old rep (o .block) in
       subst (λ (z : Abs). Rep T' s' z) (sym (o .result)) (record {
         has = subst (λ (m : List ℕ). Has m (pushed (cut (longer a (o .block .body ++ nums (entry 6 0 0)) (o .block .count + 1))
-            (o .block .under) (a .base) (o .block .old)) (entry 4 (a .items) 0) (o .block .old))) (sym t') x;
+            (o .block .under) (a .base) (o .block .old)) (entry 4 (a .items) (o .block .place)) (o .block .old))) (sym t') x;
         items = omega (arith, u .1, rep .items);
         rules = r ∙ rep .rules;
         depth = omega (arith, rep .base);

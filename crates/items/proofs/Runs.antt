@@ -11,7 +11,7 @@ use Rattle.tree.specs.Tree.{Symbol, Grammar}
 use Rattle.tree.specs.Tokens.{Token, numbers, encode}
 use Rattle.plain.specs.Written.{kind, made}
 use Rattle.tokens.specs.Lengths.{firstNumber}
-use Rattle.items.specs.Items.{Starts, Among, Stands, st-made, Reads, targetAt, kindAt}
+use Rattle.items.specs.Items.{Starts, Among, Stands, st-made, Reads, lead, targetAt, kindAt}
 use Rattle.repetitions.specs.Blocks.{Entry, entry, nums}
 use Rattle.items.specs.Machine.{Abs, pushed, Act, Fit, actionOf}
 use Rattle.items.specs.Scanned.{At}
@@ -148,5 +148,8 @@ module _ {g : Grammar} {K : List ℕ} where
   reads-final {at = at} w F T f = record { more = w .more; stands = ap (drop at) (f .tokens) ∙ w .stands }
 
 -- an entry that refers to a made rule
-pub means-made : (F : List ℕ) (g : Grammar) (T : Starts) (x : ℕ) (s : Symbol) → kind s ≡ made → Among x s T → (p : ℕ) → Placed F g T p 4 x 0 → Stands F g T p s
-means-made F g T x s d m p w = let k = w .kept (λ e. omega arith) in st-made d (k .0) (subst (λ (y : ℕ). Among y s T) (sym (k .1)) m)
+pub means-made : (F : List ℕ) (g : Grammar) (T : Starts) (x q : ℕ) (s : Symbol) → kind s ≡ made → Reads F q (lead s) → Among x s T
+    → (p : ℕ) → Placed F g T p 4 x q → Stands F g T p s
+means-made F g T x q s d r m p w =
+    let k = w .kept (λ e. omega arith) in
+    st-made d (k .0) (subst (λ (y : ℕ). Reads F y (lead s)) (sym (k .2)) r) (subst (λ (y : ℕ). Among y s T) (sym (k .1)) m)

@@ -47,19 +47,19 @@ at-head {K} {at} t us w = subst (λ (n : ℕ). At K n us)
 
 module _ {g : Grammar} {K : List ℕ} where
   group-sym : (x : Body) {at : ℕ} {a : Abs} {S : Starts} → Ok K a → a .items + a .depth + costs (symbolTokens (group x)) ≤ 512
-      → Bod g K x (at + 1) (opened at a) S → Sym g K (group x) at a S
-  group-sym x {at} {a} {S} o h r =
+      → At K at (open-group ∷ []) → Bod g K x (at + 1) (opened at a) S → Sym g K (group x) at a S
+  group-sym x {at} {a} {S} o h k r =
       let based : r .after .base ≡ a .depth = r .run .base in
       let wide : length (r .entries ++ nums (entry 6 0 0)) ≡ 3 * (r .count + 1) = three-more (r .entries) (entry 6 0 0) (r .count) (r .wide) in
-      let okc : Ok K (afterClose a (r .after) (r .entries) (r .count)) = record {
+      let okc : Ok K (afterClose at a (r .after) (r .entries) (r .count)) = record {
         tokens = r .run .ok .tokens;
         list = length-append (r .after .list) (r .entries ++ nums (entry 6 0 0))
             ∙ (let z : length (r .after .list) + length (r .entries ++ nums (entry 6 0 0)) ≡ 3 *
             (r .after .items + (r .count + 1)) = omega (arith, r .run .ok .list) in z);
-        stack = three-more (a .stack) (entry 4 (r .after .items) 0) (r .after .base) (omega (arith, o .stack));
+        stack = three-more (a .stack) (entry 4 (r .after .items) at) (r .after .base) (omega (arith, o .stack));
         fit = record { items = omega (arith, r .cost, r .depth, bracket-costs x); rules = r .run .ok .fit .rules; depth = omega (arith, bracket-costs x); base = o .fit .base };
       } in
-      let act : Act Close (at + 1 + length (encode (bodyTokens x))) (r .after) (afterClose a (r .after) (r .entries) (r .count)) = record {
+      let act : Act Close (at + 1 + length (encode (bodyTokens x))) (r .after) (afterClose at a (r .after) (r .entries) (r .count)) = record {
         block =
             record {
               under = a .stack;
@@ -75,15 +75,15 @@ module _ {g : Grammar} {K : List ℕ} where
         result = refl;
       } in
       record {
-        after = afterClose a (r .after) (r .entries) (r .count);
+        after = afterClose at a (r .after) (r .entries) (r .count);
         starts = (r .after .items, group x) ∷ r .starts;
-        e = entry 4 (r .after .items) 0;
+        e = entry 4 (r .after .items) at;
         run = record {
           trace =
               t-step {t = open-group} (act-as at a (opened at a) (sym open-action) refl)
               (record { items = o .fit .items; rules = o .fit .rules; depth = omega (arith, bracket-costs x); base = o .fit .depth })
               (trace-append (r .run .trace) (t-step {t = close-group}
-              (act-as (at + 1 + length (encode (bodyTokens x))) (r .after) (afterClose a (r .after) (r .entries) (r .count))
+              (act-as (at + 1 + length (encode (bodyTokens x))) (r .after) (afterClose at a (r .after) (r .entries) (r .count))
               (sym close-action) act) (okc .fit) t-done));
           ok = okc;
           more = r .run .more ++ (r .entries ++ nums (entry 6 0 0));
@@ -97,7 +97,7 @@ module _ {g : Grammar} {K : List ℕ} where
               let f' = shorter (r .entries ++ nums (entry 6 0 0)) (r .run .ok) refl (among-later ((r .after .items, group x) ∷ []) (r .starts)) F T f in
               sound-then {rs = []} {rs' = []} {xs = []} {xs' = []} (λ y s m. inr m) refl
               (let z : r .after .items ≤ r .after .items + (r .count + 1) = omega arith in
-              z) (r .run .sound F T f') (sound-block (afterClose a (r .after) (r .entries) (r .count)) (r .starts)
+              z) (r .run .sound F T f') (sound-block (afterClose at a (r .after) (r .entries) (r .count)) (r .starts)
               ((r .after .items, group x) ∷ []) (r .entries ++ nums (entry 6 0 0)) (r .count + 1) (r .run .ok) refl wide refl F T f
               (subst (λ (l : List ℕ). Blocks F g T (r .after .items) l ((r .after .items, group x) ∷ []))
               (append-nil (r .entries ++ nums (entry 6 0 0))) (b-rule {s = group x} {ys = []} (r .rows F T f') b-none)));
@@ -106,7 +106,8 @@ module _ {g : Grammar} {K : List ℕ} where
         depth = ap (λ (n : ℕ). n + 1) based;
         cost = omega (arith, r .cost, r .depth, bracket-costs x);
         adds = adds-made ((r .after .items, group x) ∷ []) (withinBody x) (group x) refl (r .adds);
-        means = λ F T w p v. means-made F g T (r .after .items) (group x) refl (w .sub (r .after .items) (group x) (inl (refl, refl))) p v;
+        leads = λ F T w. reads-final k F T w;
+        means = λ F T w p v. means-made F g T (r .after .items) at (group x) refl (reads-final k F T w) (w .sub (r .after .items) (group x) (inl (refl, refl))) p v;
       }
 
   mutual
@@ -115,7 +116,7 @@ module _ {g : Grammar} {K : List ℕ} where
     symbol-run (terminal x) p n at a S w o h = terminal-sym x at a S (n .1 x (in-head refl)) w o h
     symbol-run (nonterminal m x) p n at a S w o h = name-sym m x at a S n w o h
     symbol-run (group x) p n at a S w o h =
-        group-sym x o h (body-run x p n (at + 1) (opened at a) S
+        group-sym x o h (at-left (open-group ∷ []) (bodyTokens x ++ close-group ∷ []) w) (body-run x p n (at + 1) (opened at a) S
         (at-left (bodyTokens x) (close-group ∷ []) (at-head open-group (bodyTokens x ++ close-group ∷ []) w))
         (ok-pushed (entry 0 (a .base) at) (a .depth) o (omega (arith, bracket-costs x)) (o .fit .depth))
         (omega (arith, bracket-costs x)))

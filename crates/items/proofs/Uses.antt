@@ -34,7 +34,7 @@ module _ {T : List ℕ} {g : Grammar} {S : Starts} where
   pub stands-kind : {p : ℕ} {s : Symbol} → Stands T g S p s → (1 ≤ kindAt T p) × (kindAt T p ≤ 4)
   stands-kind (st-terminal k r i) = (omega arith, omega arith)
   stands-kind (st-name {m = m} {n = n} k r a) = let w = kind-of-mark (over m (ruleMark (rules g) n)) in (omega arith, omega arith)
-  stands-kind (st-made d k a) = (omega arith, omega arith)
+  stands-kind (st-made d k r a) = (omega arith, omega arith)
 
   -- an item of kind 5 or more ends an alternative; one of kind 4 or less stands for a symbol
   pub spells-end : {p : ℕ} {ss : List Symbol} → Spells T g S p ss → 5 ≤ kindAt T p → ss ≡ []

@@ -2,7 +2,7 @@
 -- from an item to the next. Item p is three numbers from 12288 + 3 * p on: its kind, its target and the place of its token.
 --   1     a terminal, by its token
 --   2 3 4 a nonterminal that is written as an element, as an attribute, or not; its target is the first item of its rule. A rule
---         that a bracket or a repetition makes has no token.
+--         that a bracket or a repetition makes has the token that begins its factor.
 --   5 6   the end of an alternative: the next one begins at the next item; it is the last
 use mathlib.Core.List.{List, [], _∷_, _++_, List·Memᴰ as In}
 use mathlib.Core.Logic.{_⊎_}
@@ -10,8 +10,9 @@ use mathlib.Core.Path.{_≡_}
 use Prim.Native.Nat.{ℕ, _+_, _*_, _<_, _≤_}
 use lib.ListN.{length, getD, take, drop}
 use Rattle.text.specs.Lists.{Text}
-use Rattle.tree.specs.Tree.{Mark, unmarked, included, attribute, deleted, Terminal, Symbol, terminal, nonterminal, Grammar, rules}
-use Rattle.tree.specs.Tokens.{Token, name, encode, terminalTokens}
+use Rattle.tree.specs.Tree.{Mark, unmarked, included, attribute, deleted, Terminal, Grammar, rules}
+use Rattle.tree.specs.Tree.{Symbol, terminal, nonterminal, group, option, repeat0, repeat1, repeat0sep, repeat1sep, rest}
+use Rattle.tree.specs.Tokens.{Token, name, open-group, encode, terminalTokens}
 use Rattle.plain.specs.Written.{kind, made, terminals}
 use Rattle.plain.specs.Plain.{alts, ruleMark, over, weight, size}
 
@@ -28,6 +29,18 @@ tokenAt T p = getD T (12290 + 3 * p) 0
 pub record Reads (T : List ℕ) (at : ℕ) (ts : List Token) : Type 0 where
   pub more : List ℕ
   pub stands : drop at (take 12288 T) ≡ encode ts ++ more
+
+-- the tokens that begin what is written of a symbol: a made rule's are those of "the factor they came from"
+abbrev pub lead : Symbol → List Token
+lead (terminal x) = terminalTokens x
+lead (nonterminal m n) = name m n ∷ []
+lead (group b) = open-group ∷ []
+lead (option f) = lead f
+lead (repeat0 f) = lead f
+lead (repeat1 f) = lead f
+lead (repeat0sep f sep) = lead f
+lead (repeat1sep f sep) = lead f
+lead (rest f sep) = lead f
 
 -- the kind of an item, by its mark
 abbrev pub markKind : Mark → ℕ
@@ -46,7 +59,7 @@ pub data Stands (T : List ℕ) (g : Grammar) (S : Starts) : ℕ → Symbol → T
   st-terminal : {p : ℕ} {x : Terminal} → kindAt T p ≡ 1 → Reads T (tokenAt T p) (terminalTokens x) → In x (terminals g) → Stands T g S p (terminal x)
   st-name : {p : ℕ} {m : Mark} {n : Text} → kindAt T p ≡ markKind (over m (ruleMark (rules g) n)) → Reads T (tokenAt T p) (name m n ∷ [])
       → Among (targetAt T p) (nonterminal unmarked n) S → Stands T g S p (nonterminal m n)
-  st-made : {p : ℕ} {s : Symbol} → kind s ≡ made → kindAt T p ≡ 4 → Among (targetAt T p) s S → Stands T g S p s
+  st-made : {p : ℕ} {s : Symbol} → kind s ≡ made → kindAt T p ≡ 4 → Reads T (tokenAt T p) (lead s) → Among (targetAt T p) s S → Stands T g S p s
 
 -- from the item on, these symbols are left of an alternative
 pub data Spells (T : List ℕ) (g : Grammar) (S : Starts) : ℕ → List Symbol → Type 0 where

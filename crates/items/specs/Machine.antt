@@ -63,7 +63,7 @@ pub record One (k : ℕ) (a b : Abs) : Type 0 where
     items = a .items + oneCount k;
     rows = a .rows;
     rules = a .rules;
-    stack = under ++ nums (entry 4 (a .items + oneFirst k) 0);
+    stack = under ++ nums (entry 4 (a .items + oneFirst k) (f .token));
     depth = count + 1;
     base = a .base;
   }
@@ -82,7 +82,7 @@ pub record Two (k : ℕ) (a b : Abs) : Type 0 where
     items = a .items + twoCount k;
     rows = a .rows;
     rules = a .rules;
-    stack = under ++ nums (entry 4 (a .items + twoFirst k) 0);
+    stack = under ++ nums (entry 4 (a .items + twoFirst k) (f .token));
     depth = count + 1;
     base = a .base;
   }
@@ -110,7 +110,7 @@ pub record Closed (a b : Abs) : Type 0 where
     items = a .items + (block .count + 1);
     rows = a .rows;
     rules = a .rules;
-    stack = block .under ++ nums (entry 4 (a .items) 0);
+    stack = block .under ++ nums (entry 4 (a .items) (block .place));
     depth = a .base + 1;
     base = block .old;
   }

@@ -23,6 +23,7 @@ use repetitions::copy;
 use repetitions::item;
 use repetitions::one;
 use repetitions::put;
+use repetitions::renew;
 use repetitions::two;
 
 fn action_of(k: u32) -> Action
@@ -67,7 +68,7 @@ fn late_action(k: u32) -> Action
     Action::Skip
 }
 
-// An operator in the place of its operands.
+// An operator in the place of its operands; the made rule's entry keeps the token of its factor.
 fn operate(table: &mut [u32], s: State, k: u32) -> State
     requires { ⌜ Ready (Action.Operator k) 0 (now table) s ⌝ }
     ensures { λ r. ⌜ Acts (Action.Operator k) 0 (now (table .entry)) s (now (table .exit)) r ⌝ }
@@ -77,7 +78,7 @@ fn operate(table: &mut [u32], s: State, k: u32) -> State
         let d = s.depth - 1;
         let from = STACK + ENTRY_COLUMNS * d;
         let m = one(table, n, from, k);
-        put(table, from, DELETED, m.first as u32, 0);
+        renew(table, from, DELETED, m.first as u32);
         return State {
             items: m.next,
             rules: s.rules,
@@ -88,7 +89,7 @@ fn operate(table: &mut [u32], s: State, k: u32) -> State
     let d = s.depth - 2;
     let from = STACK + ENTRY_COLUMNS * d;
     let m = two(table, n, from, k);
-    put(table, from, DELETED, m.first as u32, 0);
+    renew(table, from, DELETED, m.first as u32);
     State {
         items: m.next,
         rules: s.rules,
@@ -156,7 +157,7 @@ fn close(table: &mut [u32], s: State) -> State
     let n = s.items;
     let old = table[STACK_BASE + ENTRY_COLUMNS * b] as usize;
     let next = block(table, n, b + 1, s.depth);
-    put(table, STACK + ENTRY_COLUMNS * b, DELETED, n as u32, 0);
+    renew(table, STACK + ENTRY_COLUMNS * b, DELETED, n as u32);
     State {
         items: next,
         rules: s.rules,

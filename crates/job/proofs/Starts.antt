@@ -17,7 +17,7 @@ use Rattle.text.specs.declared.Diagnostic.{Diagnostic}
 use Rattle.text.specs.declared.CharPlace.{CharPlace}
 use Rattle.plain.specs.Plain.{size}
 use Rattle.answer.specs.Answer.{Job, tableNeed}
-use Rattle.answer.specs.Compute.{firstOf, grammarTests, recordTests, Value, value, valueAt, placesAt, checkValues, jobValues}
+use Rattle.answer.specs.Compute.{firstOf, grammarTests, recordTests, Value, value, valueAt, placesAt, placeValues, checkValues, jobValues}
 use Rattle.answer.proofs.Noted.{value-skip}
 use Rattle.answer.proofs.Stages.{stage-15}
 use Rattle.load.specs.Loaded.{Turned}
@@ -49,7 +49,7 @@ module _ (j : Job) (T new : List ℕ) where
       let none = value-skip twelve (thirteen ∷ []) n a ∙ value-skip thirteen [] n b in
       let rest = value-cong three [] (twelve ∷ thirteen ∷ []) n (sym none) in
       let e = value-cong two (three ∷ []) (three ∷ twelve ∷ thirteen ∷ []) n rest in
-      λ ι. record { byte = e ι; fault = 0; grammar = 0 }
+      λ ι. record { byte = e ι; fault = 0; grammar = valueAt (placeValues (j .grammar)) n }
 
   pub ends-grammar : (d : Accepted) (k n : Diagnostic) → d ≡ Turned-down k → n ≡ diagnosticOf (stageOf d) → Accepts (j .grammar) T d → Begins j T new (Ended n)
   ends-grammar d k n q e l =

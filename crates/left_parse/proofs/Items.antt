@@ -48,22 +48,22 @@ module _ {T : List ℕ} {g : Grammar} {starts : Starts} where
   pub stands-kind : {p : ℕ} {s : Symbol} → Stands T g starts p s → (1 ≤ kindAt T p) × (kindAt T p ≤ 4)
   stands-kind (st-terminal k r i) = omega arith
   stands-kind (st-name {m = m} {n = n} k r a) = let b = mark-kind (over m (ruleMark (rules g) n)) in omega arith
-  stands-kind (st-made q k a) = omega arith
+  stands-kind (st-made q k r a) = omega arith
 
   pub node-kind : {p a : ℕ} {s : Symbol} → Stands T g starts p s → a < length (alts g s) → 2 ≤ kindAt T p
   node-kind (st-terminal k r i) l = absurd (omega arith)
   node-kind (st-name {m = m} {n = n} k r a) l = let b = mark-kind (over m (ruleMark (rules g) n)) in omega arith
-  node-kind (st-made q k a) l = omega arith
+  node-kind (st-made q k r a) l = omega arith
 
   pub leaf-stands : {p : ℕ} {x : Terminal} → Stands T g starts p (terminal x) → (kindAt T p ≡ 1) × Reads T (tokenAt T p) (terminalTokens x)
   leaf-stands (st-terminal k r i) = (k, r)
-  leaf-stands (st-made q k a) = absurd (let z : _≡_ {A = ℕ} 0 1 = cc in omega arith)
+  leaf-stands (st-made q k r a) = absurd (let z : _≡_ {A = ℕ} 0 1 = cc in omega arith)
 
   pub alternatives-of : {p a : ℕ} {s : Symbol} → ((x : ℕ) (u : Symbol) → Among x u starts → Alternatives T g starts x (alts g u))
       → Stands T g starts p s → a < length (alts g s) → Alternatives T g starts (targetAt T p) (alts g s)
   alternatives-of rule (st-terminal k r i) l = absurd (omega arith)
   alternatives-of rule (st-name {p = p} {n = n} k r a) l = rule (targetAt T p) (nonterminal unmarked n) a
-  alternatives-of rule (st-made {p = p} {s = s} q k a) l = rule (targetAt T p) s a
+  alternatives-of rule (st-made {p = p} {s = s} q k r a) l = rule (targetAt T p) s a
 
   pub ends-kind : {p : ℕ} → Spells T g starts p [] → 5 ≤ kindAt T p
   ends-kind (sp-end k) = ⊎-elim (λ e. omega arith) (λ e. omega arith) k

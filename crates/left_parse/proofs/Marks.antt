@@ -26,12 +26,12 @@ module _ {T : List ℕ} {g : Grammar} {starts : Starts} where
   pub node-mark : {p a : ℕ} {s : Symbol} → Stands T g starts p s → a < length (alts g s) → kindAt T p ≡ markKind (markOf g s)
   node-mark (st-terminal k r i) l = absurd (omega arith)
   node-mark (st-name {m = m} {n = n} k r a) l = k
-  node-mark (st-made {s = s} q k a) l = k ∙ made-mark g s q
+  node-mark (st-made {s = s} q k r a) l = k ∙ made-mark g s q
 
   pub node-named : {p : ℕ} {s : Symbol} → Stands T g starts p s → 2 ≤ kindAt T p → kindAt T p ≤ 3 → (k : ℕ) × Named T (tokenAt T p) k (nameOf s)
   node-named (st-terminal k r i) a b = absurd (omega arith)
   node-named (st-name {m = m} {n = n} k r x) a b = (markNumber m, record { more = r .more; stands = r .stands ∙ ap (λ (t : Text). markNumber m ∷ length n ∷ (t ++ r .more)) (append-nil n) })
-  node-named (st-made q k x) a b = absurd (omega arith)
+  node-named (st-made q k r x) a b = absurd (omega arith)
 
 module _ (n : Text) (x : Xml) (v : Text) where
   pub marked-element : (m : Mark) → 2 ≡ markKind m → marked m n x v ≡ elem n x none

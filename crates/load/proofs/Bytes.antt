@@ -1,10 +1,12 @@
 -- From bytes: what the decoder's answers say of the tests, and the whole stage.
 use mathlib.Core.Bool.{Bool, true, false}
 use mathlib.Core.Path.{_≡_, refl, sym, subst, ap, _∙_}
-use mathlib.Core.Logic.{inl}
+use mathlib.Core.Logic.{inl, inr}
 use mathlib.Core.List.{List, [], _∷_, _++_}
 use Prim.Native.Nat.{ℕ, zero, suc, _+_, _≤_, _<_}
 use native.Mathlib.Omega.{arith}
+use native.Mathlib.Decide.{decLt}
+use borrow.Author.Tests.{lt-ltb, le-ltb}
 use lib.Dec.{eqb, ltb}
 use lib.ListN.{length, take, drop, length-append}
 use lib.Seq.{take-all, take-at}
@@ -24,8 +26,8 @@ use Rattle.syntax.specs.Parser.{Parsed, parsed, no-parse, parse}
 use Rattle.plain.specs.Static.{undefined, duplicate, beyond, banned, backwards, unclassed}
 use Rattle.plain.specs.Plain.{size}
 use Rattle.derive.specs.Yield.{unproductive}
-use Rattle.answer.specs.Compute.{Test, test, firstOf, treeOf, grammarTests, mismatch, value, placesAt, checkValues}
-use Rattle.answer.proofs.Noted.{value-skip}
+use Rattle.answer.specs.Compute.{Test, test, firstOf, treeOf, grammarTests, mismatch, value, valueAt, placesAt, placeIn, placeValues, checkValues}
+use Rattle.answer.proofs.Noted.{value-skip, place-value, placeless}
 use Rattle.answer.proofs.Stages.{stage-1, stage-2, stage-3, stage-4, stage-static, tree-is, mismatch-is}
 use Rattle.decode.specs.declared.Decoding.{Decoding}
 use Rattle.decode.specs.declared.Decoding.the-variants.{Of, CutShort, Malformed, Unknown}
@@ -36,7 +38,7 @@ use Rattle.decode.specs.Whole.{Ends, cut-short, malformed, unknown, Decodes}
 use Rattle.decode.proofs.Answers.{Tells, tells-of, tells-cut, tells-malformed, tells-unknown, Told, told-grammar}
 use Rattle.load.specs.declared.Passed.{Passed}
 use Rattle.load.specs.declared.Loaded.{Loaded}
-use Rattle.load.specs.Checked.{Refuses, stageOf}
+use Rattle.load.specs.Checked.{Refuses, atCharacter, placeFor, stageOf}
 use Rattle.load.specs.Loaded.{Roomy, Reads, reads-none, reads-refused, reads-grammar, Turned, Kept, Loads, placesOf}
 
 -- no more characters than bytes
@@ -145,10 +147,11 @@ pub too-long : (bs : List ℕ) → 4096 < length bs → Turned bs (plainly 1)
 too-long bs l = record { some = λ e. omega arith; early = inl (omega arith); first = λ ts. stage-1 bs ts l; places = refl }
 
 -- the numbers of the static rules and the size
-between-of : (g : Grammar) (n : ℕ) → Refuses g n → (4 ≤ n) × (n ≤ 11)
+between-of : (g : Grammar) (n : ℕ) → Refuses g n → (5 ≤ n) × (n ≤ 11)
 between-of g n r = by (undefined g) (duplicate g) (beyond g) (banned g) (backwards g) (unclassed g) (ltb mostSize (size g)) (r .first [])
   where
-    by : (a b c d e f s : Bool) → firstOf (test 5 (λ _. a) ∷ test 6 (λ _. b) ∷ test 7 (λ _. c) ∷ test 8 (λ _. d) ∷ test 9 (λ _. e) ∷ test 10 (λ _. f) ∷ test 11 (λ _. s) ∷ []) ≡ n → (4 ≤ n) × (n ≤ 11)
+    by : (a b c d e f s : Bool) → firstOf (test 5 (λ _. a) ∷ test 6 (λ _. b) ∷ test 7 (λ _. c) ∷ test 8 (λ _. d) ∷ test 9 (λ _. e) ∷ test 10 (λ _. f)
+        ∷ test 11 (λ _. s) ∷ []) ≡ n → (5 ≤ n) × (n ≤ 11)
     by true b c d e f s q = (omega arith, omega arith)
     by false true c d e f s q = (omega arith, omega arith)
     by false false true d e f s q = (omega arith, omega arith)
@@ -159,27 +162,36 @@ between-of g n r = by (undefined g) (duplicate g) (beyond g) (banned g) (backwar
     by false false false false false false false q = absurd (r .some (sym q))
 
 -- a refusal from 4 on
-plain-turned : (bs : List ℕ) (d : Diagnostic) → d ≡ plainly (d .number) → (d .number ≡ 0 → ⊥) → 4 ≤ d .number → d .number ≤ 11
+late-turned : (bs : List ℕ) (p : ℕ) (d : Diagnostic) → d ≡ atCharacter (d .number) p → valueAt (placeValues bs) (d .number) ≡ p
+    → (d .number ≡ 0 → ⊥) → 4 ≤ d .number → d .number ≤ 11
     → ((ts : List Test) → firstOf (grammarTests bs ts) ≡ d .number) → Turned bs d
-plain-turned bs d e z l h f = record { some = z; early = inl h; first = f; places = ap (λ (x : Diagnostic). placesOf (x .places)) e ∙ sym (none (d .number) l) }
+late-turned bs p d e g z l h f = record { some = z; early = inl h; first = f; places = ap (λ (x : Diagnostic). placesOf (x .places)) e ∙ sym (at (d .number) l g) }
   where
-    none : (n : ℕ) → 4 ≤ n → placesAt (checkValues bs) n ≡ record { byte = 0; fault = 0; grammar = 0 }
-    none n l =
+    at : (n : ℕ) → 4 ≤ n → valueAt (placeValues bs) n ≡ p → placesAt (checkValues bs) n ≡ record { byte = 0; fault = 0; grammar = p }
+    at n l g =
         let two = value 2 (λ _. breakOf every bs (afterMark bs)) in
         let three = value 3 (λ _. breakOf known bs (afterMark bs)) in
         let e = value-skip two (three ∷ []) n (λ q. omega arith) ∙ value-skip three [] n (λ q. omega arith) in
-        λ ι. record { byte = e ι; fault = 0; grammar = 0 }
+        λ ι. record { byte = e ι; fault = 0; grammar = g ι }
+
+-- the place that checking's answer carries, of a text that the bytes have
+place-of : (bs : List ℕ) (cs : Text) (n : ℕ) → decode bs ≡ text cs → 5 ≤ n → n ≤ 11 → valueAt (placeValues bs) n ≡ placeFor (unmarked cs) n
+place-of bs cs n e l h = elim (decLt 10 n) as (λ _. valueAt (placeValues bs) n ≡ placeFor (unmarked cs) n) [
+  | yes k ↦ rw (lt-ltb 10 n k) (placeless bs n (inr k))
+  | no k ↦ (let m : n ≤ 10 = omega arith in rw (le-ltb 10 n m) (place-value bs n l m ∙ ap (λ (d : Decoded). placeIn d n) e))
+]
 
 pub loaded : (bs new T : List ℕ) (n : ℕ) → length bs ≤ 4096 → Got bs new n → (r : Loaded) → Reads (take n new) T (stageOf r) → Loads bs T r
 loaded bs new T n l d r h = go (stageOf r) (subst (λ (s : Text). Reads s T (stageOf r)) (d .stored) h)
   where
     go : (a : StageAnswer Passed Diagnostic) → Reads (unmarked (d .chars)) T a → Settles (Kept bs T) (Turned bs) a
     go _ (reads-none e) =
-        plain-turned bs (plainly 4) refl (λ z. omega arith) (omega arith) (omega arith) (λ ts. stage-4 bs ts l (d .chars) (d .decoded) (d .within) e)
+        late-turned bs 0 (plainly 4) refl refl (λ z. omega arith) (omega arith) (omega arith) (λ ts. stage-4 bs ts l (d .chars) (d .decoded) (d .within) e)
     go _ (reads-refused {d = k} f) =
         let x = f .holds in
         let b = between-of (x .tree) (k .number) (x .refuses) in
-        plain-turned bs k (f .nowhere) (x .refuses .some) (b .0) (b .1)
+        let e : 4 ≤ k .number = omega (arith, b .0) in
+        late-turned bs (placeFor (unmarked (d .chars)) (k .number)) k (f .place) (place-of bs (d .chars) (k .number) (d .decoded) (b .0) (b .1)) (x .refuses .some) e (b .1)
         (λ ts. stage-static bs ts l (d .chars) (d .decoded) (d .within) (x .tree) (x .parse) ∙ x .refuses .first (test 24 (λ _. unproductive (x .tree)) ∷ ts))
     go _ (reads-grammar x) =
         let g = x .tree in

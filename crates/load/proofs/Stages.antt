@@ -1,6 +1,6 @@
 -- The tests from 5 to 11 come to what the static rules and the size say.
 use mathlib.Core.Bool.{Bool, true, false}
-use mathlib.Core.Path.{_≡_, refl, sym, ap, _∙_}
+use mathlib.Core.Path.{_≡_, refl, sym, ap, subst, _∙_}
 use mathlib.Core.List.{List, [], _∷_}
 use Prim.Native.Nat.{ℕ, _≤_, _<_}
 use native.Mathlib.Omega.{arith}
@@ -8,7 +8,7 @@ use lib.Dec.{ltb}
 use lib.ListN.{length, take}
 use borrow.Author.Tests.{lt-ltb, le-ltb}
 use Rattle.text.specs.Limits.{mostSize}
-use Rattle.text.specs.Lists.{pick}
+use Rattle.text.specs.Lists.{Text, pick}
 use Rattle.tree.specs.Tree.{Grammar}
 use Rattle.plain.specs.Static.{undefined, duplicate, beyond, banned, backwards, unclassed, mismatched}
 use Rattle.plain.specs.Plain.{size}
@@ -23,6 +23,7 @@ use types.Run.{OneOf}
 use Rattle.static_errors.specs.Held as static
 use Rattle.tokens.specs.Lengths as tokens
 use Rattle.measure.specs.Costs as sizes
+use Rattle.locate.specs.Asked.{Asked}
 use Rattle.load.specs.declared.Passed.{Passed}
 use Rattle.load.specs.Checked.{Stands, Standing, treeTests, Refuses, Passes}
 use Rattle.load.proofs.Proper.{grammar-proper}
@@ -96,8 +97,34 @@ to-static T end g w s = record { within = w; held = s .held; proper = written-pr
 pub to-size : (T : List ℕ) (end : ℕ) (g : Grammar) → Stands T end g → tokens.Holds T end g
 to-size T end g s = record { proper = grammar-proper (s .derived); stands = s .held }
 
-pub static-asks : (T : List ℕ) (end : ℕ) → Standing T end → static.Held T end
-static-asks T end s = let w = s .within in let h = s .short in record { grammar = s .grammar; holds = to-static T end (s .grammar) w (s .stands); short = omega arith }
+pub static-asks : (s : Text) (T : List ℕ) (end : ℕ) → Standing s T end → static.Held T end
+static-asks c T end s = let w = s .within in let h = s .short in record { grammar = s .grammar; holds = to-static T end (s .grammar) w (s .stands); short = omega arith }
 
-pub size-asks : (T : List ℕ) (end : ℕ) → Standing T end → sizes.Tree T end
-size-asks T end s = let w = s .within in let h = s .short in record { tree = s .grammar; holds = to-size T end (s .grammar) (s .stands); inside = w; small = omega arith }
+pub size-asks : (s : Text) (T : List ℕ) (end : ℕ) → Standing s T end → sizes.Tree T end
+size-asks c T end s = let w = s .within in let h = s .short in record { tree = s .grammar; holds = to-size T end (s .grammar) (s .stands); inside = w; small = omega arith }
+
+-- the place of the rule that is broken
+pub place-asks : (s : Text) (T : List ℕ) (end : ℕ) (x : Standing s T end) (v : Ruling) (n : ℕ) → OneOf (1 ∷ 2 ∷ 3 ∷ 4 ∷ 5 ∷ 6 ∷ []) (tagOf the-type v) → n ≡ ruleNumber v
+    → ruleNumber v ≡ staticOf (x .grammar) → Asked s T end n
+place-asks s T end x v n q f e = let h = x .short in let w = x .within in record {
+  grammar = x .grammar;
+  parse = x .parse;
+  holds = to-static T end (x .grammar) w (x .stands);
+  small = x .chars;
+  short = omega arith;
+  broken = sym (f ∙ e);
+  some = λ z. some-rule v q (sym f ∙ z);
+}
+
+pub at-most-10 : (g : Grammar) (n : ℕ) → n ≡ staticOf g → n ≤ 10
+unfolding staticOf
+at-most-10 g n e = subst (λ (m : ℕ). m ≤ 10) (sym e) (by (undefined g) (duplicate g) (beyond g) (banned g) (backwards g) (unclassed g))
+  where
+    by : (a b c d e f : Bool) → chainOf a b c d e f ≤ 10
+    by true b c d e f = omega arith
+    by false true c d e f = omega arith
+    by false false true d e f = omega arith
+    by false false false true e f = omega arith
+    by false false false false true f = omega arith
+    by false false false false false true = omega arith
+    by false false false false false false = omega arith

@@ -5,15 +5,17 @@ use mathlib.Core.List.{List, _∷_}
 use Prim.Native.Nat.{ℕ, _≤_, _<_}
 use lib.Dec.{ltb}
 use lib.ListN.{length, take}
-use Rattle.text.specs.Limits.{mostSize, grammarTable}
-use Rattle.text.specs.Lists.{Text}
-use Rattle.text.specs.Stages.{StageAnswer, answered, refused, Settles, Plain}
+use Rattle.text.specs.Limits.{grammarBytes, mostSize, grammarTable}
+use Rattle.text.specs.Lists.{Text, pick}
+use Rattle.text.specs.Stages.{StageAnswer, answered, refused, Settles}
 use Rattle.text.specs.declared.Diagnostic.{Diagnostic}
 use Rattle.tree.specs.Tree.{Grammar}
 use Rattle.tree.specs.Tokens.{encode, grammarTokens}
 use Rattle.syntax.specs.Syntax.{Ixml}
+use Rattle.syntax.specs.Parser.{parsed, parse}
 use Rattle.plain.specs.Static.{undefined, duplicate, beyond, banned, backwards, unclassed, mismatched}
 use Rattle.plain.specs.Plain.{size}
+use Rattle.places.specs.Tokens.{placeOf}
 use Rattle.answer.specs.Compute.{Test, test, firstOf}
 use Rattle.static_errors.specs.Held.{staticOf}
 use Rattle.load.specs.declared.Passed.{Passed}
@@ -26,9 +28,11 @@ pub record Stands (T : List ℕ) (end : ℕ) (g : Grammar) : Type 0 where
   pub derived : Ixml text g
   pub held : take end T ≡ encode (grammarTokens g)
 
-pub record Standing (T : List ℕ) (end : ℕ) : Type 0 where
+pub record Standing (s : Text) (T : List ℕ) (end : ℕ) : Type 0 where
   pub grammar : Grammar
+  pub parse : parse s ≡ parsed grammar
   pub stands : Stands T end grammar
+  pub chars : length s ≤ grammarBytes
   pub within : end ≤ length T
   pub short : length T ≤ grammarTable
 
@@ -61,5 +65,16 @@ abbrev pub stageOf : Loaded → StageAnswer Passed Diagnostic
 stageOf (Accepted p) = answered p
 stageOf (Refused d) = refused d
 
-abbrev pub TreeChecked : List ℕ → ℕ → Loaded → Type 0
-TreeChecked T end r = (g : Grammar) → Stands T end g → Settles (Passes g end) (Plain (Refuses g)) (stageOf r)
+-- a refusal at a character of the grammar; 5 to 10 name their place in its text
+abbrev pub atCharacter : ℕ → ℕ → Diagnostic
+atCharacter n p = record { number = n; places = record { byte = record { 0 = 0 }; fault = record { 0 = 0 }; grammar = record { 0 = p } } }
+
+abbrev pub placeFor : Text → ℕ → ℕ
+placeFor s n = pick (ltb 10 n) 0 (placeOf n s)
+
+pub record Placed (Q : ℕ → Type 0) (s : Text) (d : Diagnostic) : Type 0 where
+  pub holds : Q (d .number)
+  pub place : d ≡ atCharacter (d .number) (placeFor s (d .number))
+
+abbrev pub TreeChecked : Text → List ℕ → ℕ → Loaded → Type 0
+TreeChecked s T end r = (g : Grammar) → Stands T end g → Settles (Passes g end) (Placed (Refuses g) s) (stageOf r)

@@ -7,7 +7,7 @@ use Prim.Native.Nat.{ℕ, _*_, _≤_}
 use lib.ListN.{length}
 use Rattle.text.specs.Limits.{grammarBytes, grammarTable, mostSize}
 use Rattle.text.specs.Lists.{Text}
-use Rattle.text.specs.Stages.{StageAnswer, answered, refused, Settles, plainly, Plain}
+use Rattle.text.specs.Stages.{StageAnswer, answered, refused, Settles, plainly}
 use Rattle.text.specs.declared.Places.{Places}
 use Rattle.text.specs.declared.Diagnostic.{Diagnostic}
 use Rattle.tree.specs.Tree.{Grammar}
@@ -20,7 +20,7 @@ use Rattle.answer.specs.Compute.{Test, test, firstOf, treeOf, grammarTests, mis
 use Rattle.static_errors.specs.Held.{staticOf}
 use Rattle.load.specs.declared.Passed.{Passed}
 use Rattle.load.specs.declared.Loaded.{Loaded}
-use Rattle.load.specs.Checked.{Stands, Passes, Refuses, stageOf}
+use Rattle.load.specs.Checked.{Stands, Passes, Refuses, Placed, stageOf}
 
 -- the table is one that a grammar's characters have room in
 pub record Roomy (s : Text) (T : List ℕ) : Type 0 where
@@ -44,7 +44,7 @@ pub record Fails (s : Text) (n : ℕ) : Type 0 where
 -- of characters: 4 without a tree
 pub data Reads (s : Text) (T : List ℕ) : StageAnswer Passed Diagnostic → Type 0 where
   reads-none : parse s ≡ no-parse → Reads s T (refused (plainly 4))
-  reads-refused : {d : Diagnostic} → Plain (Fails s) d → Reads s T (refused d)
+  reads-refused : {d : Diagnostic} → Placed (Fails s) s d → Reads s T (refused d)
   reads-grammar : {p : Passed} → Parses s T p → Reads s T (answered p)
 
 -- the places of a refusal, as an answer carries them

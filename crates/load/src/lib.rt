@@ -2,14 +2,17 @@
 use decode::Decoding;
 use reader::Reading;
 use static_errors::Ruling;
+use text::BytePlace;
+use text::CharPlace;
 use text::Diagnostic;
+use text::Places;
 use text::limits;
 use text::refusals;
 ghost use mathlib.Core.Path.{_≡_};
 ghost use lib.ListN.{length};
 ghost use Rattle.static_errors.specs.Held.{ruleNumber};
 ghost use Rattle.text.specs.Stages.{diagnosticOf};
-ghost use Rattle.load.specs.Checked.{stageOf, Standing, TreeChecked};
+ghost use Rattle.load.specs.Checked.{stageOf, Standing, atCharacter, TreeChecked};
 ghost use Rattle.load.specs.Loaded.{Roomy, Reads, Loads};
 ghost use Rattle.text.specs.Limits.{grammarTable};
 
@@ -52,14 +55,30 @@ fn why_broken(ruling: Ruling) -> u32
     }
 }
 
-// Checks the tree in the first numbers of the table by refusals 5 to 11.
-pub fn check_tree(table: &[u32], end: usize) -> Loaded
-    requires { ⌜ Standing (now table) end ⌝ }
-    ensures { λ r. ⌜ TreeChecked (now (table .entry)) end r ⌝ }
+// A refusal at a character of the grammar.
+fn at_character(number: u32, place: CharPlace) -> Diagnostic
+    ensures { λ r. ⌜ r ≡ atCharacter number (place .0) ⌝ }
+{
+    Diagnostic {
+        number,
+        places: Places {
+            byte: BytePlace(0),
+            fault: CharPlace(0),
+            grammar: place,
+        },
+    }
+}
+
+// Checks the tree of a text, in the first numbers of the table, by refusals 5 to 11.
+pub fn check_tree(text: &[u32], table: &[u32], end: usize) -> Loaded
+    requires { ⌜ Standing (now text) (now table) end ⌝ }
+    ensures { λ r. ⌜ TreeChecked (now (text .entry)) (now (table .entry)) end r ⌝ }
 {
     let ruling = static_errors::static_refusal(table, end);
     let Ruling::Kept = ruling else {
-        return Loaded::Refused(text::plain(why_broken(ruling)));
+        let rule = why_broken(ruling);
+        let place = locate::fault_place(text, table, end, rule);
+        return Loaded::Refused(at_character(rule, place));
     };
     let size = measure::grammar_size(table, end);
     if LARGEST < size {
@@ -82,7 +101,7 @@ pub fn read_text(text: &[u32], table: &mut [u32]) -> Loaded
     let Reading::Grammar(end) = read else {
         return Loaded::Refused(text::plain(refusals::NOT_IXML));
     };
-    check_tree(table, end.0)
+    check_tree(text, table, end.0)
 }
 
 // The tree of a grammar's bytes in the table, checked by refusals 1 to 11.

@@ -45,7 +45,7 @@ pub is-list : (k : ℕ) (f sep : Entry) (i : ℕ) → k ≡ 38 → Is2 k f sep i
 unfolding twoBlock twoCount twoFirst
 is-list k f sep i e = record { block = simp (eq-eqb k 38 e); count = simp (eq-eqb k 38 e); first = simp (eq-eqb k 38 e) }
 
-pub is-maybe : (k : ℕ) (f sep : Entry) (i : ℕ) → (k ≡ 38 → ⊥) → Is2 k f sep i (listBlock f sep i ++ (4 ∷ (i + 5) ∷ 0 ∷ bothEnds)) 11 8
+pub is-maybe : (k : ℕ) (f sep : Entry) (i : ℕ) → (k ≡ 38 → ⊥) → Is2 k f sep i (listBlock f sep i ++ (4 ∷ (i + 5) ∷ f .token ∷ bothEnds)) 11 8
 unfolding twoBlock twoCount twoFirst
 is-maybe k f sep i e = record { block = simp (ne-eqb k 38 e); count = simp (ne-eqb k 38 e); first = simp (ne-eqb k 38 e) }
 

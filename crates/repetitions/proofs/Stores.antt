@@ -5,7 +5,7 @@ use Prim.Native.Nat.{ℕ, suc, _+_, _*_, _<_, _≤_}
 use native.Mathlib.Nat.{add-suc, suc-add, add-zero}
 use native.Mathlib.Omega.{arith}
 use lib.ListN.{length, getD, take, drop, set}
-use lib.Seq.{sets, getD-set-other, take-set-le, drop-set-lt, drop-set-add}
+use lib.Seq.{sets, set-getD, getD-set-other, take-set-le, drop-set-lt, drop-set-add}
 use Rattle.repetitions.specs.Blocks.{entry, entryAt, laid}
 
 module _ (T : List ℕ) (i : ℕ) where
@@ -52,3 +52,17 @@ entry-kept T i xs from p h =
   where
     entries : {a b c a' b' c' : ℕ} → a ≡ a' → b ≡ b' → c ≡ c' → entry a b c ≡ entry a' b' c'
     entries p q r = λ i. entry (p i) (q i) (r i)
+
+-- two numbers stored, and the third as it was
+pub renewed : (T : List ℕ) (at a b : ℕ) → set (set T at a) (at + 1) b ≡ sets T at (a ∷ b ∷ getD T (at + 2) 0 ∷ [])
+renewed T at a b =
+    let U = set (set T at a) (suc at) b in
+    let e : getD T (at + 2) 0 ≡ getD U (suc (suc at)) 0 =
+    ap (λ (k : ℕ). getD T k 0) (two at) ∙ sym (getD-set-other (set T at a) (suc at) (suc (suc at)) b 0 (λ e. omega arith) ∙ getD-set-other T at (suc (suc at)) a 0 (λ e. omega arith)) in
+    ap (λ (k : ℕ). set (set T at a) k b) (one at) ∙ sym (ap (set U (suc (suc at))) e ∙ set-getD U (suc (suc at)) 0)
+  where
+    one : (n : ℕ) → n + 1 ≡ suc n
+    one n = omega arith
+
+    two : (n : ℕ) → n + 2 ≡ suc (suc n)
+    two n = omega arith

@@ -22,18 +22,19 @@ nums e = e .sort ∷ e .target ∷ e .token ∷ []
 abbrev pub entryAt : List ℕ → ℕ → Entry
 entryAt T from = entry (getD T from 0) (getD T (from + 1) 0) (getD T (from + 2) 0)
 
--- the made rules as blocks of items: f the entry of the operand, sep that of a separator, i the first item
+-- the made rules as blocks of items: f the entry of the operand, sep that of a separator, i the first item; an item for a made rule
+-- keeps the token of its factor
 abbrev pub bothEnds : List ℕ
 bothEnds = 5 ∷ 0 ∷ 0 ∷ 6 ∷ 0 ∷ 0 ∷ []
 
 abbrev pub onceBlock : Entry → ℕ → List ℕ
-onceBlock f x = nums f ++ (4 ∷ x ∷ 0 ∷ 6 ∷ 0 ∷ 0 ∷ [])
+onceBlock f x = nums f ++ (4 ∷ x ∷ f .token ∷ 6 ∷ 0 ∷ 0 ∷ [])
 
 abbrev pub optionBlock : Entry → List ℕ
 optionBlock f = nums f ++ bothEnds
 
 abbrev pub starBlock : Entry → ℕ → List ℕ
-starBlock f i = nums f ++ (4 ∷ i ∷ 0 ∷ bothEnds)
+starBlock f i = nums f ++ (4 ∷ i ∷ f .token ∷ bothEnds)
 
 abbrev pub restBlock : Entry → Entry → ℕ → List ℕ
 restBlock f sep i = nums sep ++ starBlock f i
@@ -52,7 +53,7 @@ unfoldable pub oneFirst : ℕ → ℕ
 oneFirst k = pick (eqb k 34) 0 (pick (eqb k 35) 0 4)
 
 unfoldable pub twoBlock : ℕ → Entry → Entry → ℕ → List ℕ
-twoBlock k f sep i = pick (eqb k 38) (listBlock f sep i) (listBlock f sep i ++ (4 ∷ (i + 5) ∷ 0 ∷ bothEnds))
+twoBlock k f sep i = pick (eqb k 38) (listBlock f sep i) (listBlock f sep i ++ (4 ∷ (i + 5) ∷ f .token ∷ bothEnds))
 
 unfoldable pub twoCount : ℕ → ℕ
 twoCount k = pick (eqb k 38) 8 11

@@ -2,7 +2,7 @@
 ghost use mathlib.Core.Path.{_≡_};
 ghost use mathlib.Core.List.{[], _∷_, _++_};
 ghost use Prim.Native.Nat.{_+_, _<_, _≤_, _^_};
-ghost use lib.ListN.{length};
+ghost use lib.ListN.{length, getD};
 ghost use lib.Seq.{sets};
 ghost use Rattle.repetitions.specs.Blocks.{entry, nums, entryAt, bothEnds, onceBlock, optionBlock, starBlock, restBlock, listBlock};
 ghost use Rattle.repetitions.specs.Blocks.{oneBlock, oneCount, oneFirst, twoBlock, twoCount, twoFirst, laid, Room, Source};
@@ -57,6 +57,30 @@ pub fn item(table: &mut [u32], i: usize, kind: u32, target: usize)
     put(table, ITEM_KIND + ITEM_COLUMNS * i, kind, target as u32, 0);
 }
 
+// An entry of the stack becomes that of a made rule, and keeps the token of its factor.
+pub fn renew(table: &mut [u32], at: usize, kind: u32, target: u32)
+    requires { ⌜ at + 3 ≤ length (now table) ⌝ }
+    ensures { λ r. ⌜ now (table .exit) ≡ sets (now (table .entry)) at (nums (entry kind target (getD (now (table .entry)) (at + 2) 0))) ⌝ }
+{
+    table[at] = kind;
+    table[at + 1] = target;
+}
+
+// Item i: the made rule at item x, with the token of its factor, whose entry stands at a place of the stack.
+fn refer(table: &mut [u32], i: usize, x: usize, from: usize)
+    requires { ⌜ Source (now table) i 1 from 3 × (x < 2 ^ 32) ⌝ }
+    ensures { λ r. ⌜ now (table .exit) ≡ laid (now (table .entry)) i (nums (entry 4 x (entryAt (now (table .entry)) from .token))) ⌝ }
+{
+    let token = table[from + 2];
+    put(
+        table,
+        ITEM_KIND + ITEM_COLUMNS * i,
+        DELETED,
+        x as u32,
+        token,
+    );
+}
+
 // Item i: the entry at a place of the stack.
 pub fn copy(table: &mut [u32], i: usize, from: usize)
     requires { ⌜ Source (now table) i 1 from 3 ⌝ }
@@ -80,10 +104,10 @@ fn ends(table: &mut [u32], i: usize)
 // The entry, and then the rule at item x.
 fn again(table: &mut [u32], i: usize, from: usize, x: usize)
     requires { ⌜ Source (now table) i 2 from 3 × (x < 2 ^ 32) ⌝ }
-    ensures { λ r. ⌜ now (table .exit) ≡ laid (now (table .entry)) i (nums (entryAt (now (table .entry)) from) ++ nums (entry 4 x 0)) ⌝ }
+    ensures { λ r. ⌜ now (table .exit) ≡ laid (now (table .entry)) i (nums (entryAt (now (table .entry)) from) ++ nums (entry 4 x (entryAt (now (table .entry)) from .token))) ⌝ }
 {
     copy(table, i, from);
-    item(table, i + 1, DELETED, x);
+    refer(table, i + 1, x, from);
 }
 
 // f and the rule at item x
@@ -172,7 +196,7 @@ pub fn two(table: &mut [u32], i: usize, from: usize, k: u32) -> Made
             next: i + 8,
         };
     }
-    item(table, i + 8, DELETED, i + 5);
+    refer(table, i + 8, i + 5, from);
     ends(table, i + 9);
     Made {
         first: i + 8,

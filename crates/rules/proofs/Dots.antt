@@ -84,7 +84,7 @@ module _ {T : List ℕ} {g : Grammar} {S : Starts} where
   pub stands-kind : {p : ℕ} {s : Symbol} → Stands T g S p s → kindAt T p < 5
   stands-kind (st-terminal k r i) = omega arith
   stands-kind (st-name {m = m} {n = n} k r a) = omega (arith, mark-kind (over m (ruleMark (rules g) n)))
-  stands-kind (st-made e k a) = omega arith
+  stands-kind (st-made e k r a) = omega arith
 
   place-on : {L : List (List Symbol)} {p q k : ℕ} → p ≡ q → Place T g S L p k → Place T g S L q k
   place-on {L} {k = k} e w = subst (λ (n : ℕ). Place T g S L n k) e w

@@ -186,7 +186,7 @@ module _ {T : List ℕ} {g : Grammar} {size first : ℕ} (r : Ready T g size fir
   item-by p h w u l e (st-name {m = m} {n = n} k d a) = it-symbol (nonterminal m n) (nonterminal unmarked n)
       (λ q. omega (arith, mark-kind (over m (ruleMark (rules g) n)))) (omega (arith, mark-kind (over m (ruleMark (rules g) n)))) l e
       (λ x q. (let z : _≡_ {A = ℕ} 0 1 = cc in omega arith)) a refl
-  item-by p h w u l e (st-made {s = s} q k a) = it-symbol s s (λ z. omega arith) (omega arith) l e (λ x y. made-not s x q y) a refl
+  item-by p h w u l e (st-made {s = s} q k r a) = it-symbol s s (λ z. omega arith) (omega arith) l e (λ x y. made-not s x q y) a refl
 
   item : (p : ℕ) → p < size → Item p
   item p h = go (dotted-rule p h) refl

@@ -16,7 +16,7 @@ use Rattle.tokens.specs.Names.{nameAt}
 use Rattle.static_errors.specs.Parts.{Part, used, headed, code, between, classed, other, partOf, partAt, usedIn, headsIn, endCodes, codesIn, lacking, badCode, badCodes, backward, classless}
 
 -- the cases of a part
-by-form : (P : Part → Type 0) (s : ℕ) (n : Text) (v w x y : ℕ) → (s ≡ 0 → P (used n)) → (s ≡ 1 → P (headed n)) → (s ≡ 3 → P (code v)) → (s ≡ 4 → P (between v w x y))
+pub by-form : (P : Part → Type 0) (s : ℕ) (n : Text) (v w x y : ℕ) → (s ≡ 0 → P (used n)) → (s ≡ 1 → P (headed n)) → (s ≡ 3 → P (code v)) → (s ≡ 4 → P (between v w x y))
     → (s ≡ 5 → P (classed (letters v w))) → P other → P (partOf s n v w x y)
 unfolding partOf
 by-form P s n v w x y h₀ h₁ h₃ h₄ h₅ h = elim (ℕ-discrete s 0) as (λ _. P (partOf s n v w x y)) [
@@ -37,7 +37,7 @@ by-form P s n v w x y h₀ h₁ h₃ h₄ h₅ h = elim (ℕ-discrete s 0) as (�
 ]
 
 module _ (t : List ℕ) (k s : ℕ) (e : s ≡ formOf (getD t k 0)) where
-  at-form : partAt t k ≡ partOf s (nameAt t k) (getD t (k + 1) 0) (getD t (k + 2) 0) (getD t (k + 3) 0) (getD t (k + 4) 0)
+  pub at-form : partAt t k ≡ partOf s (nameAt t k) (getD t (k + 1) 0) (getD t (k + 2) 0) (getD t (k + 3) 0) (getD t (k + 4) 0)
   at-form = ap (λ (z : ℕ). partOf z (nameAt t k) (getD t (k + 1) 0) (getD t (k + 2) 0) (getD t (k + 3) 0) (getD t (k + 4) 0)) (sym e)
 
   pub is-used : s ≡ 0 → partAt t k ≡ used (nameAt t k)

@@ -177,10 +177,10 @@ class-membered = record { used = λ n. refl; headed = λ n. refl; code = λ v. r
 cap-same : (n : ℕ) → n ≤ 0x10ffff → capped n ≡ n
 cap-same n h = omega arith
 
-fine-same : (n : ℕ) → ltb 0x10ffff n ≡ false → capped n ≡ n
+pub fine-same : (n : ℕ) → ltb 0x10ffff n ≡ false → capped n ≡ n
 fine-same n e = cap-same n (ltb-false 0x10ffff n e)
 
-cap-beyond : (n : ℕ) → ltb 0x10ffff (capped n) ≡ ltb 0x10ffff n
+pub cap-beyond : (n : ℕ) → ltb 0x10ffff (capped n) ≡ ltb 0x10ffff n
 cap-beyond n = ⊎-elim (λ h. rw (lt-ltb 0x10ffff n h, lt-ltb 0x10ffff (capped n) (omega arith))) (λ h. rw (cap-same n h)) (split 0x10ffff n)
 
 or-left : (a b : Bool) → a || b ≡ false → a ≡ false
@@ -191,7 +191,7 @@ or-right : (a b : Bool) → a || b ≡ false → b ≡ false
 or-right true b e = absurd (clash e refl)
 or-right false b e = e
 
-end-same : (a : Chars) → any (ltb 0x10ffff) (hexIn a) ≡ false → endCode a ≡ codeOf a
+pub end-same : (a : Chars) → any (ltb 0x10ffff) (hexIn a) ≡ false → endCode a ≡ codeOf a
 unfolding codeOf
 end-same (string cs) e = refl
 end-same (hex n) e = fine-same n (or-left (ltb 0x10ffff n) false e)

@@ -17,7 +17,7 @@ ghost use Rattle.plain.specs.Static.{mismatched};
 use text::refusals;
 
 // The name at a is one of those listed, from a place of the list on.
-fn found(table: &[u32], a: usize, index: &[u32], from: usize, n: usize) -> bool
+pub fn found(table: &[u32], a: usize, index: &[u32], from: usize, n: usize) -> bool
     requires { ⌜ Finding (now table) a (now index) from n ⌝ }
     ensures { λ r. ⌜ r ≡ any (same (nameAt (now (table .entry)) a)) (namesAt (now (table .entry)) (slice from n (now (index .entry)))) ⌝ }
 {
@@ -69,7 +69,7 @@ fn bad_code(rule: u32, v: u32) -> bool
 }
 
 // The same of an end of a range, where it is a hex number.
-fn bad_end(rule: u32, hex: u32, v: u32) -> bool
+pub fn bad_end(rule: u32, hex: u32, v: u32) -> bool
     ensures { λ r. ⌜ r ≡ any (badCode rule) (endCodes hex v) ⌝ }
 {
     if hex != 1 {
@@ -126,7 +126,7 @@ fn lacks(table: &[u32], k: usize, index: &[u32], n: usize) -> bool
     !found(table, k, index, 0, n)
 }
 
-fn breaks(table: &[u32], k: usize, index: &[u32], n: usize, rule: u32) -> bool
+pub fn breaks(table: &[u32], k: usize, index: &[u32], n: usize, rule: u32) -> bool
     requires { ⌜ Looking (now table) k (now index) n ⌝ }
     ensures { λ r. ⌜ r ≡ failing rule (namesAt (now (table .entry)) (take n (now (index .entry)))) (partAt (now (table .entry)) k) ⌝ }
 {
@@ -170,7 +170,7 @@ fn note(table: &[u32], k: usize, index: &mut [u32], n: usize) -> usize
 }
 
 // Lists the places of all rules' heads; how many there are.
-fn heads(table: &[u32], end: usize, index: &mut [u32]) -> usize
+pub fn heads(table: &[u32], end: usize, index: &mut [u32]) -> usize
     requires { ⌜ Indexing (now table) end (now index) ⌝ }
     ensures { λ r. ⌜ Indexed (now (table .entry)) end r (now (index .exit)) ⌝ }
 {

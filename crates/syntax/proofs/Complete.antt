@@ -158,7 +158,7 @@ complete-prolog (prolog-some {k = k} h s h' s' c s'' (is d) z) r =
     rw (complete-word h, complete-rs s (v-spacing h'), complete-word h', complete-rs s' (first-string c), complete-string c (joins-s s'' (dot-joins _ d)), complete-s s'' (ch-spacing 0x2e _ refl d), d)
     (complete-spaced (version k) z (rule-spacing r))
 
-first-prolog : {t u v : Text} {p : Prolog} {r : Rule} → PrologOf t u p → RuleOf u v r → spacing (hd t) ≡ false
+pub first-prolog : {t u v : Text} {p : Prolog} {r : Rule} → PrologOf t u p → RuleOf u v r → spacing (hd t) ≡ false
 first-prolog prolog-none r = rule-spacing r
 first-prolog (prolog-some h s h' s' c s'' d z) r = ch-spacing 0x69 _ refl (first-word h)
 

@@ -88,7 +88,7 @@ mutual
   past-inside (in-char {d = d} (is p) b) k = char-at k d _ _ p ∙ past-inside b k
   past-inside (in-comment c b) k = past-comment c (suc k) ∙ past-inside b k
 
-past-s : {t u : Text} → S t u → skip t ≡ skip u
+pub past-s : {t u : Text} → S t u → skip t ≡ skip u
 past-s s-none = refl
 past-s (s-white (is p) r) = white-at _ _ p ∙ past-s r
 past-s (s-comment c r) = past-comment c 0 ∙ past-s r

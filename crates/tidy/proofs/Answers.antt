@@ -1,13 +1,14 @@
 -- Tidying has exactly one answer for each grammar and buffer, and it is the one that is computed.
-use mathlib.Core.Bool.{Bool, true, false}
+use mathlib.Core.Bool.{Bool, true, false, _||_}
 use mathlib.Core.Path.{_≡_, refl, sym, subst, ap, _∙_}
 use mathlib.Core.Logic.{_⊎_, inl, inr, ⊎-elim}
 use mathlib.Core.List.{List, [], _∷_, _++_}
 use Prim.Native.Nat.{ℕ, _<_}
 use native.Mathlib.Omega.{arith}
 use native.Mathlib.Decide.{ℕ-discrete}
-use lib.Dec.{T, ltb, eqb}
+use lib.Dec.{T, ltb, eqb, ltb→lt}
 use lib.ListN.{length}
+use Rattle.text.proofs.Tests.{or-case}
 use Rattle.text.specs.Limits.{grammarBytes}
 use Rattle.text.specs.Lists.{Text}
 use Rattle.text.specs.Utf8.{Utf8, unmarked}
@@ -18,7 +19,7 @@ use Rattle.plain.specs.Static.{mismatched}
 use Rattle.answer.specs.Answer.{Line, Topmost, GrammarText, ofText, ofTree, grammarLines, checkNotes, Answer}
 use Rattle.answer.specs.Compute.{firstOf, onTree, treeOf, grammarTests, Result, result, resultTree, checkValues, mismatch}
 use Rattle.answer.proofs.Lines.{Agree, first-topmost, listed, none-given, passed, begun, other}
-use Rattle.answer.proofs.Noted.{Keeps, keeps-check, sole-check}
+use Rattle.answer.proofs.Noted.{Keeps, keeps-check, sole-check, none-kept}
 use Rattle.answer.proofs.Agree.{Tests, grammar-agrees, tree-known, same-test, less, tree-sound, tree-complete}
 use Rattle.answer.proofs.Settled.{one-answer, computed}
 use Rattle.tidy.specs.Call.{tidyBytes, tidyLines, Tidied, Tidies, tidyTests, tidyOf}
@@ -43,8 +44,11 @@ module _ (bs old : List ℕ) where
       (refl, λ e. absurd (subst (λ (m : ℕ). T (other 3 m)) e (listed (other 3) (tidyLines bs old) n tt tt t)), tt),
     );
     faults = tt;
-    grammars = tt;
+    grammars = none-kept bs n (far (listed (λ m. ltb m 1 || ltb 10 m) (tidyLines bs old) n tt tt t));
   }
+    where
+      far : T (ltb n 1 || ltb 10 n) → (n < 5) ⊎ (10 < n)
+      far h = ⊎-elim (λ l. let k = ltb→lt n 1 l in inl (omega arith)) (λ l. inr (ltb→lt 10 n l)) (or-case (ltb n 1) (ltb 10 n) h)
 
   keeps : (n : ℕ) → Topmost lines n → Keeps n (checkNotes bs) (checkValues bs)
   unfolding lines

@@ -1,11 +1,11 @@
 -- The tidy text of an accepted grammar is accepted, and every call answers the same with it.
-use mathlib.Core.Bool.{Bool, true, false, not, _&&_}
+use mathlib.Core.Bool.{Bool, true, false, not, _&&_, _||_}
 use mathlib.Core.Path.{_≡_, refl, sym, subst, ap, _∙_}
-use mathlib.Core.Logic.{_⊎_, inl, inr}
+use mathlib.Core.Logic.{_⊎_, inl, inr, ⊎-elim}
 use mathlib.Core.List.{List, [], _∷_, _++_}
 use Prim.Native.Nat.{ℕ, _<_, _≤_}
 use native.Mathlib.Omega.{arith}
-use lib.Dec.{T, leb, eqb, leb→le}
+use lib.Dec.{T, leb, ltb, eqb, leb→le, ltb→lt}
 use lib.ListN.{length, drop}
 use borrow.Author.Tests.{eqb-true}
 use Rattle.text.specs.Limits.{grammarBytes, mostSize}
@@ -22,12 +22,12 @@ use Rattle.plain.specs.Static.{undefined, duplicate, beyond, banned, backwards,
 use Rattle.plain.specs.Plain.{size}
 use Rattle.derive.specs.Productive.{Unproductive}
 use Rattle.answer.specs.Answer.{GrammarText, GrammarTree, ofText, ofTree, grammarLines, Job, job, asNumbers, asXml}
-use Rattle.answer.specs.Compute.{Test, firstOf, treeOf, grammarTests, recordTests, documentTests, longTest, Values, Value, value, grammarValues, placesAt, inputValues}
+use Rattle.answer.specs.Compute.{Test, firstOf, treeOf, grammarTests, recordTests, documentTests, longTest, Values, Value, value, grammarValues, placeValues, placesAt, inputValues}
 use Rattle.answer.specs.Compute.{Result, result, resultTree, resultOf, resultBy, Outcome, outcome, mismatch, checkOf, readOf, convertOf}
 use Rattle.answer.specs.Demands.{None}
 use Rattle.answer.proofs.Agree.{grammar-agrees, tree-complete}
 use Rattle.answer.proofs.Lines.{first-topmost, none-given, other}
-use Rattle.answer.proofs.Noted.{value-skip}
+use Rattle.answer.proofs.Noted.{value-skip, placeless}
 use Rattle.tidy.specs.Tidy.{tidyText}
 use Rattle.tidy.specs.Call.{tidyBytes, tidyTests, tidyOf}
 use Rattle.tidy.specs.Laws.{Tidiable}
@@ -76,14 +76,18 @@ same-outcome old m v w n x p = go (eqb n 0) refl
         })
     go false e = rw (e, outcome) (λ ι. record { answer = record { number = n; length = 0; ambiguous = false; version = eqb n 16 && m; places = p ι }; buffer = old })
 
--- a number that no test has is not the first's
-first-other : (k : ℕ) (ts : List Test) → T (other k 0) → T (all (λ t. other k (t .number)) ts) → T (other k (firstOf ts))
-first-other k [] z h = z
-first-other k (t ∷ ts) z h = go (t .passes tt) (first-other k ts z (and-right (other k (t .number)) (all (λ t. other k (t .number)) ts) h))
+-- what every test's number passes, and 0, the first's does
+first-passes : (p : ℕ → Bool) (ts : List Test) → T (p 0) → T (all (λ t. p (t .number)) ts) → T (p (firstOf ts))
+first-passes p [] z h = z
+first-passes p (t ∷ ts) z h = go (t .passes tt) (first-passes p ts z (and-right (p (t .number)) (all (λ t. p (t .number)) ts) h))
   where
-    go : (b : Bool) → T (other k (firstOf ts)) → T (other k (elim b as (λ _. ℕ) [ true ↦ t .number | false ↦ firstOf ts ]))
-    go true w = and-left (other k (t .number)) (all (λ t. other k (t .number)) ts) h
+    go : (b : Bool) → T (p (firstOf ts)) → T (p (elim b as (λ _. ℕ) [ true ↦ t .number | false ↦ firstOf ts ]))
+    go true w = and-left (p (t .number)) (all (λ t. p (t .number)) ts) h
     go false w = w
+
+-- 0, or a number past those of a grammar's places
+abbrev late : ℕ → Bool
+late n = ltb n 1 || ltb 10 n
 
 -- tests of which none passes are passed over
 none-first : (ss ts : List Test) → T (all (λ t. other 0 (t .number)) ss) → firstOf ss ≡ 0 → firstOf (ss ++ ts) ≡ firstOf ts
@@ -99,14 +103,22 @@ none-first (s ∷ ss) ts h z = go (s .passes tt) z (none-first ss ts (and-right 
 abbrev byBytes : List Value → Values
 byBytes vs = record { bytes = vs; faults = []; grammars = [] }
 
+-- with those of a grammar
+abbrev with : List ℕ → List Value → Values
+with bs vs = record { bytes = grammarValues bs vs; faults = []; grammars = placeValues bs }
+
 -- the places of a grammar that is not refused
-module _ (bs : List ℕ) (vs : List Value) (n : ℕ) (h : T (other 2 n)) (k : T (other 3 n)) where
-  no-place : placesAt (byBytes (grammarValues bs vs)) n ≡ placesAt (byBytes vs) n
+module _ (bs : List ℕ) (vs : List Value) (n : ℕ) (h : T (late n)) where
+  far : (n < 5) ⊎ (10 < n)
+  far = ⊎-elim (λ l. let k = ltb→lt n 1 l in inl (omega arith)) (λ l. inr (ltb→lt 10 n l)) (or-case (ltb n 1) (ltb 10 n) h)
+
+  no-place : placesAt (with bs vs) n ≡ placesAt (byBytes vs) n
   no-place =
       let at-3 = value 3 (λ _. breakOf known bs (afterMark bs)) in
       let at-2 = value 2 (λ _. breakOf every bs (afterMark bs)) in
-      let e = value-skip at-2 (at-3 ∷ vs) n (λ e. subst (λ (m : ℕ). T (other 2 m)) e h) ∙ value-skip at-3 vs n (λ e. subst (λ (m : ℕ). T (other 3 m)) e k) in
-      λ ι. record { byte = e ι; fault = 0; grammar = 0 }
+      let e = value-skip at-2 (at-3 ∷ vs) n (λ e. subst (λ (m : ℕ). T (late m)) e h) ∙ value-skip at-3 vs n (λ e. subst (λ (m : ℕ). T (late m)) e h) in
+      let g = placeless bs n far in
+      λ ι. record { byte = e ι; fault = 0; grammar = g ι }
 
 -- bytes of the tree g that no line refuses
 module _ (bs : List ℕ) (g : Grammar) (tree : GrammarTree bs g) (accepted : None (grammarLines bs [])) where
@@ -123,12 +135,12 @@ module _ (bs : List ℕ) (g : Grammar) (tree : GrammarTree bs g) (accepted : Non
       none-first (grammarTests bs []) ts tt (none-given (grammarLines bs []) (firstOf (grammarTests bs [])) tt first .1 accepted)
 
   -- what a call answers, by the tree, the tests after the grammar's and the places that are not the grammar's
-  pub outcome-is : (old : List ℕ) (ts : List Test) (vs : List Value) (x : Result) → T (all (λ t. other 2 (t .number)) ts) → T (all (λ t. other 3 (t .number)) ts)
-      → outcome old (mismatch bs) (byBytes (grammarValues bs vs)) (firstOf (grammarTests bs ts)) x ≡ outcome old (mismatched g) (byBytes vs) (firstOf ts) x
-  outcome-is old ts vs x h k =
+  pub outcome-is : (old : List ℕ) (ts : List Test) (vs : List Value) (x : Result) → T (all (λ t. late (t .number)) ts)
+      → outcome old (mismatch bs) (with bs vs) (firstOf (grammarTests bs ts)) x ≡ outcome old (mismatched g) (byBytes vs) (firstOf ts) x
+  outcome-is old ts vs x h =
       rw (none-passes ts, tree-complete bs g tree)
-      (same-outcome old (mismatched g) (byBytes (grammarValues bs vs)) (byBytes vs) (firstOf ts) x
-      (no-place bs vs (firstOf ts) (first-other 2 ts tt h) (first-other 3 ts tt k)))
+      (same-outcome old (mismatched g) (with bs vs) (byBytes vs) (firstOf ts) x
+      (no-place bs vs (firstOf ts) (first-passes late ts tt h)))
 
 module _ (bs : List ℕ) (g : Grammar) (h : Tidiable bs g) where
   tidied-known : T (all known (tidyText g))
@@ -201,27 +213,26 @@ module _ (bs : List ℕ) (g : Grammar) (h : Tidiable bs g) where
   still-tidiable = record { tree = tidied-tree; accepted = tidied-accepted; short = h .short }
 
   -- the two calls' outcomes, both brought to the tree
-  both : (old : List ℕ) (ts us : List Test) (vs : List Value) (x y : Result) → T (all (λ t. other 2 (t .number)) ts) → T (all (λ t. other 3 (t .number)) ts)
-      → T (all (λ t. other 2 (t .number)) us) → T (all (λ t. other 3 (t .number)) us) → firstOf ts ≡ firstOf us → x ≡ y
-      → outcome old (mismatch (tidyBytes g)) (byBytes (grammarValues (tidyBytes g) vs)) (firstOf (grammarTests (tidyBytes g) ts)) x
-      ≡ outcome old (mismatch bs) (byBytes (grammarValues bs vs)) (firstOf (grammarTests bs us)) y
-  both old ts us vs x y a b c d e f =
-      outcome-is (tidyBytes g) g tidied-tree tidied-accepted old ts vs x a b
+  both : (old : List ℕ) (ts us : List Test) (vs : List Value) (x y : Result) → T (all (λ t. late (t .number)) ts) → T (all (λ t. late (t .number)) us) → firstOf ts ≡ firstOf us → x ≡ y
+      → outcome old (mismatch (tidyBytes g)) (with (tidyBytes g) vs) (firstOf (grammarTests (tidyBytes g) ts)) x
+      ≡ outcome old (mismatch bs) (with bs vs) (firstOf (grammarTests bs us)) y
+  both old ts us vs x y a b e f =
+      outcome-is (tidyBytes g) g tidied-tree tidied-accepted old ts vs x a
       ∙ (λ ι. outcome old (mismatched g) (byBytes vs) (e ι) (f ι))
-      ∙ sym (outcome-is bs g (h .tree) (h .accepted) old us vs y c d)
+      ∙ sym (outcome-is bs g (h .tree) (h .accepted) old us vs y b)
 
   trees : treeOf (tidyBytes g) ≡ treeOf bs
   trees = tree-complete (tidyBytes g) g tidied-tree ∙ sym (tree-complete bs g (h .tree))
 
   pub same-check : checkOf (tidyBytes g) ≡ checkOf bs
   unfolding checkOf
-  same-check = ap (λ (o : Outcome). o .answer) (both [] [] [] [] (result [] false) (result [] false) tt tt tt tt refl refl)
+  same-check = ap (λ (o : Outcome). o .answer) (both [] [] [] [] (result [] false) (result [] false) tt tt refl refl)
 
   pub same-tidy : (old : List ℕ) → tidyOf (tidyBytes g) old ≡ tidyOf bs old
   unfolding tidyOf
   same-tidy old =
       let made : Parsed → Result = λ p. resultTree p (λ k. result (tidyBytes k) false) in
-      both old (tidyTests (tidyBytes g) old) (tidyTests bs old) [] (made (treeOf (tidyBytes g))) (made (treeOf bs)) tt tt tt tt (rw trees) (ap made trees)
+      both old (tidyTests (tidyBytes g) old) (tidyTests bs old) [] (made (treeOf (tidyBytes g))) (made (treeOf bs)) tt tt (rw trees) (ap made trees)
 
   module _ (rs : List ℕ) (m s : ℕ) (old : List ℕ) where
     new : Job
@@ -234,10 +245,10 @@ module _ (bs : List ℕ) (g : Grammar) (h : Tidiable bs g) where
     unfolding readOf new was
     same-read =
         both old (recordTests new (longTest asNumbers new old ∷ [])) (recordTests was (longTest asNumbers was old ∷ [])) (inputValues rs [])
-        (resultOf new (resultBy asNumbers)) (resultOf was (resultBy asNumbers)) tt tt tt tt (rw trees) (rw trees)
+        (resultOf new (resultBy asNumbers)) (resultOf was (resultBy asNumbers)) tt tt (rw trees) (rw trees)
 
     pub same-convert : convertOf (job (tidyBytes g) rs m s) old ≡ convertOf (job bs rs m s) old
     unfolding convertOf new was
     same-convert =
         both old (recordTests new (documentTests new (longTest asXml new old ∷ []))) (recordTests was (documentTests was (longTest asXml was old ∷ []))) (inputValues rs [])
-        (resultOf new (resultBy asXml)) (resultOf was (resultBy asXml)) tt tt tt tt (rw trees) (rw trees)
+        (resultOf new (resultBy asXml)) (resultOf was (resultBy asXml)) tt tt (rw trees) (rw trees)

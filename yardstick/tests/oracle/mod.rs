@@ -56,7 +56,7 @@ fn in_member(member: &Member, character: char) -> bool {
     let value = character as u32;
     match member {
         Member::Text(text) => characters(text).contains(&character),
-        Member::Range(from, to) => from.code() <= value && value <= to.code(),
+        Member::Range(from, to, _) => from.code() <= value && value <= to.code(),
         Member::Class(code) => in_class(code, character),
     }
 }

@@ -25,7 +25,7 @@ returns c =
     let at-again = c .before .before .before .before .before .before in
     let start = at-again .before .before .before in
     laid-then (start .args .table .now) (start .args .i) ((start .args .i) + 2)
-    (nums (entryAt (start .args .table .now) (start .args .from)) ++ nums (entry 4 (start .args .x) 0)) (nums (entry 6 0 0))
+    (nums (entryAt (start .args .table .now) (start .args .from)) ++ nums (entry 4 (start .args .x) (entryAt (start .args .table .now) (start .args .from) .token))) (nums (entry 6 0 0))
     (at-again .again .ensures) (omega arith) (c .before .before .item .ensures)
 
 pub once-spec : {M : Type 1} → statement M

@@ -36,12 +36,12 @@ returns c =
     let start = at-copy .before .before .before in
     laid-then (start .args .table .now) (start .args .i) ((start .args .i) + 3)
     (nums (entryAt (start .args .table .now) ((start .args .from) + 3))
-    ++ (nums (entryAt (start .args .table .now) (start .args .from)) ++ nums (entry 4 (start .args .i) 0))) bothEnds
+    ++ (nums (entryAt (start .args .table .now) (start .args .from)) ++ nums (entry 4 (start .args .i) (entryAt (start .args .table .now) (start .args .from) .token)))) bothEnds
     (laid-then (start .args .table .now) (start .args .i) ((start .args .i) + 1)
     (nums (entryAt (start .args .table .now) ((start .args .from) + 3)))
-    (nums (entryAt (start .args .table .now) (start .args .from)) ++ nums (entry 4 (start .args .i) 0)) (at-copy .copy .ensures)
+    (nums (entryAt (start .args .table .now) (start .args .from)) ++ nums (entry 4 (start .args .i) (entryAt (start .args .table .now) (start .args .from) .token))) (at-copy .copy .ensures)
     (omega arith) (at-again .again .ensures ∙ ap (λ (e : Entry). laid (at-copy .copy .last .0) ((start .args .i) + 1)
-    (nums e ++ nums (entry 4 (start .args .i) 0))) (entry-kept (start .args .table .now) (start .args .i)
+    (nums e ++ nums (entry 4 (start .args .i) (e .token)))) (entry-kept (start .args .table .now) (start .args .i)
     (nums (entryAt (start .args .table .now) ((start .args .from) + 3))) (start .args .from) (at-copy .copy .ensures)
     (omega (arith, start .pre .low, start .pre .room .fits)))))
     (omega arith) (c .before .before .ends .ensures)

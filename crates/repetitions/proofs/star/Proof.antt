@@ -25,7 +25,7 @@ returns c =
     let at-again = c .before .before .before .before .before .before in
     let start = at-again .before .before .before in
     laid-then (start .args .table .now) (start .args .i) ((start .args .i) + 2)
-    (nums (entryAt (start .args .table .now) (start .args .from)) ++ nums (entry 4 (start .args .i) 0)) bothEnds
+    (nums (entryAt (start .args .table .now) (start .args .from)) ++ nums (entry 4 (start .args .i) (entryAt (start .args .table .now) (start .args .from) .token))) bothEnds
     (at-again .again .ensures) (omega arith) (c .before .before .ends .ensures)
 
 pub star-spec : {M : Type 1} → statement M

@@ -32,24 +32,22 @@ returns c =
     (entryAt (start .args .table .now) ((start .args .from) + 3)) (start .args .i) (c .if1 .taken) in
     (at-listed .listed .ensures ∙ ap (laid (start .args .table .now) (start .args .i)) (sym (o .block)), omega arith, omega arith)
 
-add-item : tie.Need-add-item
-add-item c = search needs
+add-refer : tie.Need-add-refer
+add-refer c = search needs
 
-add-item-2 : tie.Need-add-item-2
-add-item-2 c = search needs
+add-refer-2 : tie.Need-add-refer-2
+add-refer-2 c = search needs
 
-item-requires : tie.Need-item-requires
-item-requires c κs =
+refer-requires : tie.Need-refer-requires
+refer-requires c κs =
     let at-listed = c .before .before .before .before in
-    let start = at-listed .before .before .before in (
+    let start = at-listed .before .before .before in
+    let o = is-maybe (start .args .k) (entryAt (start .args .table .now) (start .args .from))
+    (entryAt (start .args .table .now) ((start .args .from) + 3)) (start .args .i) (c .before .if1 .left) in (
       record {
-        size = at-listed .listed .kept .0 ∙ start .pre .room .size;
-        fits = omega (
-          arith,
-          start .pre .room .fits,
-          is-maybe (start .args .k) (entryAt (start .args .table .now) (start .args .from))
-              (entryAt (start .args .table .now) ((start .args .from) + 3)) (start .args .i) (c .before .if1 .left) .count,
-        );
+        room = record { size = at-listed .listed .kept .0 ∙ start .pre .room .size; fits = omega (arith, start .pre .room .fits, o .count) };
+        low = start .pre .low;
+        high = omega (arith, start .pre .high);
       },
       omega (arith, start .pre .room .fits),
     )
@@ -59,12 +57,12 @@ add-ends c = search needs
 
 ends-requires : tie.Need-ends-requires
 ends-requires c κs =
-    let at-item = c .before .before .before in
-    let at-if1 = at-item .before .before in
+    let at-refer = c .before .before .before in
+    let at-if1 = at-refer .before .before in
     let at-listed = at-if1 .before .before .before in
     let start = at-listed .before .before .before in
     record {
-      size = at-item .item .kept .0 ∙ at-listed .listed .kept .0 ∙ start .pre .room .size;
+      size = at-refer .refer .kept .0 ∙ at-listed .listed .kept .0 ∙ start .pre .room .size;
       fits = omega (
         arith,
         start .pre .room .fits,
@@ -84,17 +82,21 @@ same-length-2 c = search needs
 
 returns-2 : tie.Need-returns-2
 returns-2 c =
-    let at-item = c .before .before .before .before .before .before in
-    let at-if1 = at-item .before .before in
+    let at-refer = c .before .before .before .before .before .before in
+    let at-if1 = at-refer .before .before in
     let at-listed = at-if1 .before .before .before in
     let start = at-listed .before .before .before in
     let o = is-maybe (start .args .k) (entryAt (start .args .table .now) (start .args .from)) (entryAt (start .args .table .now) ((start .args .from) + 3)) (start .args .i) (at-if1 .if1 .left) in (
       laid-then (start .args .table .now) (start .args .i) ((start .args .i) + 9)
           (listBlock (entryAt (start .args .table .now) (start .args .from)) (entryAt (start .args .table .now) ((start .args .from) + 3))
-          (start .args .i) ++ nums (entry 4 ((start .args .i) + 5) 0)) bothEnds
+          (start .args .i) ++ nums (entry 4 ((start .args .i) + 5) (entryAt (start .args .table .now) (start .args .from) .token))) bothEnds
           (laid-then (start .args .table .now) (start .args .i) ((start .args .i) + 8)
           (listBlock (entryAt (start .args .table .now) (start .args .from)) (entryAt (start .args .table .now) ((start .args .from) + 3))
-          (start .args .i)) (nums (entry 4 ((start .args .i) + 5) 0)) (at-listed .listed .ensures) (omega arith) (at-item .item .ensures))
+          (start .args .i)) (nums (entry 4 ((start .args .i) + 5) (entryAt (start .args .table .now) (start .args .from) .token))) (at-listed .listed .ensures) (omega arith)
+          (at-refer .refer .ensures ∙ ap (λ (e : Entry). laid (at-listed .listed .last .0) ((start .args .i) + 8) (nums (entry 4 ((start .args .i) + 5) (e .token))))
+          (entry-kept (start .args .table .now) (start .args .i)
+          (listBlock (entryAt (start .args .table .now) (start .args .from)) (entryAt (start .args .table .now) ((start .args .from) + 3)) (start .args .i))
+          (start .args .from) (at-listed .listed .ensures) (omega (arith, start .pre .low, start .pre .room .fits, o .count)))))
           (omega arith) (c .before .before .ends .ensures)
           ∙ ap (laid (start .args .table .now) (start .args .i)) (sym (o .block)),
       omega arith,
@@ -110,9 +112,9 @@ two-spec =
     add-t10
     same-length
     returns
-    add-item
-    add-item-2
-    item-requires
+    add-refer
+    add-refer-2
+    refer-requires
     add-ends
     ends-requires
     add-t13

@@ -45,7 +45,7 @@ fn tidy(path: &Path, check: bool) -> Outcome {
     let text = match ixml::tidy_text(&grammar) {
         Ok(text) => text,
         Err(refusal) => {
-            say(&refusal);
+            say(&refusal.shown_in(&grammar));
             return Outcome::NotTidy;
         }
     };

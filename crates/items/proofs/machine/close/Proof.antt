@@ -37,17 +37,17 @@ block-requires c κs =
     block-bounds (start .pre .act .block) (closed-items (start .pre .act) (start .pre .fit)) (start .pre .rep .has .fit .depth) _ _ _ _
     (start .pre .rep .has .size) (start .pre .rep .items) (start .pre .rep .base) (start .pre .rep .depth)
 
-mul-put : tie.Need-mul-put
-mul-put c = search needs
+mul-renew : tie.Need-mul-renew
+mul-renew c = search needs
 
-add-put : tie.Need-add-put
-add-put c = search needs
+add-renew : tie.Need-add-renew
+add-renew c = search needs
 
-cast-put : tie.Need-cast-put
-cast-put c = search needs
+cast-renew : tie.Need-cast-renew
+cast-renew c = search needs
 
-put-requires : tie.Need-put-requires
-put-requires c κs = search needs
+renew-requires : tie.Need-renew-requires
+renew-requires c κs = search needs
 
 add-t9 : tie.Need-add-t9
 add-t9 c = search needs
@@ -56,7 +56,7 @@ same-length : tie.Need-same-length
 same-length c = search needs
 
 returns : tie.Need-returns
-returns c = λ a b rep act fit. rep-closed rep fit act (c .before .before .before .before .before .before .block .ensures) (c .before .before .put .ensures) refl refl refl refl
+returns c = λ a b rep act fit. rep-closed rep fit act (c .before .before .before .before .before .before .block .ensures) (c .before .before .renew .ensures) refl refl refl refl
 
 pub close-spec : {M : Type 1} → statement M
 close-spec =
@@ -69,10 +69,10 @@ close-spec =
     cast-old
     add-block
     block-requires
-    mul-put
-    add-put
-    cast-put
-    put-requires
+    mul-renew
+    add-renew
+    cast-renew
+    renew-requires
     add-t9
     same-length
     returns)

@@ -38,15 +38,15 @@ one-requires c κs =
       );
     }
 
-cast-put : tie.Need-cast-put
-cast-put c =
+cast-renew : tie.Need-cast-renew
+cast-renew c =
     let at-one = c .before .before .before .before in
     let at-if1 = at-one .before .before .before in
     let start = at-if1 .before .before in
     omega (arith, at-one .one .ensures .1, one-first (start .args .k), one-bounds (start .pre .act .0 (at-if1 .if1 .taken)) (start .pre .fit) .0, start .pre .rep .items)
 
-put-requires : tie.Need-put-requires
-put-requires c κs = search needs
+renew-requires : tie.Need-renew-requires
+renew-requires c κs = search needs
 
 add-t12 : tie.Need-add-t12
 add-t12 c = search needs
@@ -62,7 +62,7 @@ returns c =
     λ a b rep act fit. rep-one' rep fit (start .args .k) ((start .args .s .depth) - 1) (14848 + 3 * ((start .args .s .depth) - 1))
     (at-one .one .result .first) (act .0 (at-if1 .if1 .taken))
     (omega (arith, one-bounds (act .0 (at-if1 .if1 .taken)) fit .1, rep .depth)) refl (at-one .one .ensures .0)
-    (at-one .one .ensures .1) (c .before .before .put .ensures) (at-one .one .ensures .2) refl refl refl
+    (at-one .one .ensures .1) (c .before .before .renew .ensures) (at-one .one .ensures .2) refl refl refl
 
 sub-d-2 : tie.Need-sub-d-2
 sub-d-2 c = omega (arith, two-bounds (c .before .before .before .pre .act .1 (c .before .if1 .left)) (c .before .before .before .pre .fit) .1, c .before .before .before .pre .rep .depth)
@@ -91,15 +91,15 @@ two-requires c κs =
       );
     }
 
-cast-put-2 : tie.Need-cast-put-2
-cast-put-2 c =
+cast-renew-2 : tie.Need-cast-renew-2
+cast-renew-2 c =
     let at-two = c .before .before .before .before in
     let at-if1 = at-two .before .before .before in
     let start = at-if1 .before .before in
     omega (arith, at-two .two .ensures .1, two-first (start .args .k), two-bounds (start .pre .act .1 (at-if1 .if1 .left)) (start .pre .fit) .0, start .pre .rep .items)
 
-put-requires-2 : tie.Need-put-requires-2
-put-requires-2 c κs = search needs
+renew-requires-2 : tie.Need-renew-requires-2
+renew-requires-2 c κs = search needs
 
 add-t19 : tie.Need-add-t19
 add-t19 c = search needs
@@ -115,7 +115,7 @@ returns-2 c =
     λ a b rep act fit. rep-two' rep fit (start .args .k) ((start .args .s .depth) - 2) (14848 + 3 * ((start .args .s .depth) - 2))
     (at-two .two .result .first) (act .1 (at-if1 .if1 .left))
     (omega (arith, two-bounds (act .1 (at-if1 .if1 .left)) fit .1, rep .depth)) refl (at-two .two .ensures .0) (at-two .two .ensures .1)
-    (c .before .before .put2 .ensures) (at-two .two .ensures .2) refl refl refl
+    (c .before .before .renew2 .ensures) (at-two .two .ensures .2) refl refl refl
 
 pub operate-spec : {M : Type 1} → statement M
 operate-spec =
@@ -125,8 +125,8 @@ operate-spec =
     mul-from
     add-from
     one-requires
-    cast-put
-    put-requires
+    cast-renew
+    renew-requires
     add-t12
     same-length
     returns
@@ -134,8 +134,8 @@ operate-spec =
     mul-from-2
     add-from-2
     two-requires
-    cast-put-2
-    put-requires-2
+    cast-renew-2
+    renew-requires-2
     add-t19
     same-length-2
     returns-2)

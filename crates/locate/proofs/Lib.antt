@@ -1,0 +1,7 @@
+pub mod Modes
+pub mod Walk
+pub mod Fits
+pub mod Rules
+pub mod AtToken
+pub mod Search
+pub mod Found

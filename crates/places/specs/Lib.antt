@@ -1,0 +1,5 @@
+pub mod Spots
+pub mod Place
+pub mod Scan
+pub mod Tokens
+pub mod Laws
