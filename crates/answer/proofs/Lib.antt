@@ -5,3 +5,4 @@ pub mod Settled
 pub mod Stages
 pub mod Sizes
 pub mod Demands
+pub mod Named

@@ -15,7 +15,7 @@ use Rattle.text.specs.Faults.{every, Breaks, afterMark}
 use Rattle.text.proofs.Decode.{utf8-unique}
 use Rattle.text.proofs.Faults.{scalars, passing, one-break, Whole, break-there}
 use Rattle.text.proofs.Marks.{marked-text}
-use Rattle.answer.specs.Answer.{Line, Topmost, Note, Noted, Notes, Placed, Places, grammarLines, recordLines, grammarNotes, inputNotes, checkNotes, jobNotes, Job}
+use Rattle.answer.specs.Answer.{Line, Topmost, Note, Noted, Notes, Placed, Places, grammarLines, Need, needLines, grammarNotes, inputNotes, checkNotes, jobNotes, Job}
 use Rattle.answer.specs.Compute.{Value, valueAt, Values, placesAt, grammarValues, inputValues, checkValues, jobValues}
 use Rattle.answer.proofs.Lines.{numbers, distinct, given}
 
@@ -113,20 +113,20 @@ module _ (bs : List ℕ) (ls : List Line) (d : T (distinct (numbers (grammarLine
 pub keeps-check : (bs : List ℕ) (n : ℕ) → Topmost (grammarLines bs []) n → Keeps n (checkNotes bs) (checkValues bs)
 keeps-check bs n t = record { bytes = kept-grammar bs [] tt n t [] [] tt; faults = tt; grammars = tt }
 
-module _ (j : Job) (ls : List Line) (d : T (distinct (numbers (grammarLines (j .grammar) (recordLines j ls))))) (n : ℕ) (t : Topmost (grammarLines (j .grammar) (recordLines j ls)) n) where
+module _ (need : Need) (j : Job) (ls : List Line) (d : T (distinct (numbers (grammarLines (j .grammar) (needLines need j ls))))) (n : ℕ) (t : Topmost (grammarLines (j .grammar) (needLines need j ls)) n) where
   at-12 : n ≡ 12 → Breaks every (j .input) 0 (breakOf every (j .input) 0)
   at-12 e =
-      let none = given (grammarLines (j .grammar) (recordLines j ls)) 12 d (λ z. omega arith) (subst (Topmost (grammarLines (j .grammar) (recordLines j ls))) e t) in
+      let none = given (grammarLines (j .grammar) (needLines need j ls)) 12 d (λ z. omega arith) (subst (Topmost (grammarLines (j .grammar) (needLines need j ls))) e t) in
       broken (j .input) 0 (λ cs u. none (cs, u))
 
   at-13 : n ≡ 13 → Breaks known (j .input) 0 (breakOf known (j .input) 0)
   at-13 e =
-      let x = given (grammarLines (j .grammar) (recordLines j ls)) 13 d (λ z. omega arith) (subst (Topmost (grammarLines (j .grammar) (recordLines j ls))) e t) in
+      let x = given (grammarLines (j .grammar) (needLines need j ls)) 13 d (λ z. omega arith) (subst (Topmost (grammarLines (j .grammar) (needLines need j ls))) e t) in
       outside (j .input) 0 (x .0) (λ cs u. utf8-unique (j .input) cs (x .0) u (x .1)) (x .2)
 
   pub keeps-job : Keeps n (jobNotes j) (jobValues j)
   keeps-job = record {
-    bytes = kept-grammar (j .grammar) (recordLines j ls) d n t (inputNotes (j .input) []) (inputValues (j .input) []) (refl, at-12, (refl, at-13, tt));
+    bytes = kept-grammar (j .grammar) (needLines need j ls) d n t (inputNotes (j .input) []) (inputValues (j .input) []) (refl, at-12, (refl, at-13, tt));
     faults = tt;
     grammars = tt;
   }

@@ -1,4 +1,5 @@
 pub mod Answer
 pub mod Program
+pub mod Named
 pub mod Compute
 pub mod Demands
