@@ -181,9 +181,12 @@ module _ {s : Source} {c : Finder} {k : Marker} (w : Finds s c k) (j : Job) (F :
   long-known old =
       let o = source-known w j (λ g r t. ltb (length old) (length (resultWith k F g r t .cells)))
       (λ g r t p. length old < length (resultWith k F g r t .cells)) (λ g r t. less (length old) (length (resultWith k F g r t .cells))) in (
-        λ h. let x = o .0 h in
-            (resultWith k F (x .0) (x .1) (x .3 .0) .cells, resultWith k F (x .0) (x .1) (x .3 .0) .ambiguous,
-            by-source (x .0) (x .1) (x .3 .0) (x .2) (with-numbers (x .0) (x .1) (x .3 .0) (x .3 .1) (x .3 .2)), x .3 .3),
+        λ h. let x = o .0 h in (
+          resultWith k F (x .0) (x .1) (x .3 .0) .cells,
+          resultWith k F (x .0) (x .1) (x .3 .0) .ambiguous,
+          by-source (x .0) (x .1) (x .3 .0) (x .2) (with-numbers (x .0) (x .1) (x .3 .0) (x .3 .1) (x .3 .2)),
+          x .3 .3,
+        ),
         λ x. o .1 (x .2 .0, x .2 .1, x .2 .2, (x .2 .3 .0, x .2 .3 .1, x .2 .3 .2, longer (x .0) (x .1) (x .2) (x .3))),
       )
     where

@@ -25,6 +25,11 @@ pub record Passed (T : List ℕ) (p r : ℕ) : Type 0 where
 pub record Found (T : List ℕ) (x a r : ℕ) : Type 0 where
   pub spells : (g : Grammar) (starts : Starts) (ts : List (List Symbol)) → Alternatives T g starts x ts → a < length ts → Spells T g starts r (getD ts a [])
 
+-- whether the rule at the item x has an alternative a
+pub record Counted (T : List ℕ) (x a : ℕ) (r : Bool) : Type 0 where
+  pub some : r ≡ true → (g : Grammar) (starts : Starts) (ts : List (List Symbol)) → Alternatives T g starts x ts → a < length ts
+  pub none : r ≡ false → (g : Grammar) (starts : Starts) (ts : List (List Symbol)) → Alternatives T g starts x ts → length ts ≤ a
+
 pub record Wide (T : List ℕ) (token r : ℕ) : Type 0 where
   pub is : (x : Terminal) → Reads T token (terminalTokens x) → r ≡ plain.width x
   pub fits : r < 4294967296

@@ -9,7 +9,7 @@ ghost use Rattle.tree.specs.Tree.{Grammar};
 ghost use Rattle.derive.specs.Derive.{Row};
 ghost use Rattle.left_parse.specs.Noted.{Noted, Parsed, Room};
 ghost use Rattle.left_parse.specs.Walk.{Over};
-ghost use Rattle.left_parse.specs.Steps.{Symbolic, Passed, Found, Enters, Entered, Leaves, Left, Small, Skipped, jumped, Inside, Going, Stepped};
+ghost use Rattle.left_parse.specs.Steps.{Symbolic, Passed, Found, Counted, Enters, Entered, Leaves, Left, Small, Skipped, jumped, Inside, Going, Stepped};
 use text::CharPlace;
 
 // Where a walk stands: the item of the next symbol, the next entry, the place in the record, and one more than the innermost
@@ -78,6 +78,23 @@ pub fn alternative(table: &[u32], first: usize, number: usize) -> usize
         a -= 1;
     }
     x
+}
+
+// Whether the rule whose first item is `first` has an alternative of that number.
+pub fn has_alternative(table: &[u32], first: usize, number: usize) -> bool
+    ensures { λ r. ⌜ Counted (now (table .entry)) first number r ⌝ }
+{
+    let mut x = first;
+    let mut a = number;
+    while a > 0 {
+        let e = pass(table, x);
+        if items::kind_at(table, e) != ALTERNATIVE_END {
+            return false;
+        }
+        x = e + 1;
+        a -= 1;
+    }
+    true
 }
 
 // Into a node: its two numbers are the number that was open before it and its item, until it is left.
