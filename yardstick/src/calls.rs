@@ -1,13 +1,12 @@
 //! The public calls on a grammar and a record.
 
 use crate::engine;
-use crate::judge;
+use crate::judge::accepts;
 use crate::limits;
 use crate::plain::{plain, Plain};
 use crate::productive;
 use crate::reading::{self, Reading};
 use crate::refusal::{Places, Refusal};
-use crate::second;
 use crate::statics;
 use crate::syntax::{self, Grammar};
 use crate::text;
@@ -99,7 +98,7 @@ pub fn judge(
         if scratch / 2 < list.len() || grammar_table < limits::GRAMMAR_TABLE {
             return Err(Refusal::TableTooShort);
         }
-        if !judge::accepts(&accepted.plain, &record, list) {
+        if !accepts(&accepted.plain, &record, list) {
             return Err(Refusal::NoDerivation);
         }
         let state = State {
@@ -124,7 +123,7 @@ pub fn judge(
 pub fn second(grammar: &[u8], record: &[u8]) -> Option<Vec<u32>> {
     let accepted = accept(grammar).ok()?;
     let record = text::record(record).ok()?;
-    second::second(&engine::parse(&accepted.plain, &record)?)
+    crate::second::second(&engine::parse(&accepted.plain, &record)?)
 }
 
 /// Tidies a grammar: 0 to 11, 24, 28 and 23. The bytes of the tidy text fill
