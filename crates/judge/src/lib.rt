@@ -78,7 +78,7 @@ fn walk(table: &[u32], list: &[u32], record: &[u32], scratch: &mut [u64], first:
         h = n;
     }
     let end = h.place;
-    if h.entry < list.len() {
+    if list.len() > h.entry {
         return false;
     }
     if end.0 < record.len() {
