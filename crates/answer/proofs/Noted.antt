@@ -113,7 +113,8 @@ module _ (bs : List ℕ) (ls : List Line) (d : T (distinct (numbers (grammarLine
 pub keeps-check : (bs : List ℕ) (n : ℕ) → Topmost (grammarLines bs []) n → Keeps n (checkNotes bs) (checkValues bs)
 keeps-check bs n t = record { bytes = kept-grammar bs [] tt n t [] [] tt; faults = tt; grammars = tt }
 
-module _ (need : Need) (j : Job) (ls : List Line) (d : T (distinct (numbers (grammarLines (j .grammar) (needLines need j ls))))) (n : ℕ) (t : Topmost (grammarLines (j .grammar) (needLines need j ls)) n) where
+module _ (need : Need) (j : Job) (ls : List Line) (d : T (distinct (numbers (grammarLines (j .grammar) (needLines need j ls))))) (n : ℕ)
+    (t : Topmost (grammarLines (j .grammar) (needLines need j ls)) n) where
   at-12 : n ≡ 12 → Breaks every (j .input) 0 (breakOf every (j .input) 0)
   at-12 e =
       let none = given (grammarLines (j .grammar) (needLines need j ls)) 12 d (λ z. omega arith) (subst (Topmost (grammarLines (j .grammar) (needLines need j ls))) e t) in

@@ -177,7 +177,8 @@ module _ {s : Source} {c : Finder} {k : Marker} (w : Finds s c k) (j : Job) (F :
   with-numbers : (g : Grammar) (r : Text) (t : Row) (p : List ℕ) → s .Is g r t p → s .Is g r t (leftParse t)
   with-numbers g r t p y = subst (λ (q : List ℕ). s .Is g r t q) (w .numbers g r t p y) y
 
-  long-known : (old : List ℕ) → Tests (onFound c j (λ g r t. ltb (length old) (length (resultWith k F g r t .cells)))) ((xs : List ℕ) × (m : Bool) × ResultBy s j F xs m × (length old < length xs))
+  long-known : (old : List ℕ) → Tests (onFound c j (λ g r t. ltb (length old) (length (resultWith k F g r t .cells))))
+      ((xs : List ℕ) × (m : Bool) × ResultBy s j F xs m × (length old < length xs))
   long-known old =
       let o = source-known w j (λ g r t. ltb (length old) (length (resultWith k F g r t .cells)))
       (λ g r t p. length old < length (resultWith k F g r t .cells)) (λ g r t. less (length old) (length (resultWith k F g r t .cells))) in (

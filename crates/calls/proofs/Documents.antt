@@ -143,6 +143,7 @@ module _ {c : Finder} {j : Job} {g : Grammar} {r : Text} {row : Row} (y : Spoken
       pub concluded : (v : Converted) → Concludes g r row mark m old new v → (N : ℕ) → N ≡ firstOf tests → made N ≡ record { answer = shown (answerOf v mark m); buffer = new }
       concluded v h = go v (subst (λ (b : Bool). Concludes g r row b (mismatched g) old new v) marked (subst (λ (b : Bool). Concludes g r row mark b old new v) marks h))
         where
-          go : (v : Converted) → Concludes g r row (k g r row) (mismatched g) old new v → (N : ℕ) → N ≡ firstOf tests → made N ≡ record { answer = shown (answerOf v mark m); buffer = new }
+          go : (v : Converted) → Concludes g r row (k g r row) (mismatched g) old new v → (N : ℕ) → N ≡ firstOf tests
+              → made N ≡ record { answer = shown (answerOf v mark m); buffer = new }
           go (Xml n) h = written n (written-case h refl)
           go (Not-converted n) h = not-written n (refused-case h refl)

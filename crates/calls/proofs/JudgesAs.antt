@@ -16,7 +16,8 @@ use Rattle.tree.specs.Tree.{Grammar}
 use Rattle.derive.specs.Derive.{Row}
 use Rattle.derive.specs.Pick.{Choice, found, no-choice}
 use Rattle.answer.specs.Answer.{Job, scratchNeed, Judges, asXml}
-use Rattle.answer.specs.Compute.{Outcome, outcome, Test, firstOf, grammarTests, needTests, noneTest, documentTestsOf, longTestBy, foundResult, resultWith, never, placesAt, jobValues, mismatch, judgeOf}
+use Rattle.answer.specs.Compute.{Outcome, outcome, Test, firstOf, grammarTests, needTests, noneTest, documentTestsOf, longTestBy, foundResult, resultWith, never}
+use Rattle.answer.specs.Compute.{placesAt, jobValues, mismatch, judgeOf}
 use Rattle.load.specs.Loaded.{placesOf}
 use Rattle.answer.specs.Named.{namedOf}
 use Rattle.answer.proofs.Named.{named-found, found-named}
@@ -86,7 +87,8 @@ module _ (q : List ℕ) (j : Job) (old : List ℕ) where
       pub judgeable : length T ≡ grammarTable → (S : List ℕ) → j .mainTable ≡ length S → length q < 4611686018427387904
           → Judgeable T (s .rules .root) q (take (s .chars .0) new) S
       judgeable l S m few =
-          let enough : 2 * length q ≤ j .mainTable = ltb-false (j .mainTable) (2 * length q) (or-left-false (ltb (j .mainTable) (2 * length q)) (ltb (j .secondTable) grammarTable) (started .enough)) in
+          let enough : 2 * length q ≤ j .mainTable = ltb-false (j .mainTable) (2 * length q)
+          (or-left-false (ltb (j .mainTable) (2 * length q)) (ltb (j .secondTable) grammarTable) (started .enough)) in
           record {
             lent = record { table = l; list = few; short = omega (arith, got-part (started .input), started .input .count, started .input .short); room = omega arith };
             g = g;

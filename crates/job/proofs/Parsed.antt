@@ -34,7 +34,12 @@ module _ (j : Job) (T new : List ℕ) where
   ended b k n q e w =
       let s = subst (Begins j T new) q w in
       let h : n ≡ k = e ∙ ap (λ (x : Begun). diagnosticOf (begunOf x)) q in
-      rw h (record { some = s .some; is = λ ts. s .is (noneTest 16 chosenOf j ∷ test 29 (λ _. onReading j (λ g r t. ltb readingNumbers (length (leftParse t)))) ∷ ts); version = rw (ne-eqb (k .number) 16 (λ z. ⊎-elim (λ l. omega arith) (λ l. omega arith) (s .early))); places = s .places })
+      rw h (record {
+        some = s .some;
+        is = λ ts. s .is (noneTest 16 chosenOf j ∷ test 29 (λ _. onReading j (λ g r t. ltb readingNumbers (length (leftParse t)))) ∷ ts);
+        version = rw (ne-eqb (k .number) 16 (λ z. ⊎-elim (λ l. omega arith) (λ l. omega arith) (s .early)));
+        places = s .places;
+      })
 
   module _ (s : Start) (w : Started j T new s) (P : List ℕ) (r : Read) where
     -- there is no reading, or it is too long

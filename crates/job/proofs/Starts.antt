@@ -74,12 +74,8 @@ module _ (j : Job) (T new : List ℕ) where
       rw w (record { some = s .some; early = s .early; is = λ ts. kept .first (needTests need j ts) ∙ s .is ts; places = s .places })
 
 module _ (gs rs T new : List ℕ) where
-  -- the bytes of a job, by their name
-  at-grammar : (d : Accepted) (k n : Diagnostic) → d ≡ Turned-down k → n ≡ diagnosticOf (stageOf d) → Accepts gs T d → (need : Need) (j : Job) → j .grammar ≡ gs → j .input ≡ rs → NotBegun need j n
-  at-grammar d k n q e l need j eg er = ends-grammar j T new need d k n q e (subst (λ (bs : List ℕ). Accepts bs T d) (sym eg) l)
-
   pub opens-grammar : (d : Accepted) (k n : Diagnostic) → d ≡ Turned-down k → n ≡ diagnosticOf (stageOf d) → Accepts gs T d → Opens gs rs T new (Ended n)
-  opens-grammar d k n q e l = at-grammar d k n q e l
+  opens-grammar d k n q e l = λ need j eg er. ends-grammar j T new need d k n q e (subst (λ (bs : List ℕ). Accepts bs T d) (sym eg) l)
 
   module _ (d : Accepted) (p : Rules) (q : d ≡ A-grammar p) (l : Accepts gs T d) where
     pub opens-record : (x : Taken) (k n : Diagnostic) → x ≡ Refused k → n ≡ diagnosticOf (takenOf x) → Takes rs new x → Opens gs rs T new (Ended n)

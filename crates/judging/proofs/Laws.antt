@@ -179,7 +179,8 @@ module _ (j k : Job) (q out out₁ out₂ : List ℕ) (c b : Answer) (w : OwnRea
       none : None document-lines × (length (asXml (c .ambiguous) (left .g) (left .r) (left .t) []) ≤ length out)
       none = go (none-given (document-lines ++ (tooLong j asXml out ∷ [])) (c .number) tt converting .0 e) (w .converts .answered e)
         where
-          go : None (document-lines ++ (tooLong j asXml out ∷ [])) → ((xs : List ℕ) × ResultBy chosen j asXml xs (c .ambiguous) × (c .length ≡ length xs) × (out₁ ≡ xs ++ drop (length xs) out))
+          go : None (document-lines ++ (tooLong j asXml out ∷ []))
+              → ((xs : List ℕ) × ResultBy chosen j asXml xs (c .ambiguous) × (c .length ≡ length xs) × (out₁ ≡ xs ++ drop (length xs) out))
               → None document-lines × (length (asXml (c .ambiguous) (left .g) (left .r) (left .t) []) ≤ length out)
           go u x =
               let same : x .0 ≡ asXml (c .ambiguous) (left .g) (left .r) (left .t) [] = from-reading j k q (w .same) left (λ g r t. x .0 ≡ asXml (c .ambiguous) g r t [])

@@ -173,7 +173,13 @@ module _ {T P S F₀ : List ℕ} {h : Position} {e₀ i₀ : ℕ} (G₀ : Going 
       let b = place-inside W in
       let len : length S ≡ length (G₀ .under) = ap length (G₀ .scratch) ∙ opened-length (G₀ .fs) (G₀ .under) in
       let item = open-inside (G₀ .under) W (G₀ .scratch) (omega (arith, G₀ .room)) some in
-      record { some = some; room = omega (arith, W .deep, W .inside, G₀ .room); item = omega (arith, W .table); entry = omega (arith, W .inside, W .entries); place = omega (arith, b .0, b .1, W .record-length) }
+      record {
+        some = some;
+        room = omega (arith, W .deep, W .inside, G₀ .room);
+        item = omega (arith, W .table);
+        entry = omega (arith, W .inside, W .entries);
+        place = omega (arith, b .0, b .1, W .record-length);
+      }
 
   pub stepped-leave : {S′ : List ℕ} {r : Position} → 5 ≤ kindAt T (h .item) → 0 < h .inner → Left S S′ h r → Stepped T P S S′ h r
   stepped-leave {S′} {r} k some L =

@@ -116,7 +116,8 @@ as-many seen [] = refl
 as-many seen (n ∷ ns) = ap suc (as-many seen ns)
 
 -- there is room for one more
-pub room-for : {T : List ℕ} (seen : List ℕ) {token k : ℕ} {n : Text} (ns : List Text) → Named T token k n → Listed T seen ns → any (same n) ns ≡ false → Fresh ns → length ns < nameTokens
+pub room-for : {T : List ℕ} (seen : List ℕ) {token k : ℕ} {n : Text} (ns : List Text) → Named T token k n → Listed T seen ns → any (same n) ns ≡ false
+    → Fresh ns → length ns < nameTokens
 room-for {T} seen {token} {k} {n} ns N L e f =
     omega (
       arith,

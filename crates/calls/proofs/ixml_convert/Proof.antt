@@ -34,25 +34,43 @@ same-length : tie.Need-same-length
 same-length c = search needs
 
 returns : tie.Need-returns
-returns c = convert-not-chosen _ _ _ _ _ _ _ _ _ (c .before .before .enum-told .given .1) (c .before .why-refused .ensures) (c .before .before .before .before .before .before .before .before .before .parse-record .ensures) (c .refuse .ensures)
+returns c =
+    let at-enum-told = c .before .before in
+    let at-parse-record = at-enum-told .before .before .before .before .before .before .before in
+    convert-not-chosen _ _ _ _ _ _ _ _ _ (at-enum-told .enum-told .given .1) (c .before .why-refused .ensures) (at-parse-record .parse-record .ensures) (c .refuse
+    .ensures)
 
 slice-aggregate-convert : tie.Need-slice-aggregate-convert
 slice-aggregate-convert c = search needs
 
 array-share-prefix-parse : tie.Need-array-share-prefix-parse
-array-share-prefix-parse c = numbers-in _ _ _ _ _ (is-chosen _ _ _ _ _ _ (c .before .before .parsed .given .1) (c .before .before .before .before .before .before .before .before .before .parse-record .ensures))
+array-share-prefix-parse c =
+    let at-parsed = c .before .before in
+    let at-parse-record = at-parsed .before .before .before .before .before .before .before in
+    numbers-in _ _ _ _ _ (is-chosen _ _ _ _ _ _ (at-parsed .parsed .given .1) (at-parse-record .parse-record .ensures))
 
 slice-aggregate-convert-2 : tie.Need-slice-aggregate-convert-2
-slice-aggregate-convert-2 c = numbers-part _ _ _ _ _ (is-chosen _ _ _ _ _ _ (c .before .before .before .parsed .given .1) (c .before .before .before .before .before .before .before .before .before .before .parse-record .ensures))
+slice-aggregate-convert-2 c =
+    let at-parsed = c .before .before .before in
+    let at-parse-record = at-parsed .before .before .before .before .before .before .before in
+    numbers-part _ _ _ _ _ (is-chosen _ _ _ _ _ _ (at-parsed .parsed .given .1) (at-parse-record .parse-record .ensures))
 
 array-share-prefix-text : tie.Need-array-share-prefix-text
-array-share-prefix-text c = got-in (is-chosen _ _ _ _ _ _ (c .before .before .before .parsed .given .1) (c .before .before .before .before .before .before .before .before .before .before .parse-record .ensures) .input)
+array-share-prefix-text c =
+    let at-parsed = c .before .before .before in
+    let at-parse-record = at-parsed .before .before .before .before .before .before .before in
+    got-in (is-chosen _ _ _ _ _ _ (at-parsed .parsed .given .1) (at-parse-record .parse-record .ensures) .input)
 
 slice-aggregate-convert-3 : tie.Need-slice-aggregate-convert-3
-slice-aggregate-convert-3 c = got-part (is-chosen _ _ _ _ _ _ (c .before .before .before .before .parsed .given .1) (c .before .before .before .before .before .before .before .before .before .before .before .parse-record .ensures) .input)
+slice-aggregate-convert-3 c =
+    let at-parsed = c .before .before .before .before in
+    let at-parse-record = at-parsed .before .before .before .before .before .before .before in
+    got-part (is-chosen _ _ _ _ _ _ (at-parsed .parsed .given .1) (at-parse-record .parse-record .ensures) .input)
 
 convert-requires : tie.Need-convert-requires
-convert-requires c κs = convertible _ _ _ _ _ (is-chosen _ _ _ _ _ _ (c .before .before .before .before .before .parsed .given .1) (c .before .before .before .before .before .before .before .before .before .before .before .before .parse-record .ensures)) (search needs)
+convert-requires c κs =
+    convertible _ _ _ _ _ (is-chosen _ _ _ _ _ _ (c .before .before .before .before .before .parsed .given .1) (c .before .before .before .before .before .before .before
+    .before .before .before .before .before .parse-record .ensures)) (search needs)
 
 answer-to-requires : tie.Need-answer-to-requires
 answer-to-requires c κs = search needs
@@ -64,7 +82,12 @@ same-length-3 : tie.Need-same-length-3
 same-length-3 c = search needs
 
 returns-2 : tie.Need-returns-2
-returns-2 c = convert-concluded _ _ _ _ _ _ (is-chosen _ _ _ _ _ _ (c .before .before .before .before .before .before .before .before .before .parsed .given .1) (c .before .before .before .before .before .before .before .before .before .before .before .before .before .before .before .before .parse-record .ensures)) _ _ (c .before .before .before .convert .ensures) _ (c .answer-to .ensures)
+returns-2 c =
+    let at-convert = c .before .before .before in
+    let at-parsed = at-convert .before .before .before .before .before .before in
+    let at-parse-record = at-parsed .before .before .before .before .before .before .before in
+    convert-concluded _ _ _ _ _ _ (is-chosen _ _ _ _ _ _ (at-parsed .parsed .given .1) (at-parse-record .parse-record .ensures)) _ _ (at-convert .convert .ensures) _ (c
+    .answer-to .ensures)
 
 pub ixml-convert-spec : {M : Type 1} → statement M
 ixml-convert-spec =

@@ -31,7 +31,10 @@ refuse-requires : tie.Need-refuse-requires
 refuse-requires c κs = search needs
 
 returns : tie.Need-returns
-returns c = judge-ended _ _ _ _ _ _ (c .before .before .before .before .before .before .begin-list .ensures) _ _ _ (c .before .before .enum-told .given .1) (c .before .why-begun .ensures) (c .refuse .ensures)
+returns c =
+    let at-enum-told = c .before .before in
+    let at-begin-list = at-enum-told .before .before .before .before in
+    judge-ended _ _ _ _ _ _ (at-begin-list .begin-list .ensures) _ _ _ (at-enum-told .enum-told .given .1) (c .before .why-begun .ensures) (c .refuse .ensures)
 
 slice-aggregate-conclude-list : tie.Need-slice-aggregate-conclude-list
 slice-aggregate-conclude-list c = search needs
@@ -61,7 +64,8 @@ conclude-list-requires c κs =
     let begin-list = at-begin .begin-list in
     let j = job (args .grammar .now) (args .record .now) (length (args .scratch .now)) (length (args .second .now)) in
     let e = c .before .before .before .before .before .before .begun .given .1 in
-    judgeable (args .list .now) j [] (begin-list .last .1 .1 .1 .1 .1 .0) (begin-list .last .1 .1 .1 .1 .1 .1 .0) (begin-list .result) (begin-list .ensures) _ e (search needs) _ refl (omega (arith, at-begin .before .before .before .before .before .before .before .before .before .good))
+    judgeable (args .list .now) j [] (begin-list .last .1 .1 .1 .1 .1 .0) (begin-list .last .1 .1 .1 .1 .1 .1 .0) (begin-list .result) (begin-list .ensures) _ e (search
+    needs) _ refl (omega (arith, at-begin .before .before .before .before .before .before .before .before .before .good))
 
 same-length : tie.Need-same-length
 same-length c = search needs
@@ -70,7 +74,11 @@ same-length-2 : tie.Need-same-length-2
 same-length-2 c = search needs
 
 returns-2 : tie.Need-returns-2
-returns-2 c = judge-concluded _ _ _ _ _ _ (c .before .before .before .before .before .before .before .before .before .before .before .before .before .before .before .begin-list .ensures) _ (c .before .before .before .before .before .before .before .before .before .before .before .begun .given .1) _ _ (c .before .before .before .before .conclude-list .ensures)
+returns-2 c =
+    let at-conclude-list = c .before .before .before .before in
+    let at-begun = at-conclude-list .before .before .before .before .before .before .before in
+    let at-begin-list = at-begun .before .before .before .before in
+    judge-concluded _ _ _ _ _ _ (at-begin-list .begin-list .ensures) _ (at-begun .begun .given .1) _ _ (at-conclude-list .conclude-list .ensures)
 
 pub ixml-judge-spec : {M : Type 1} → statement M
 ixml-judge-spec =

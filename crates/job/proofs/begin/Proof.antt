@@ -24,14 +24,23 @@ same-length-2 c = search needs
 
 returns : tie.Need-returns
 returns c =
-    let args = c .before .before .before .before .before .before .before .before .before .before .before .before .before .before .args in
-    begins-ended mainNeed (job (args .grammar .now) (args .record .now) (args .main) (args .second)) _ _ _ (c .before .before .before .before .before .before .before .open-job .ensures) _ _ (c .before .enum-told .given .1) (c .why-begun .ensures)
+    let at-open-job = c .before .before .before .before .before .before .before in
+    let start = at-open-job .before .before .before .before .before .before .before in
+    let args = start .args in
+    begins-ended mainNeed (job (args .grammar .now) (args .record .now) (args .main) (args .second)) _ _ _ (at-open-job .open-job .ensures) _ _ (c .before .enum-told
+    .given .1) (c .why-begun .ensures)
 
 need-requires : tie.Need-need-requires
 need-requires c κs =
-    let args = c .before .before .before .before .before .before .before .before .before .before .before .before .before .before .before .before .args in
-    let j = job (args .grammar .now) (args .record .now) (args .main) (args .second) in
-    (small mainNeed j _ _ _ (c .before .before .before .before .before .before .before .before .before .open-job .ensures) _ (c .before .before .before .opened .given .1), few mainNeed j _ _ _ (c .before .before .before .before .before .before .before .before .before .open-job .ensures) _ (c .before .before .before .opened .given .1))
+    let at-opened = c .before .before .before in
+    let at-open-job = at-opened .before .before .before .before .before .before in
+    let start = at-open-job .before .before .before .before .before .before .before in
+    let args = start .args in
+    let j = job (args .grammar .now) (args .record .now) (args .main) (args .second) in (
+      small mainNeed j _ _ _ (at-open-job .open-job .ensures) _ (at-opened .opened .given .1),
+      few mainNeed j _ _ _ (at-open-job .open-job .ensures) _ (at-opened .opened
+          .given .1),
+    )
 
 lend-requires : tie.Need-lend-requires
 lend-requires c κs = search needs
@@ -44,10 +53,13 @@ same-length-4 c = search needs
 
 returns-2 : tie.Need-returns-2
 returns-2 c =
-    let args = c .before .before .before .before .before .before .before .before .before .before .before .before .before .before .before .before .before .before .args in
+    let at-opened = c .before .before .before .before .before in
+    let at-open-job = at-opened .before .before .before .before .before .before in
+    let start = at-open-job .before .before .before .before .before .before .before in
+    let args = start .args in
     let j = job (args .grammar .now) (args .record .now) (args .main) (args .second) in
-    begins-lent mainNeed j _ _ _ (c .before .before .before .before .before .before .before .before .before .before .before .open-job .ensures) _ (c .before .before .before .before .before .opened .given .1) _
-    (need-is (opened mainNeed j _ _ _ (c .before .before .before .before .before .before .before .before .before .before .before .open-job .ensures) _ (c .before .before .before .before .before .opened .given .1)) _ (c .before .need .ensures)) _ (c .lend .ensures)
+    begins-lent mainNeed j _ _ _ (at-open-job .open-job .ensures) _ (at-opened .opened .given .1) _ (need-is (opened mainNeed j _ _ _ (at-open-job .open-job .ensures) _
+    (at-opened .opened .given .1)) _ (c .before .need .ensures)) _ (c .lend .ensures)
 
 pub begin-spec : {M : Type 1} → statement M
 begin-spec =

@@ -26,8 +26,11 @@ same-length-2 c = search needs
 
 returns : tie.Need-returns
 returns c =
-    let args = c .before .before .before .before .before .before .before .before .before .before .before .before .before .before .args in
-    begins-ended (λ g r. 2 * args .numbers) (job (args .grammar .now) (args .record .now) (args .scratch) (args .second)) _ _ _ (c .before .before .before .before .before .before .before .open-job .ensures) _ _ (c .before .enum-told .given .1) (c .why-begun .ensures)
+    let at-open-job = c .before .before .before .before .before .before .before in
+    let start = at-open-job .before .before .before .before .before .before .before in
+    let args = start .args in
+    begins-ended (λ g r. 2 * args .numbers) (job (args .grammar .now) (args .record .now) (args .scratch) (args .second)) _ _ _ (at-open-job .open-job .ensures) _ _ (c
+    .before .enum-told .given .1) (c .why-begun .ensures)
 
 mul-lend : tie.Need-mul-lend
 mul-lend c = search needs
@@ -43,8 +46,12 @@ same-length-4 c = search needs
 
 returns-2 : tie.Need-returns-2
 returns-2 c =
-    let args = c .before .before .before .before .before .before .before .before .before .before .before .before .before .before .before .args in
-    begins-lent (λ g r. 2 * args .numbers) (job (args .grammar .now) (args .record .now) (args .scratch) (args .second)) _ _ _ (c .before .before .before .before .before .before .before .before .open-job .ensures) _ (c .before .before .opened .given .1) _ refl _ (c .lend .ensures)
+    let at-opened = c .before .before in
+    let at-open-job = at-opened .before .before .before .before .before .before in
+    let start = at-open-job .before .before .before .before .before .before .before in
+    let args = start .args in
+    begins-lent (λ g r. 2 * args .numbers) (job (args .grammar .now) (args .record .now) (args .scratch) (args .second)) _ _ _ (at-open-job .open-job .ensures) _
+    (at-opened .opened .given .1) _ refl _ (c .lend .ensures)
 
 pub begin-list-spec : {M : Type 1} → statement M
 begin-list-spec =

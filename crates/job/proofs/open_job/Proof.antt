@@ -41,7 +41,12 @@ same-length-3 : tie.Need-same-length-3
 same-length-3 c = search needs
 
 returns-2 : tie.Need-returns-2
-returns-2 c = opens-record _ _ _ _ _ _ (c .before .before .before .before .before .before .before .before .accepted .given .1) (c .before .before .before .before .before .before .before .before .before .before .before .before .accept-grammar .ensures) _ _ _ (c .before .enum-told2 .given .1) (c .why-taken .ensures) (c .before .before .before .before .before .take-record .ensures)
+returns-2 c =
+    let at-take-record = c .before .before .before .before .before in
+    let at-accepted = at-take-record .before .before .before in
+    let at-accept-grammar = at-accepted .before .before .before .before in
+    opens-record _ _ _ _ _ _ (at-accepted .accepted .given .1) (at-accept-grammar .accept-grammar .ensures) _ _ _ (c .before .enum-told2 .given .1) (c .why-taken
+    .ensures) (at-take-record .take-record .ensures)
 
 same-length-4 : tie.Need-same-length-4
 same-length-4 c = search needs
@@ -50,7 +55,12 @@ same-length-5 : tie.Need-same-length-5
 same-length-5 c = search needs
 
 returns-3 : tie.Need-returns-3
-returns-3 c = opens-at _ _ _ _ _ _ (c .before .before .before .before .before .before .before .before .accepted .given .1) (c .before .before .before .before .before .before .before .before .before .before .before .before .accept-grammar .ensures) _ _ (c .before .taken .given .1) (c .before .before .before .before .before .take-record .ensures)
+returns-3 c =
+    let at-take-record = c .before .before .before .before .before in
+    let at-accepted = at-take-record .before .before .before in
+    let at-accept-grammar = at-accepted .before .before .before .before in
+    opens-at _ _ _ _ _ _ (at-accepted .accepted .given .1) (at-accept-grammar .accept-grammar .ensures) _ _ (c .before .taken .given .1) (at-take-record .take-record
+    .ensures)
 
 pub open-job-spec : {M : Type 1} → statement M
 open-job-spec =

@@ -5,35 +5,42 @@ use borrow.Author.Needs.{needs}
 use Rattle.judge.proofs.judge_list.Statement.{statement}
 use Rattle.judge.proofs.judge_list.Tie as tie
 
--- src/lib.rt:122:9
 returns : tie.Need-returns
 returns c = refused refl (λ g G. none-empty (c .if1 .taken))
 
--- src/lib.rt:124:9
 look-requires : tie.Need-look-requires
 look-requires c κs = search needs
 
--- src/lib.rt:125:8
 has-alternative-requires : tie.Need-has-alternative-requires
 has-alternative-requires c κs = search needs
 
--- src/lib.rt:126:13
 alternative-requires : tie.Need-alternative-requires
 alternative-requires c κs = search needs
 
--- src/lib.rt:133:9
 walk-requires : tie.Need-walk-requires
-walk-requires c κs = (omega (arith, c .before .before .before .before .before .if1 .left), some-begun (c .before .before .before .before .look .ensures .0) (omega (arith, c .before .before .before .before .before .if1 .left)) (c .before .before .before .has-alternative .ensures) (c .before .before .if2 .taken) _ (c .before .alternative .ensures) (c .before .before .before .before .before .before .before .before .before .before .pre))
+walk-requires c κs = (
+  omega (arith, c .before .before .before .before .before .if1 .left),
+  some-begun (c .before .before .before .before .look .ensures .0) (omega (
+    arith,
+    c .before
+        .before .before .before .before .if1 .left,
+  )) (c .before .before .before .has-alternative .ensures) (c .before .before .if2 .taken) _ (c .before .alternative .ensures)
+      (c .before .before .before .before .before .before .before .before .before .before .pre),
+)
 
--- src/lib.rt:133:9
 same-length : tie.Need-same-length
 same-length c = search needs
 
--- src/lib.rt:133:9
 returns-2 : tie.Need-returns-2
-returns-2 c = judged (c .before .before .before .before .before .before .before .look .ensures .0) (omega (arith, c .before .before .before .before .before .before .before .before .if1 .left)) (c .before .before .before .before .before .before .has-alternative .ensures) (c .before .before .before .before .before .if2 .taken) _ (c .before .before .before .before .alternative .ensures) (c .before .before .before .before .before .before .before .before .before .before .before .before .before .pre) (c .before .before .walk .ensures)
+returns-2 c =
+    judged (c .before .before .before .before .before .before .before .look .ensures .0) (omega (
+      arith,
+      c .before .before .before .before .before .before .before .before
+          .if1 .left,
+    )) (c .before .before .before .before .before .before .has-alternative .ensures) (c .before .before .before .before .before .if2 .taken) _ (c .before
+    .before .before .before .alternative .ensures) (c .before .before .before .before .before .before .before .before .before .before .before .before .before .pre) (c
+    .before .before .walk .ensures)
 
--- src/lib.rt:111:1
 returns-3 : tie.Need-returns-3
 returns-3 c = refused refl (none-there (c .before .before .look .ensures .0) (omega (arith, c .before .before .before .if1 .left)) (c .before .has-alternative .ensures) (c .if2 .left))
 

@@ -5,27 +5,35 @@ use borrow.Author.Needs.{needs}
 use Rattle.judge.proofs.on_terminal.Statement.{statement}
 use Rattle.judge.proofs.on_terminal.Tie as tie
 
--- src/lib.rt:36:9
 token-at-requires : tie.Need-token-at-requires
 token-at-requires c κs = search needs
 
--- src/lib.rt:38:8
 terminal-fits-requires : tie.Need-terminal-fits-requires
 terminal-fits-requires c κs =
     let w = c .before .before .before .before .before .before .pre .1 in
-    record { small = omega (arith, w .lent .table); short = w .lent .short; here = terminal-there w (c .before .before .before .before .before .before .pre .0) _ (c .before .token-at .ensures .0); on = w .tracks .within }
+    record {
+      small = omega (arith, w .lent .table);
+      short = w .lent .short;
+      here = terminal-there w (c .before .before .before .before .before .before .pre .0) _ (c
+          .before .token-at .ensures .0);
+      on = w .tracks .within;
+    }
 
--- src/lib.rt:39:25
 skip-requires : tie.Need-skip-requires
 skip-requires c κs = small (c .before .before .before .before .before .before .before .before .pre .1)
 
--- src/lib.rt:39:9
 returns : tie.Need-returns
-returns c = moved-leaf (c .before .before .before .before .before .before .before .before .before .pre .0) (c .before .before .before .before .token-at .ensures .0) (c .before .before .terminal-fits .ensures) (c .skip .ensures) (c .before .before .before .before .before .before .before .before .before .pre .1) (c .before .if1 .taken)
+returns c =
+    let at-terminal-fits = c .before .before in
+    let at-token-at = at-terminal-fits .before .before in
+    let start = at-token-at .before .before .before .before .before in
+    moved-leaf (start .pre .0) (at-token-at .token-at .ensures .0) (at-terminal-fits .terminal-fits .ensures) (c .skip .ensures) (start .pre .1) (c .before .if1 .taken)
 
--- src/lib.rt:26:1
 returns-2 : tie.Need-returns-2
-returns-2 c = refuted-leaf (c .before .before .before .before .before .before .before .before .pre .0) (c .before .before .before .token-at .ensures .0) (c .before .terminal-fits .ensures) (c .if1 .left)
+returns-2 c =
+    let at-token-at = c .before .before .before in
+    let start = at-token-at .before .before .before .before .before in
+    refuted-leaf (start .pre .0) (at-token-at .token-at .ensures .0) (c .before .terminal-fits .ensures) (c .if1 .left)
 
 pub on-terminal-spec : {M : Type 1} → statement M
 on-terminal-spec =

@@ -15,51 +15,51 @@ two k n e a b z = omega arith
 five : (k n : ℕ) → k ≡ n → 5 ≤ k → 5 ≤ n
 five k n e h = omega arith
 
--- src/lib.rt:69:9
 kind-at-requires : tie.Need-kind-at-requires
 kind-at-requires c κs = search needs
 
--- src/lib.rt:71:9
 on-terminal-requires : tie.Need-on-terminal-requires
 on-terminal-requires c κs = search needs
 
--- src/lib.rt:71:9
 same-length : tie.Need-same-length
 same-length c = search needs
 
--- src/lib.rt:71:9
 returns : tie.Need-returns
 returns c = search needs
 
--- src/lib.rt:74:9
 on-node-requires : tie.Need-on-node-requires
 on-node-requires c κs =
-    let w = c .before .before .before .before .before .before .before .before .pre .1 in
-    let t = two (c .before .before .before .kind-at .result) _ (c .before .before .before .kind-at .ensures) (c .before .before .if1 .left) (c .before .if2 .taken) (spells-kind (w .tracks .spells)) in (t .0, t .1, w)
+    let at-if1 = c .before .before in
+    let at-kind-at = at-if1 .before in
+    let start = at-kind-at .before .before .before .before .before in
+    let w = start .pre .1 in
+    let t = two (at-kind-at .kind-at .result) _ (at-kind-at .kind-at .ensures) (at-if1 .if1 .left) (c .before .if2 .taken) (spells-kind (w .tracks .spells)) in
+    (t .0, t .1, w)
 
--- src/lib.rt:74:9
 same-length-2 : tie.Need-same-length-2
 same-length-2 c = search needs
 
--- src/lib.rt:74:9
 returns-2 : tie.Need-returns-2
 returns-2 c = search needs
 
--- src/lib.rt:76:14
 leave-requires : tie.Need-leave-requires
 leave-requires c κs =
-    let k = five (c .before .before .before .kind-at .result) _ (c .before .before .before .kind-at .ensures) (c .before .if2 .left) in
-    leaves (c .before .before .before .before .before .before .before .before .pre .1) (positive (c .before .before .before .before .before .before .before .before .args .h .inner) (λ z. c .before .before .before .before .before .before .before .before .pre .0 (k, z)))
+    let at-kind-at = c .before .before .before in
+    let start = at-kind-at .before .before .before .before .before in
+    let k = five (at-kind-at .kind-at .result) _ (at-kind-at .kind-at .ensures) (c .before .if2 .left) in
+    leaves (start .pre .1) (positive (start .args .h .inner) (λ z. start .pre .0 (k, z)))
 
--- src/lib.rt:65:1
 same-length-3 : tie.Need-same-length-3
 same-length-3 c = search needs
 
--- src/lib.rt:65:1
 returns-3 : tie.Need-returns-3
 returns-3 c =
-    let k = five (c .before .before .before .before .before .before .kind-at .result) _ (c .before .before .before .before .before .before .kind-at .ensures) (c .before .before .before .before .if2 .left) in
-    moved-leave k (positive (c .before .before .before .before .before .before .before .before .before .before .before .args .h .inner) (λ z. c .before .before .before .before .before .before .before .before .before .before .before .pre .0 (k, z))) (c .before .before .leave .ensures) (c .before .before .before .before .before .before .before .before .before .before .before .pre .1)
+    let at-leave = c .before .before in
+    let at-if2 = at-leave .before .before in
+    let at-kind-at = at-if2 .before .before in
+    let start = at-kind-at .before .before .before .before .before in
+    let k = five (at-kind-at .kind-at .result) _ (at-kind-at .kind-at .ensures) (at-if2 .if2 .left) in
+    moved-leave k (positive (start .args .h .inner) (λ z. start .pre .0 (k, z))) (at-leave .leave .ensures) (start .pre .1)
 
 pub step-spec : {M : Type 1} → statement M
 step-spec =

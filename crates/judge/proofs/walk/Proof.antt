@@ -14,73 +14,82 @@ Inv-loop table list «record» scratch₀ h₀ scratch h = Turned table list «r
 abbrev μ-loop : tie.MeasureT-loop
 μ-loop table list «record» scratch₀ h₀ scratch h = weight table list h
 
--- src/lib.rt:91:5
 loop-holds : tie.Need-loop-holds Inv-loop μ-loop
 loop-holds c = turn-begin (c .before .before .before .before .pre .1)
 
--- src/lib.rt:91:11
 more-requires : tie.Need-more-requires Inv-loop μ-loop
 more-requires c κs = tt
 
--- src/lib.rt:92:13
 step-requires : tie.Need-step-requires Inv-loop μ-loop
 step-requires c κs = (c .before .before .more .ensures .0 (c .before .if1 .taken), c .before .before .before .loop .inv .some)
 
--- src/lib.rt:93:22
 enum-known-went : tie.Need-enum-known-went Inv-loop μ-loop
 enum-known-went c = search needs
 
--- src/lib.rt:94:13
 enum-told : tie.Need-enum-told Inv-loop μ-loop
 enum-told c = search needs
 
--- src/lib.rt:94:13
 same-length : tie.Need-same-length Inv-loop μ-loop
 same-length c = omega (arith, c .before .before .before .before .before .before .before .before .loop .inv .long, c .before .before .before .before .step .kept .1 .1 .1 .0)
 
--- src/lib.rt:94:13
 returns : tie.Need-returns Inv-loop μ-loop
 returns c = walked-stuck (c .before .before .before .before .before .before .before .before .loop .inv) (c .before .before .before .before .step .ensures) (c .enum-told .given .1)
 
--- src/lib.rt:91:5
 loop-less : tie.Need-loop-less Inv-loop μ-loop
-loop-less c = turn-falls (c .before .before .before .before .before .before .before .before .before .loop .inv) (c .before .before .before .before .before .step .ensures) (c .before .went .given .1) .falls
+loop-less c =
+    let at-step = c .before .before .before .before .before in
+    let at-loop = at-step .before .before .before .before in
+    turn-falls (at-loop .loop .inv) (at-step .step .ensures) (c .before .went .given .1) .falls
 
--- src/lib.rt:91:5
 loop-again : tie.Need-loop-again Inv-loop μ-loop
-loop-again c = turn-on (c .before .before .before .before .before .before .before .before .before .loop .inv) (c .before .before .before .before .before .step .ensures) (c .before .went .given .1) (omega (arith, c .before .before .before .before .before .step .kept .1 .1 .1 .0))
+loop-again c =
+    turn-on (c .before .before .before .before .before .before .before .before .before .loop .inv) (c .before .before .before .before .before .step .ensures) (c .before
+    .went .given .1) (omega (arith, c .before .before .before .before .before .step .kept .1 .1 .1 .0))
 
--- src/lib.rt:100:9
 same-length-2 : tie.Need-same-length-2 Inv-loop μ-loop
 same-length-2 c = c .before .before .before .before .before .loop .inv .long
 
--- src/lib.rt:100:9
 returns-2 : tie.Need-returns-2 Inv-loop μ-loop
 returns-2 c = walked-list (c .before .before .before .before .before .loop .inv) (c .before .before .before .before .more .ensures .1 (c .before .before .before .if1 .left)) (c .if2 .taken)
 
--- src/lib.rt:103:9
 same-length-3 : tie.Need-same-length-3 Inv-loop μ-loop
 same-length-3 c = c .before .before .before .before .before .before .before .loop .inv .long
 
--- src/lib.rt:103:9
 returns-3 : tie.Need-returns-3 Inv-loop μ-loop
-returns-3 c = walked-record (c .before .before .before .before .before .before .before .loop .inv) (c .before .before .before .before .before .before .more .ensures .1 (c .before .before .before .before .before .if1 .left)) (c .if3 .taken)
+returns-3 c =
+    let at-if1 = c .before .before .before .before .before in
+    let at-more = at-if1 .before in
+    let at-loop = at-more .before in
+    walked-record (at-loop .loop .inv) (at-more .more .ensures .1 (at-if1 .if1 .left)) (c .if3 .taken)
 
--- src/lib.rt:105:5
 slice-write-scratch : tie.Need-slice-write-scratch Inv-loop μ-loop
-slice-write-scratch c = omega (arith, c .before .before .before .before .before .before .before .loop .inv .some .lent .room, c .before .before .before .before .before .before .before .before .before .before .before .before .pre .0)
+slice-write-scratch c =
+    omega (
+      arith,
+      c .before .before .before .before .before .before .before .loop .inv .some .lent .room,
+      c .before .before .before .before .before .before .before
+          .before .before .before .before .before .pre .0,
+    )
 
--- src/lib.rt:106:5
 slice-write-scratch-2 : tie.Need-slice-write-scratch-2 Inv-loop μ-loop
-slice-write-scratch-2 c = simp length-set (omega (arith, c .before .before .before .before .before .before .before .loop .inv .some .lent .room, c .before .before .before .before .before .before .before .before .before .before .before .before .pre .0))
+slice-write-scratch-2 c =
+    simp length-set (omega (
+      arith,
+      c .before .before .before .before .before .before .before .loop .inv .some .lent .room,
+      c .before .before .before .before .before
+          .before .before .before .before .before .before .before .pre .0,
+    ))
 
--- src/lib.rt:80:1
 same-length-4 : tie.Need-same-length-4 Inv-loop μ-loop
 same-length-4 c = simp length-set (c .before .before .before .before .before .before .before .loop .inv .long)
 
--- src/lib.rt:80:1
 returns-4 : tie.Need-returns-4 Inv-loop μ-loop
-returns-4 c = walked-whole (c .before .before .before .before .before .before .before .loop .inv) (c .before .before .before .before .before .before .more .ensures .1 (c .before .before .before .before .before .if1 .left)) (c .before .before .if2 .left) (c .if3 .left)
+returns-4 c =
+    let at-if2 = c .before .before in
+    let at-if1 = at-if2 .before .before .before in
+    let at-more = at-if1 .before in
+    let at-loop = at-more .before in
+    walked-whole (at-loop .loop .inv) (at-more .more .ensures .1 (at-if1 .if1 .left)) (at-if2 .if2 .left) (c .if3 .left)
 
 pub walk-spec : {M : Type 1} → statement M
 walk-spec =

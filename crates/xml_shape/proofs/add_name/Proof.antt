@@ -5,35 +5,27 @@ use borrow.Author.Needs.{needs}
 use Rattle.xml_shape.proofs.add_name.Statement.{statement}
 use Rattle.xml_shape.proofs.add_name.Tie as tie
 
--- src/lib.rt:37:9
 is-seen-requires : tie.Need-is-seen-requires
 is-seen-requires c κs = search needs
 
--- src/lib.rt:39:23
 cast-seen : tie.Need-cast-seen
 cast-seen c = search needs
 
--- src/lib.rt:39:9
 mul-seen : tie.Need-mul-seen
 mul-seen c = search needs
 
--- src/lib.rt:39:9
 slice-write-seen : tie.Need-slice-write-seen
 slice-write-seen c = search needs
 
--- src/lib.rt:33:1
 same-length : tie.Need-same-length
 same-length c = search needs
 
--- src/lib.rt:33:1
 returns : tie.Need-returns
 returns c = search needs
 
--- src/lib.rt:33:1
 same-length-2 : tie.Need-same-length-2
 same-length-2 c = search needs
 
--- src/lib.rt:33:1
 returns-2 : tie.Need-returns-2
 returns-2 c =
     let start = c .before .before .before .before .before in

@@ -3,15 +3,12 @@ use borrow.Author.Needs.{needs}
 use Rattle.xml_shape.proofs.names_on.Statement.{statement}
 use Rattle.xml_shape.proofs.names_on.Tie as tie
 
--- src/lib.rt:50:9
 returns : tie.Need-returns
 returns c = search needs
 
--- src/lib.rt:52:5
 add-result : tie.Need-add-result
 add-result c = search needs
 
--- src/lib.rt:45:1
 returns-2 : tie.Need-returns-2
 returns-2 c = rw (c .if1 .left)
 
