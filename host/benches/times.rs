@@ -485,14 +485,18 @@ fn judge_table() {
     let shapes: [(&str, &str, &dyn Fn(usize) -> Vec<u32>); 7] = [
         ("elements nested", "a: a; 'x'.", &deep),
         ("deleted nodes nested", "a: -a; 'x'.", &deep),
-        ("deleted nodes nested in an attribute", "a: @b. b: b; 'x'.", &|count| {
-            [vec![0], deep(count)].concat()
-        }),
+        (
+            "nodes nested in an attribute",
+            "a: @b. b: b; 'x'.",
+            &|count| [vec![0], deep(count)].concat(),
+        ),
         ("elements in a row", "a: -r. r: b, -r; . b: .", &chain),
         ("deleted nodes in a row", "a: -r. r: -b, -r; . b: .", &chain),
-        ("elements in a row, by halves", "a: -r. r: -r, -r; b. b: .", &|count| {
-            [vec![0], halves(count)].concat()
-        }),
+        (
+            "elements in a row, by halves",
+            "a: -r. r: -r, -r; b. b: .",
+            &|count| [vec![0], halves(count)].concat(),
+        ),
         ("out of range at the end", "a: a; 'x'.", &|count| {
             [vec![0; count], vec![2]].concat()
         }),

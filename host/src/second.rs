@@ -41,7 +41,10 @@ pub fn second_reading(
         return Ok(None);
     }
     let other = ixml_yardstick::second(grammar, record).expect("a second derivation");
-    assert_ne!(other, chosen.numbers, "a derivation other than the chosen one");
+    assert_ne!(
+        other, chosen.numbers,
+        "a derivation other than the chosen one"
+    );
     let mut judged = |list: Vec<u32>| match reader.judge(grammar, record, &list) {
         Err(Error::NoDerivation) => panic!("{list:?} is no derivation"),
         outcome => outcome.map(|converted| (list, converted)),

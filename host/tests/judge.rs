@@ -72,7 +72,11 @@ fn what_reading_answers() {
                 let without = converted.xml.replacen("'ambiguous version", "'version", 1);
                 let state = " xmlns:ixml='http://invisiblexml.org/NS' ixml:state='ambiguous'";
                 let without = without.replacen(state, "", 1);
-                let expected = if converted.ambiguous { &without } else { &converted.xml };
+                let expected = if converted.ambiguous {
+                    &without
+                } else {
+                    &converted.xml
+                };
                 assert_eq!(&judged.xml, expected, "{}", vector.input);
                 assert!(!judged.ambiguous);
             }
@@ -101,7 +105,10 @@ fn long_lists() {
         list
     };
     assert_eq!(judge(b"a: -a; 'x'.", b"x", &unary(1_000_000)).0, 0);
-    assert_eq!(judge(b"a: -a; 'x'.", b"x", &unary(1_000_000)).1, b"<a>x</a>");
+    assert_eq!(
+        judge(b"a: -a; 'x'.", b"x", &unary(1_000_000)).1,
+        b"<a>x</a>"
+    );
     assert_eq!(judge(b"a: -a; 'x'.", b"x", &vec![0; 1_000_000]).0, 25);
     let mut wide = vec![0; 1_000_000];
     wide.extend(vec![1; 1_000_001]);
@@ -128,5 +135,8 @@ fn rooms() {
     // 15 before 25, and 25 before 23.
     assert_eq!(answer(GRAMMAR_TABLE, 3, 8, &[9, 9]), 15);
     assert_eq!(answer(GRAMMAR_TABLE, 4, 0, &[9, 9]), 25);
-    assert_eq!(Reader::new().judge("a: 'x'.", "x", &[1]), Err(Error::NoDerivation));
+    assert_eq!(
+        Reader::new().judge("a: 'x'.", "x", &[1]),
+        Err(Error::NoDerivation)
+    );
 }

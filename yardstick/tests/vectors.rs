@@ -131,7 +131,14 @@ fn judged() {
         let filling: Vec<u8> = (0..room).map(|cell| (cell % 251) as u8 ^ 0xA5).collect();
         let mut buffer = filling.clone();
         let (grammar, record) = (bytes(&line[1]), bytes(&line[2]));
-        let got = judge(&grammar, &record, &list, grammar_table, scratch, &mut buffer);
+        let got = judge(
+            &grammar,
+            &record,
+            &list,
+            grammar_table,
+            scratch,
+            &mut buffer,
+        );
         let answer = Answer {
             number: line[7].parse().unwrap(),
             length: line[8].parse().unwrap(),
@@ -160,7 +167,15 @@ fn readings_are_judged() {
         let first: Vec<u32> = line[10].split(',').map(|n| n.parse().unwrap()).collect();
         let number = |list: &[u32]| {
             let mut result = vec![0; 1 << 20];
-            judge(&grammar, &record, list, GRAMMAR_TABLE, 2 * list.len(), &mut result).number
+            judge(
+                &grammar,
+                &record,
+                list,
+                GRAMMAR_TABLE,
+                2 * list.len(),
+                &mut result,
+            )
+            .number
         };
         assert_ne!(number(&first), 25, "{line:?}");
         let other = second(&grammar, &record);
