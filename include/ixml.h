@@ -152,7 +152,7 @@ enum {
     IXML_RECORD_CHARACTER = 13,
     /* The record has over 200 characters. */
     IXML_RECORD_TOO_LONG = 14,
-    /* The main table or the grammar table is too short. */
+    /* The main table, the scratch or the grammar table is too short. */
     IXML_TABLE_TOO_SHORT = 15,
     /* The grammar does not derive the record: there is no reading. */
     IXML_NO_READING = 16,
