@@ -25,6 +25,7 @@ const LIBRARIES: [(&str, &[&str], &str); 2] = [
             "ixml_read",
             "ixml_read_plain",
             "ixml_convert",
+            "ixml_judge",
         ],
         "IXML_ARCHIVE",
     ),

@@ -114,7 +114,7 @@ typedef struct {
  * The numbers of an answer, in the order in which they are judged: the first
  * that applies is given. ixml_check gives 0 to 11 and 24; ixml_tidy these, 28
  * and 23; ixml_read and ixml_read_plain 0 to 16, 24, 29 and 23; ixml_convert any
- * but 28.
+ * but 25 and 28; ixml_judge any but 16, 28 and 29.
  *
  * On every refusal each cell of the result buffer is as it was.
  */
@@ -157,10 +157,13 @@ enum {
     IXML_RECORD_CHARACTER = 13,
     /* The record has over 200 characters. */
     IXML_RECORD_TOO_LONG = 14,
-    /* The main table or the grammar table is too short. */
+    /* The main table, the scratch or the grammar table is too short. */
     IXML_TABLE_TOO_SHORT = 15,
     /* The grammar does not derive the record: there is no reading. */
     IXML_NO_READING = 16,
+    /* The list of numbers, used to its last, is no derivation of the record
+       (ixml_judge alone, in the place of the one above). */
+    IXML_NO_DERIVATION = 25,
     /* The chosen reading has over 4,096 numbers. */
     IXML_READING_TOO_LONG = 29,
 
@@ -234,6 +237,23 @@ ixml_answer ixml_convert(const uint8_t *grammar, size_t grammar_length,
                          uint32_t *main_table, size_t main_table_length,
                          uint32_t *grammar_table, size_t grammar_table_length,
                          uint8_t *result, size_t result_length);
+
+/*
+ * Judges a list of numbers, whoever made it, as ixml_read gives them. It is
+ * accepted exactly when, used to its last number, it is the left parse of a
+ * derivation of the record. The result is the XML of that derivation, as
+ * ixml_convert would write it, but with no word on ambiguity; the answer's
+ * ambiguous mark is not set. The list may have any length. No main table is
+ * needed; `scratch` needs two numbers for each entry of the list, shorter being
+ * 15, and what it holds afterwards is left open.
+ */
+ixml_answer ixml_judge(const uint8_t *grammar, size_t grammar_length,
+                       const uint8_t *record, size_t record_length,
+                       const uint32_t *list, size_t list_length,
+                       const uint32_t *grammar_table,
+                       size_t grammar_table_length,
+                       uint64_t *scratch, size_t scratch_length,
+                       uint8_t *result, size_t result_length);
 
 /*
  * Unicode's general category of a code point, as its place in this list:

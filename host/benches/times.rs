@@ -1,7 +1,7 @@
 //! Times of the library's calls beside the yardstick's, as Markdown tables.
 //!
 //! Arguments choose among the tables: `check`, `read`, `hard`, `fails`, `dense`,
-//! `convert`, `write`.
+//! `convert`, `write`, `judge`.
 
 #[path = "../tests/common/mod.rs"]
 mod common;
@@ -14,7 +14,7 @@ use ixml::limits::{GRAMMAR_TABLE, MAIN_TABLE, READING_NUMBERS, RECORD_CHARACTERS
 use ixml::{Answer, Error};
 use ixml_yardstick::gen::{self, Random};
 
-const TABLES: [(&str, fn()); 7] = [
+const TABLES: [(&str, fn()); 8] = [
     ("check", check_table),
     ("read", read_table),
     ("hard", hard_table),
@@ -22,6 +22,7 @@ const TABLES: [(&str, fn()); 7] = [
     ("dense", dense_table),
     ("convert", convert_table),
     ("write", write_table),
+    ("judge", judge_table),
 ];
 
 fn main() {
@@ -475,4 +476,76 @@ fn write_table() {
         let what = format!("{what} | {} | {}", read.length, converted.length);
         row(&what, &[reading, converting]);
     }
+}
+
+/// Lists of any length, judged: the time grows with the list and the XML.
+fn judge_table() {
+    let deep = |count: usize| [vec![0; count], vec![1]].concat();
+    let chain = |count: usize| [vec![0; 2 * count + 1], vec![1]].concat();
+    let shapes: [(&str, &str, &dyn Fn(usize) -> Vec<u32>); 7] = [
+        ("elements nested", "a: a; 'x'.", &deep),
+        ("deleted nodes nested", "a: -a; 'x'.", &deep),
+        (
+            "nodes nested in an attribute",
+            "a: @b. b: b; 'x'.",
+            &|count| [vec![0], deep(count)].concat(),
+        ),
+        ("elements in a row", "a: -r. r: b, -r; . b: .", &chain),
+        ("deleted nodes in a row", "a: -r. r: -b, -r; . b: .", &chain),
+        (
+            "elements in a row, by halves",
+            "a: -r. r: -r, -r; b. b: .",
+            &|count| [vec![0], halves(count)].concat(),
+        ),
+        ("out of range at the end", "a: a; 'x'.", &|count| {
+            [vec![0; count], vec![2]].concat()
+        }),
+    ];
+    println!("| A list | Nodes | Numbers | Answer | XML, bytes | ms | ns for a number |");
+    println!("|---|---:|---:|---:|---:|---:|---:|");
+    for (what, grammar, make) in shapes {
+        for count in [100_000, 1_000_000, 10_000_000] {
+            let list = make(count);
+            let record: &[u8] = if grammar.contains('x') { b"x" } else { b"" };
+            let table = vec![0; GRAMMAR_TABLE];
+            let mut scratch = vec![0; 2 * list.len()];
+            let mut result = vec![0; 8 * count + 64];
+            let mut answer = Answer::default();
+            let time = once(&mut || {
+                answer = ixml::judge(
+                    grammar.as_bytes(),
+                    record,
+                    &list,
+                    &table,
+                    &mut scratch,
+                    &mut result,
+                );
+            });
+            println!(
+                "| {what} `{grammar}` | {count} | {} | {} | {} | {} | {:.0} |",
+                list.len(),
+                answer.number,
+                answer.length,
+                milliseconds(time),
+                time.as_nanos() as f64 / list.len() as f64
+            );
+        }
+    }
+}
+
+/// The left parse of a row of elements that is halved until one is left.
+fn halves(count: usize) -> Vec<u32> {
+    let mut numbers = Vec::new();
+    let mut open = vec![count];
+    while let Some(count) = open.pop() {
+        match count {
+            0 | 1 => numbers.extend([1, 0]),
+            _ => {
+                numbers.push(0);
+                open.push(count - count / 2);
+                open.push(count / 2);
+            }
+        }
+    }
+    numbers
 }

@@ -185,3 +185,55 @@ pub fn convert(
         )
     }
 }
+
+/// Judges a list of numbers, whoever made it: the numbers 0 to 15, 17 to 25.
+///
+/// The list is accepted exactly when, used to its last number, it is the left
+/// parse of a derivation of the record. Then, with 0, the first bytes of
+/// `result`, as many as the answer's length, are the XML of that derivation, in
+/// UTF-8, with no word on ambiguity. All other bytes of `result`, and with a
+/// refusal all of them, are as they were.
+///
+/// The list may have any length. `scratch` needs two numbers for each entry, and
+/// what it holds before a call sways nothing.
+///
+/// ```
+/// use ixml::limits::GRAMMAR_TABLE;
+///
+/// let grammar = b"a: a; 'x'.";
+/// let grammar_table = vec![0; GRAMMAR_TABLE];
+/// let mut result = [0; 64];
+/// let mut judge = |list: &[u32]| {
+///     let mut scratch = vec![0; 2 * list.len()];
+///     ixml::judge(grammar, b"x", list, &grammar_table, &mut scratch, &mut result)
+/// };
+/// assert_eq!(judge(&[1]).number, 0);
+/// assert_eq!(judge(&[0, 0, 1]).number, 0);
+/// assert_eq!(judge(&[1, 1]).number, 25);
+/// ```
+pub fn judge(
+    grammar: &[u8],
+    record: &[u8],
+    list: &[u32],
+    grammar_table: &[u32],
+    scratch: &mut [u64],
+    result: &mut [u8],
+) -> Answer {
+    // SAFETY: as in `read`.
+    unsafe {
+        ffi::ixml_judge(
+            grammar.as_ptr(),
+            grammar.len(),
+            record.as_ptr(),
+            record.len(),
+            list.as_ptr(),
+            list.len(),
+            grammar_table.as_ptr(),
+            grammar_table.len(),
+            scratch.as_mut_ptr(),
+            scratch.len(),
+            result.as_mut_ptr(),
+            result.len(),
+        )
+    }
+}

@@ -80,8 +80,9 @@ errors! {
     RecordNotUtf8 { byte: usize = byte, quote: Quote = unquoted } = 12, "the record is not UTF-8";
     RecordCharacter { byte: usize = byte, quote: Quote = unquoted } = 13, "the record holds a character outside the alphabet (U+0000 to U+017F, U+0300 to U+036F, U+203F, U+2040)";
     RecordTooLong = 14, "the record has over 200 characters";
-    TableTooShort = 15, "the main table or the grammar table is too short";
+    TableTooShort = 15, "the main table, the scratch or the grammar table is too short";
     NoReading { version_mismatch: bool = version } = 16, "the grammar does not derive the record";
+    NoDerivation = 25, "the list of numbers is no derivation of the record by the grammar";
     ReadingTooLong = 29, "the chosen reading has over 4,096 numbers";
     RepeatedAttribute = 17, "the XML would have an attribute twice on one element";
     NotXmlName = 18, "the XML would have a name that is no XML name";

@@ -93,4 +93,18 @@ extern "C" {
         result: *mut u8,
         result_length: usize,
     ) -> Answer;
+    pub fn ixml_judge(
+        grammar: *const u8,
+        grammar_length: usize,
+        record: *const u8,
+        record_length: usize,
+        list: *const u32,
+        list_length: usize,
+        grammar_table: *const u32,
+        grammar_table_length: usize,
+        scratch: *mut u64,
+        scratch_length: usize,
+        result: *mut u8,
+        result_length: usize,
+    ) -> Answer;
 }

@@ -11,8 +11,8 @@
 //! assert!(!converted.ambiguous);
 //! # Ok::<(), ixml::Error>(())
 //! ```
-//! [`check`], [`tidy`], [`read`], [`read_plain`], [`convert`] and [`category`]
-//! are the library's calls themselves, for a caller who provides tables and
+//! [`check`], [`tidy`], [`read`], [`read_plain`], [`convert`], [`judge`] and
+//! [`category`] are the library's calls themselves, for a caller who provides tables and
 //! buffers: see [`limits`] for their lengths. An [`Answer`] tells how a call went;
 //! [`Answer::ok`] turns it into a `Result` whose [`Error`] has a sentence for each
 //! refusal, and shows where a grammar is at fault ([`Error::shown_in`]).
@@ -30,12 +30,14 @@ pub mod ffi;
 mod gate;
 pub mod limits;
 mod reader;
+mod second;
 mod spot;
 
 pub use answer::{Answer, Places};
-pub use calls::{check, convert, read, read_plain, tidy, tidy_text};
+pub use calls::{check, convert, judge, read, read_plain, tidy, tidy_text};
 pub use category::{category, Category};
 pub use error::{Error, Quote};
 pub use gate::{number, Gate, GateError, Latitude, Longitude, Verdict};
 pub use reader::{Converted, Engine, Reader, Reading};
+pub use second::{second_reading, TwoReadings};
 pub use spot::Spot;

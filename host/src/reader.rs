@@ -1,5 +1,5 @@
 use crate::limits::{main_table_for, GRAMMAR_TABLE, READING_NUMBERS};
-use crate::{convert, read, read_plain, Error};
+use crate::{convert, judge, read, read_plain, Answer, Error};
 
 /// Reads and converts records in memory of its own, which it keeps from one
 /// job to the next.
@@ -11,6 +11,7 @@ pub struct Reader {
     main_table: Vec<u32>,
     grammar_table: Vec<u32>,
     numbers: Vec<u32>,
+    scratch: Vec<u64>,
     xml: Vec<u8>,
 }
 
@@ -48,10 +49,6 @@ pub struct Converted {
 }
 
 impl Reader {
-    /// Bytes that the first attempt provides for the XML. Where they are too
-    /// few the job is repeated with more.
-    const XML_BYTES: usize = 1 << 16;
-
     /// A reader with no memory yet.
     pub fn new() -> Reader {
         Reader::default()
@@ -136,29 +133,53 @@ impl Reader {
     ) -> Result<Converted, Error> {
         let (grammar, record) = (grammar.as_ref(), record.as_ref());
         self.provide_tables(record);
-        provide(&mut self.xml, Self::XML_BYTES);
-        let answer = loop {
-            let answer = convert(
-                grammar,
-                record,
-                &mut self.main_table,
-                &mut self.grammar_table,
-                &mut self.xml,
-            );
-            match answer.ok() {
-                Err(Error::ResultTooLong) => {
-                    let more = 8 * self.xml.len();
-                    provide(&mut self.xml, more);
-                }
-                settled => break settled.map_err(|error| error.quoting(grammar, record))?,
-            }
-        };
+        let (main_table, grammar_table) = (&mut self.main_table, &mut self.grammar_table);
+        let answer = with_room(&mut self.xml, |xml| {
+            convert(grammar, record, main_table, grammar_table, xml)
+        })
+        .map_err(|error| error.quoting(grammar, record))?;
+        Ok(self.converted(answer))
+    }
+
+    /// Judges a list of numbers, whoever made it: the XML of the derivation of
+    /// the record that it names, with no word on ambiguity. The error is none of
+    /// 15, 16, 23 and 29; 25 says that the list names no derivation.
+    ///
+    /// ```
+    /// use ixml::{Error, Reader};
+    ///
+    /// let mut reader = Reader::new();
+    /// let grammar = "a: 'x'; b. b: 'x'.";
+    /// assert_eq!(reader.judge(grammar, "x", &[0])?.xml, "<a>x</a>");
+    /// assert_eq!(reader.judge(grammar, "x", &[1, 0])?.xml, "<a><b>x</b></a>");
+    /// assert_eq!(reader.judge(grammar, "x", &[2]), Err(Error::NoDerivation));
+    /// # Ok::<(), Error>(())
+    /// ```
+    pub fn judge(
+        &mut self,
+        grammar: impl AsRef<[u8]>,
+        record: impl AsRef<[u8]>,
+        list: &[u32],
+    ) -> Result<Converted, Error> {
+        let (grammar, record) = (grammar.as_ref(), record.as_ref());
+        provide(&mut self.grammar_table, GRAMMAR_TABLE);
+        provide(&mut self.scratch, 2 * list.len());
+        let (grammar_table, scratch) = (&self.grammar_table, &mut self.scratch);
+        let answer = with_room(&mut self.xml, |xml| {
+            judge(grammar, record, list, grammar_table, scratch, xml)
+        })
+        .map_err(|error| error.quoting(grammar, record))?;
+        Ok(self.converted(answer))
+    }
+
+    /// What an answer says of the XML that it counts.
+    fn converted(&self, answer: Answer) -> Converted {
         let xml = self.xml[..answer.length].to_vec();
-        Ok(Converted {
+        Converted {
             xml: String::from_utf8(xml).expect("the library writes UTF-8"),
             ambiguous: answer.ambiguous,
             version_mismatch: answer.version,
-        })
+        }
     }
 
     fn provide_tables(&mut self, record: &[u8]) {
@@ -171,5 +192,26 @@ impl Reader {
 fn provide<T: Clone + Default>(buffer: &mut Vec<T>, length: usize) {
     if buffer.len() < length {
         *buffer = vec![T::default(); length];
+    }
+}
+
+/// Bytes that the first attempt provides for the XML. Where they are too few the
+/// job is repeated with more.
+const XML_BYTES: usize = 1 << 16;
+
+/// Calls with a buffer, and again with a longer one while the result is too long.
+fn with_room(
+    xml: &mut Vec<u8>,
+    mut call: impl FnMut(&mut [u8]) -> Answer,
+) -> Result<Answer, Error> {
+    provide(xml, XML_BYTES);
+    loop {
+        match call(xml).ok() {
+            Err(Error::ResultTooLong) => {
+                let more = 8 * xml.len();
+                provide(xml, more);
+            }
+            settled => return settled,
+        }
     }
 }

@@ -76,7 +76,7 @@ fn program(assert: &str) -> String {
         ("version", std::mem::offset_of!(Answer, version)),
     ];
     facts.extend(fields.map(|(name, place)| format!("offsetof(ixml_answer, {name}) == {place}")));
-    for number in (1..=24).chain([28, 29]) {
+    for number in (1..=25).chain([28, 29]) {
         facts.push(format!("IXML_{} == {number}", name(number)));
     }
     let facts: String = facts
@@ -111,6 +111,14 @@ fn program(assert: &str) -> String {
              if (tidied.number != IXML_ANSWERED || tidied.length != 5) return 8;\n\
              if (xml[2] != ' ' || xml[4] != '\\n' || xml[5] != 0) return 9;\n\
              xml[0] = 0;\n\
+             const uint32_t list[2] = {{1, 1}};\n\
+             uint64_t scratch[4];\n\
+             const ixml_answer judged = ixml_judge(text, sizeof twice - 1, record, 1, list, 1,\n\
+                 grammar_table, IXML_GRAMMAR_TABLE, scratch, 4, xml, 16);\n\
+             const ixml_answer declined = ixml_judge(text, sizeof twice - 1, record, 1, list, 2,\n\
+                 grammar_table, IXML_GRAMMAR_TABLE, scratch, 4, xml, 16);\n\
+             if (judged.number != IXML_RESULT_TOO_LONG || xml[0] != 0) return 10;\n\
+             if (declined.number != IXML_NO_DERIVATION || declined.version) return 11;\n\
              const uint8_t unruled[5] = {{'a', ':', ' ', 'b', '.'}};\n\
              const ixml_answer refused = ixml_convert(unruled, 5, record, 1, main_table, 1,\n\
                  grammar_table, IXML_GRAMMAR_TABLE, xml, 16);\n\

@@ -79,6 +79,13 @@ fn vectors_of_tidy() {
 }
 
 #[test]
+fn vectors_of_judge() {
+    let lines = vectors::lines_of("judge", 7);
+    assert!(lines.len() > 500);
+    run_lines(lines);
+}
+
+#[test]
 fn vectors_of_gates() {
     let lines = vectors::lines_of("gate", 5);
     assert!(lines.len() > 800);

@@ -1,6 +1,7 @@
 //! The public calls on a grammar and a record.
 
 use crate::engine;
+use crate::judge::accepts;
 use crate::limits;
 use crate::plain::{plain, Plain};
 use crate::productive;
@@ -80,6 +81,49 @@ pub fn convert(
         let xml = xml::convert(plain, record, &reading.numbers, state)?;
         fill(result, xml.as_bytes())
     })
+}
+
+/// Judges a list: 0 to 15, 24, 25, 17 to 23. Of the second table and of the
+/// scratch only the lengths matter. The XML's bytes fill the start of `result`.
+pub fn judge(
+    grammar: &[u8],
+    record: &[u8],
+    list: &[u32],
+    grammar_table: usize,
+    scratch: usize,
+    result: &mut [u8],
+) -> Answer {
+    let outcome = accept(grammar).and_then(|accepted| {
+        let record = text::record(record)?;
+        if scratch / 2 < list.len() || grammar_table < limits::GRAMMAR_TABLE {
+            return Err(Refusal::TableTooShort);
+        }
+        if !accepts(&accepted.plain, &record, list) {
+            return Err(Refusal::NoDerivation);
+        }
+        let state = State {
+            ambiguous: false,
+            version_mismatch: accepted.version,
+        };
+        let xml = xml::convert(&accepted.plain, &record, list, state)?;
+        Ok((fill(result, xml.as_bytes())?, accepted.version))
+    });
+    match outcome {
+        Ok((length, version)) => Answer {
+            length,
+            version,
+            ..Answer::default()
+        },
+        Err(refusal) => refusal.into(),
+    }
+}
+
+/// The left parse of a derivation other than the chosen one, where the record has
+/// two and the job is refused by none of 1 to 14.
+pub fn second(grammar: &[u8], record: &[u8]) -> Option<Vec<u32>> {
+    let accepted = accept(grammar).ok()?;
+    let record = text::record(record).ok()?;
+    crate::second::second(&engine::parse(&accepted.plain, &record)?)
 }
 
 /// Tidies a grammar: 0 to 11, 24, 28 and 23. The bytes of the tidy text fill

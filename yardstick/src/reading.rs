@@ -26,23 +26,13 @@ pub struct Reading {
 pub fn choose(forest: &Forest) -> Result<Reading, Refusal> {
     let mut numbers = Vec::new();
     let mut heights = None;
-    let mut stack = vec![Node {
-        rule: 0,
-        start: 0,
-        end: forest.length,
-    }];
-    let mut ways = Ways {
-        forest,
-        kept: Vec::new(),
-    };
+    let mut stack = vec![Node::root(forest)];
+    let mut ways = Ways::new(forest);
     while let Some(node) = stack.pop() {
         if heights.is_none() && ways.has_second(node) {
             heights = Some(least_heights(forest));
         }
-        let limit = heights.as_ref().map(|heights| Limit {
-            heights,
-            height: heights.height(node.rule, node.start, node.end),
-        });
+        let limit = heights.as_ref().map(|heights| Limit::of(heights, node));
         numbers.push(ways.choose(node, limit, &mut stack));
         if numbers.len() + stack.len() > limits::READING_NUMBERS {
             return Err(Refusal::ReadingTooLong);
@@ -55,34 +45,57 @@ pub fn choose(forest: &Forest) -> Result<Reading, Refusal> {
 }
 
 /// A nonterminal of the chosen derivation.
-#[derive(Clone, Copy)]
-struct Node {
+#[derive(Clone, Copy, Debug, PartialEq, Eq)]
+pub struct Node {
     rule: usize,
     start: usize,
     end: usize,
 }
 
+impl Node {
+    /// The root over the whole record.
+    pub fn root(forest: &Forest) -> Node {
+        Node {
+            rule: 0,
+            start: 0,
+            end: forest.length,
+        }
+    }
+}
+
 /// Admits children whose least height is below the node's.
 #[derive(Clone, Copy)]
-struct Limit<'a> {
+pub struct Limit<'a> {
     heights: &'a Heights,
     height: u32,
 }
 
-impl Limit<'_> {
+impl<'a> Limit<'a> {
+    pub fn of(heights: &'a Heights, node: Node) -> Limit<'a> {
+        let height = heights.height(node.rule, node.start, node.end);
+        Limit { heights, height }
+    }
+
     fn admits(self, rule: usize, start: usize, end: usize) -> bool {
         self.heights.height(rule, start, end) < self.height
     }
 }
 
 /// The ways of a node.
-struct Ways<'a> {
+pub struct Ways<'a> {
     forest: &'a Forest,
     /// For each dot of the alternative last retraced, the places on its ways.
     kept: Vec<Places>,
 }
 
 impl<'a> Ways<'a> {
+    pub fn new(forest: &'a Forest) -> Ways<'a> {
+        Ways {
+            forest,
+            kept: Vec::new(),
+        }
+    }
+
     /// The alternatives with any way at a node, with their numbers.
     fn alternatives(&self, node: Node) -> impl Iterator<Item = (u32, Range<usize>)> + 'a {
         let forest = self.forest;
@@ -95,7 +108,7 @@ impl<'a> Ways<'a> {
 
     /// Whether a node has two ways: by two alternatives, or by different ends
     /// of the children of one.
-    fn has_second(&mut self, node: Node) -> bool {
+    pub fn has_second(&mut self, node: Node) -> bool {
         let mut alternatives = self.alternatives(node);
         let Some((_, first)) = alternatives.next() else {
             return false;
@@ -107,7 +120,7 @@ impl<'a> Ways<'a> {
     /// Chooses the first alternative that has an admitted way, and of its ways
     /// the one with the smallest ends. Gives the alternative's number and
     /// pushes the nonterminal children, the leftmost on top.
-    fn choose(&mut self, node: Node, limit: Option<Limit>, stack: &mut Vec<Node>) -> u32 {
+    pub fn choose(&mut self, node: Node, limit: Option<Limit>, stack: &mut Vec<Node>) -> u32 {
         let (number, dots) = self
             .alternatives(node)
             .find(|(_, dots)| {
@@ -137,6 +150,46 @@ impl<'a> Ways<'a> {
         }
         stack[below..].reverse();
         number
+    }
+
+    /// Ways of a node, each with its alternative's number and its nonterminal
+    /// children, the leftmost last: of each alternative two, if it has them.
+    pub fn some(&mut self, node: Node) -> Vec<(u32, Vec<Node>)> {
+        let alternatives: Vec<_> = self.alternatives(node).collect();
+        let mut ways = Vec::new();
+        for (number, dots) in alternatives {
+            self.retrace(node, dots.clone(), None);
+            let mut open = vec![(dots.start, node.start, Vec::new())];
+            let mut found = 0;
+            while let Some((dot, place, children)) = open.pop() {
+                if dot == dots.end {
+                    let children = children.into_iter().rev().collect();
+                    ways.push((number, children));
+                    found += 1;
+                    if found == 2 {
+                        break;
+                    }
+                    continue;
+                }
+                let later = self.kept[dot + 1 - dots.start];
+                match self.forest.dots.all[dot] {
+                    Dot::Terminal { length, .. } => open.push((dot + 1, place + length, children)),
+                    Dot::Nonterminal(rule) => {
+                        for end in self.ends(rule, place, later, None) {
+                            let mut children: Vec<Node> = children.clone();
+                            children.push(Node {
+                                rule,
+                                start: place,
+                                end,
+                            });
+                            open.push((dot + 1, end, children));
+                        }
+                    }
+                    Dot::Insertion | Dot::End(_) => open.push((dot + 1, place, children)),
+                }
+            }
+        }
+        ways
     }
 
     /// Finds for each dot of an alternative the places on a way over the

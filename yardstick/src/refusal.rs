@@ -13,7 +13,8 @@ pub struct Places {
 
 /// The refusals in the order in which they are judged, which is not the order
 /// of their numbers: 24 stands right after 11, 29 right after 16. The last
-/// three are the gate's; 28 is of tidying alone, where it stands before 23.
+/// three are the gate's; 28 is of tidying alone, where it stands before 23, and
+/// 25 of judging a list alone, where it stands in the place of 16 and 29.
 #[derive(Clone, Copy, Debug, PartialEq, Eq, PartialOrd, Ord, Hash)]
 pub enum Refusal {
     GrammarTooLong,
@@ -36,6 +37,7 @@ pub enum Refusal {
     RecordTooLong,
     TableTooShort,
     NoReading,
+    NoDerivation,
     ReadingTooLong,
     RepeatedAttribute,
     NotXmlName,
@@ -71,6 +73,7 @@ impl Refusal {
             Refusal::RecordTooLong => 14,
             Refusal::TableTooShort => 15,
             Refusal::NoReading => 16,
+            Refusal::NoDerivation => 25,
             Refusal::ReadingTooLong => 29,
             Refusal::RepeatedAttribute => 17,
             Refusal::NotXmlName => 18,

@@ -2,7 +2,8 @@
 
 use ixml_yardstick::gate::{self, Gate, Verdict};
 use ixml_yardstick::limits::GRAMMAR_TABLE;
-use ixml_yardstick::{category, check, convert, program, read, tidy, Answer, Places};
+use ixml_yardstick::{category, check, convert, judge, program, read, second, tidy};
+use ixml_yardstick::{Answer, Places};
 
 /// The lines of all files for one of these calls, a line's first field.
 fn lines(calls: &[&str]) -> Vec<Vec<String>> {
@@ -112,6 +113,80 @@ fn tidied() {
         let buffer_now = expected(&bytes(&line[7]), &filling);
         assert_eq!(buffer, buffer_now, "line {number}");
     }
+}
+
+#[test]
+fn judged() {
+    let lines = lines(&["judge"]);
+    assert!(lines.len() > 1000);
+    for (number, line) in (1..).zip(&lines) {
+        let list: Vec<u32> = match line[3].as_str() {
+            "-" => Vec::new(),
+            numbers => numbers.split(',').map(|n| n.parse().unwrap()).collect(),
+        };
+        let less: isize = line[4].parse().unwrap();
+        let grammar_table = GRAMMAR_TABLE.checked_add_signed(less).unwrap();
+        let scratch: usize = line[5].parse().unwrap();
+        let room: usize = line[6].parse().unwrap();
+        let filling: Vec<u8> = (0..room).map(|cell| (cell % 251) as u8 ^ 0xA5).collect();
+        let mut buffer = filling.clone();
+        let (grammar, record) = (bytes(&line[1]), bytes(&line[2]));
+        let got = judge(
+            &grammar,
+            &record,
+            &list,
+            grammar_table,
+            scratch,
+            &mut buffer,
+        );
+        let answer = Answer {
+            number: line[7].parse().unwrap(),
+            length: line[8].parse().unwrap(),
+            ambiguous: line[9] == "1",
+            version: line[10] == "1",
+            places: Places {
+                byte: line[12].parse().unwrap(),
+                fault: line[13].parse().unwrap(),
+                grammar: line[14].parse().unwrap(),
+            },
+        };
+        assert_eq!(got, answer, "line {number}");
+        let buffer_now = expected(&bytes(&line[11]), &filling);
+        assert_eq!(buffer, buffer_now, "line {number}");
+    }
+}
+
+/// What reading answers is accepted, and so is a second derivation where there is
+/// one: exactly where the record is ambiguous.
+#[test]
+fn readings_are_judged() {
+    let lines = lines(&["read"]);
+    let mut twice = 0;
+    for line in lines.iter().filter(|line| line[6] == "0") {
+        let (grammar, record) = (bytes(&line[1]), bytes(&line[2]));
+        let first: Vec<u32> = line[10].split(',').map(|n| n.parse().unwrap()).collect();
+        let number = |list: &[u32]| {
+            let mut result = vec![0; 1 << 20];
+            judge(
+                &grammar,
+                &record,
+                list,
+                GRAMMAR_TABLE,
+                2 * list.len(),
+                &mut result,
+            )
+            .number
+        };
+        assert_ne!(number(&first), 25, "{line:?}");
+        let other = second(&grammar, &record);
+        assert_eq!(other.is_some(), line[8] == "1", "{line:?}");
+        if let Some(other) = other {
+            assert_ne!(other, first, "{line:?}");
+            assert_ne!(number(&other), 25, "{line:?}");
+            twice += 1;
+        }
+    }
+    assert!(twice > 100, "{twice}");
 }
 
 #[test]

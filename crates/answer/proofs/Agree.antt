@@ -27,10 +27,17 @@ use Rattle.derive.specs.Yield.{unproductive}
 use Rattle.derive.proofs.Productive.{unproductive-is}
 use Rattle.derive.proofs.Chosen.{chosen-derives}
 use Rattle.derive.proofs.Choose.{found-chosen, none-derives, chosen-found}
+use Rattle.derive.specs.Another.{ambiguousOf}
+use Rattle.derive.proofs.Ambiguous.{ambiguous-second}
+use Rattle.text.proofs.Tests.{T-true, T-false}
 use Rattle.xml.specs.Document.{document, markOf, twice, misnamed, unwritable, isAttribute, notOne, namespaced}
-use Rattle.answer.specs.Answer.{Line, GrammarText, GrammarTree, ofText, ofTree, grammarLines, Job, ofJob, ofReading, tableNeed, recordLines, documentLines}
-use Rattle.answer.specs.Compute.{Test, onText, onTree, onChoice, isText, isTree, isFound, afterMark, treeOf, grammarTests, onJob, onReading, recordTests, documentTests}
+use Rattle.answer.specs.Answer.{Line, GrammarText, GrammarTree, ofText, ofTree, grammarLines, Job, ofJob, ofReading, ofSource, Source, chosen, given, Names}
+use Rattle.answer.specs.Answer.{Need, mainNeed, needLines, readingLines, recordLines, listLines, documentLinesOf}
+use Rattle.answer.specs.Compute.{Test, test, onText, onTree, onChoice, isText, isTree, isFound, afterMark, treeOf, grammarTests, onJob, onReading, onFound, Finder, Marker, never}
+use Rattle.answer.specs.Compute.{needTests, noneTest, recordTests, documentTestsOf}
+use Rattle.answer.specs.Named.{namedOf}
 use Rattle.answer.proofs.Lines.{Agree}
+use Rattle.answer.proofs.Named.{named-found, found-named}
 
 -- a test of a test is its fact
 abbrev pub Tests : Bool → Type 0 → Type 0
@@ -157,20 +164,57 @@ job-known j f P h =
     let w = tree-known (j .grammar) (λ g. onText (decode (j .input)) (f g)) (λ g. ofText Utf8 (j .input) (P g)) (λ g. text-known (j .input) (f g) (P g) (h g)) in
     (λ t. let x = w .0 t in (x .0, x .2 .0, (x .1, x .2 .1), x .2 .2), λ x. w .1 (x .0, x .2 .0, (x .1, x .2 .1, x .3)))
 
-reading-of : (g : Grammar) (r : Text) (t : Row) → Chosen g r t (root g ∷ []) 0 (length r) → Reading g r t (leftParse t)
-reading-of g r t c = record { chosen = c; parse = refl }
+-- the derivation that a call speaks of is the one that is found, with the mark that is told
+pub record Finds (s : Source) (c : Finder) (k : Marker) : Type 0 where
+  pub sound : (g : Grammar) (r : Text) (t : Row) → c g r ≡ found t → s .Is g r t (leftParse t)
+  pub complete : (g : Grammar) (r : Text) (t : Row) (p : List ℕ) → s .Is g r t p → c g r ≡ found t
+  pub numbers : (g : Grammar) (r : Text) (t : Row) (p : List ℕ) → s .Is g r t p → p ≡ leftParse t
+  pub marked : (g : Grammar) (r : Text) (t : Row) (p : List ℕ) → s .Is g r t p → s .Marks g r p (k g r t)
+  pub one-mark : (g : Grammar) (r : Text) (t : Row) (p : List ℕ) → s .Is g r t p → (m : Bool) → s .Marks g r p m → m ≡ k g r t
+
+-- two tests of one fact are one
+pub same-mark : (a b : Bool) (A : Type 0) → T a ↔ A → T b ↔ A → a ≡ b
+same-mark true b A p q = sym (T-true b (q .1 (p .0 tt)))
+same-mark false b A p q = sym (T-false b (λ t. p .1 (q .0 t)))
+
+pub chosen-finds : Finds chosen chosenOf ambiguousOf
+chosen-finds = record {
+  sound = λ g r t e. record { chosen = found-chosen g r e; parse = refl };
+  complete = λ g r t p x. chosen-found g r (x .chosen);
+  numbers = λ g r t p x. x .parse;
+  marked = λ g r t p x. ambiguous-second g r x;
+  one-mark = λ g r t p x m y. same-mark m (ambiguousOf g r t) (Second g r p) y (ambiguous-second g r x);
+}
+
+pub given-finds : (q : List ℕ) → Finds (given q) (namedOf q) never
+given-finds q = record {
+  sound = λ g r t e. (found-named g r q t e, refl);
+  complete = λ g r t p x. named-found g r q t (x .0);
+  numbers = λ g r t p x. x .1;
+  marked = λ g r t p x. refl;
+  one-mark = λ g r t p x m y. y;
+}
+
+module _ {s : Source} {c : Finder} {k : Marker} (w : Finds s c k) where
+  pub source-known : (j : Job) (f : Grammar → Text → Row → Bool) (P : Grammar → Text → Row → List ℕ → Type 0)
+      → ((g : Grammar) (r : Text) (t : Row) → Tests (f g r t) (P g r t (leftParse t))) → Tests (onFound c j f) (ofSource s j P)
+  source-known j f P h = job-known j (λ g r. onChoice (c g r) (f g r)) (λ g r. (t : Row) × (p : List ℕ) × s .Is g r t p × P g r t p) each
+    where
+      each : (g : Grammar) (r : Text) → Tests (onChoice (c g r) (f g r)) ((t : Row) × (p : List ℕ) × s .Is g r t p × P g r t p)
+      each g r =
+          (go (c g r) refl, λ x. rw (w .complete g r (x .0) (x .1) (x .2)) (h g r (x .0) .1 (subst (λ (p : List ℕ). P g r (x .0) p) (w .numbers g r (x .0) (x .1) (x .2)) (x .3))))
+        where
+          go : (o : Choice) → c g r ≡ o → T (onChoice o (f g r)) → (t : Row) × (p : List ℕ) × s .Is g r t p × P g r t p
+          go (found t) e q = (t, leftParse t, w .sound g r t e, h g r t .0 q)
+          go no-choice e q = absurd q
+
+  test-source : (j : Job) (f : Grammar → Text → Row → Bool) → Tests (onFound c j f) (ofSource s j (λ g r t p. T (f g r t)))
+  test-source j f = source-known j f (λ g r t p. T (f g r t)) (λ g r t. same-test (f g r t))
 
 pub reading-known : (j : Job) (f : Grammar → Text → Row → Bool) (P : Grammar → Text → Row → List ℕ → Type 0)
     → ((g : Grammar) (r : Text) (t : Row) → Tests (f g r t) (P g r t (leftParse t)))
     → Tests (onReading j f) (ofReading j P)
-reading-known j f P h = job-known j (λ g r. onChoice (chosenOf g r) (f g r)) (λ g r. (t : Row) × (p : List ℕ) × Reading g r t p × P g r t p) each
-  where
-    each : (g : Grammar) (r : Text) → Tests (onChoice (chosenOf g r) (f g r)) ((t : Row) × (p : List ℕ) × Reading g r t p × P g r t p)
-    each g r = (go (chosenOf g r) refl, λ x. rw (chosen-found g r (x .2 .chosen)) (h g r (x .0) .1 (subst (λ (p : List ℕ). P g r (x .0) p) (x .2 .parse) (x .3))))
-      where
-        go : (c : Choice) → chosenOf g r ≡ c → T (onChoice c (f g r)) → (t : Row) × (p : List ℕ) × Reading g r t p × P g r t p
-        go (found t) e q = (t, leftParse t, reading-of g r t (found-chosen g r e), h g r t .0 q)
-        go no-choice e q = absurd q
+reading-known = source-known chosen-finds
 
 no-reading : (g : Grammar) (r : Text) → Tests (not (isFound (chosenOf g r))) (((t : Row) × Derivation g r t) → ⊥)
 no-reading g r = (go (chosenOf g r) refl, back (chosenOf g r) refl)
@@ -183,11 +227,19 @@ no-reading g r = (go (chosenOf g r) refl, back (chosenOf g r) refl)
     back (found t) e n = n (t, chosen-derives g r (found-chosen g r e))
     back no-choice e n = tt
 
-test-reading : (j : Job) (f : Grammar → Text → Row → Bool) → Tests (onReading j f) (ofReading j (λ g r t p. T (f g r t)))
-test-reading j f = reading-known j f (λ g r t p. T (f g r t)) (λ g r t. same-test (f g r t))
+no-list : (q : List ℕ) (g : Grammar) (r : Text) → Tests (not (isFound (namedOf q g r))) (((t : Row) × Names q g r t) → ⊥)
+no-list q g r = (go (namedOf q g r) refl, back (namedOf q g r) refl)
+  where
+    go : (c : Choice) → namedOf q g r ≡ c → T (not (isFound c)) → ((t : Row) × Names q g r t) → ⊥
+    go (found t) e h x = h
+    go no-choice e h x = let w : no-choice ≡ found (x .0) = sym e ∙ named-found g r q (x .0) (x .1) in let z : _≡_ {A = ℕ} 0 1 = cc in omega arith
 
-pub record-agrees : (j : Job) (ls : List Line) (ts : List Test) → Agree ls ts → Agree (recordLines j ls) (recordTests j ts)
-record-agrees j ls ts a = (
+    back : (c : Choice) → namedOf q g r ≡ c → (((t : Row) × Names q g r t) → ⊥) → T (not (isFound c))
+    back (found t) e n = n (t, found-named g r q t e)
+    back no-choice e n = tt
+
+pub need-agrees : (need : Need) (j : Job) (ls : List Line) (ts : List Test) → Agree ls ts → Agree (needLines need j ls) (needTests need j ts)
+need-agrees need j ls ts a = (
   refl,
   no-text (j .input),
   (
@@ -198,34 +250,42 @@ record-agrees j ls ts a = (
       text-known (j .input) (λ cs. ltb recordChars (length cs)) (λ cs. recordChars < length cs) (λ cs. less recordChars (length cs)),
       (
         refl,
-        job-known j (λ g r. ltb (j .mainTable) (tableNeed (size g) (length r)) || ltb (j .secondTable) grammarTable)
-            (λ g r. (j .mainTable < tableNeed (size g) (length r)) ⊎ (j .secondTable < grammarTable))
-            (λ g r. either (ltb (j .mainTable) (tableNeed (size g) (length r))) (ltb (j .secondTable) grammarTable) (j .mainTable < tableNeed (size g) (length r)) (j .secondTable < grammarTable)
-            (less (j .mainTable) (tableNeed (size g) (length r))) (less (j .secondTable) grammarTable)),
-        (
-          refl,
-          job-known j (λ g r. not (isFound (chosenOf g r))) (λ g r. ((t : Row) × Derivation g r t) → ⊥) no-reading,
-          (refl, reading-known j (λ g r t. ltb readingNumbers (length (leftParse t))) (λ g r t p. readingNumbers < length p) (λ g r t. less readingNumbers (length (leftParse t))), a),
-        ),
+        job-known j (λ g r. ltb (j .mainTable) (need g r) || ltb (j .secondTable) grammarTable)
+            (λ g r. (j .mainTable < need g r) ⊎ (j .secondTable < grammarTable))
+            (λ g r. either (ltb (j .mainTable) (need g r)) (ltb (j .secondTable) grammarTable) (j .mainTable < need g r) (j .secondTable < grammarTable)
+            (less (j .mainTable) (need g r)) (less (j .secondTable) grammarTable)),
+        a,
       ),
     ),
   ),
 )
 
-pub document-agrees : (j : Job) (ls : List Line) (ts : List Test) → Agree ls ts → Agree (documentLines j ls) (documentTests j ts)
-document-agrees j ls ts a = (
+pub reading-agrees : (j : Job) (ls : List Line) (ts : List Test) → Agree ls ts
+    → Agree (readingLines j ls) (noneTest 16 chosenOf j ∷ test 29 (λ _. onReading j (λ g r t. ltb readingNumbers (length (leftParse t)))) ∷ ts)
+reading-agrees j ls ts a = (
   refl,
-  test-reading j (λ g r t. twice (document g r t)),
+  job-known j (λ g r. not (isFound (chosenOf g r))) (λ g r. ((t : Row) × Derivation g r t) → ⊥) no-reading,
+  (refl, reading-known j (λ g r t. ltb readingNumbers (length (leftParse t))) (λ g r t p. readingNumbers < length p) (λ g r t. less readingNumbers (length (leftParse t))), a),
+)
+
+pub list-agrees : (q : List ℕ) (j : Job) (ls : List Line) (ts : List Test) → Agree ls ts → Agree (listLines q j ls) (noneTest 25 (namedOf q) j ∷ ts)
+list-agrees q j ls ts a = (refl, job-known j (λ g r. not (isFound (namedOf q g r))) (λ g r. ((t : Row) × Names q g r t) → ⊥) (no-list q), a)
+
+pub document-agrees : {s : Source} {c : Finder} {k : Marker} → Finds s c k → (j : Job) (ls : List Line) (ts : List Test) → Agree ls ts
+    → Agree (documentLinesOf s j ls) (documentTestsOf c j ts)
+document-agrees w j ls ts a = (
+  refl,
+  test-source w j (λ g r t. twice (document g r t)),
   (
     refl,
-    test-reading j (λ g r t. misnamed (document g r t)),
+    test-source w j (λ g r t. misnamed (document g r t)),
     (
       refl,
-      test-reading j (λ g r t. unwritable (document g r t)),
+      test-source w j (λ g r t. unwritable (document g r t)),
       (
         refl,
-        test-reading j (λ g r t. isAttribute (markOf g (root g))),
-        (refl, test-reading j (λ g r t. notOne (document g r t)), (refl, test-reading j (λ g r t. namespaced (document g r t)), a)),
+        test-source w j (λ g r t. isAttribute (markOf g (root g))),
+        (refl, test-source w j (λ g r t. notOne (document g r t)), (refl, test-source w j (λ g r t. namespaced (document g r t)), a)),
       ),
     ),
   ),

@@ -6,3 +6,4 @@ pub mod Stages
 pub mod Sizes
 pub mod Demands
 pub mod Fronted
+pub mod Named

@@ -24,8 +24,8 @@ use Rattle.places.specs.Tokens.{placeOf}
 use Rattle.places.proofs.Unique.{place-is, one-place}
 use Rattle.places.proofs.Exists.{by-rule, place-5, place-6, place-7, place-8, place-9, place-10}
 use Rattle.answer.specs.Answer.{GrammarText, ofTree, placeNote, placeNotes}
-use Rattle.answer.specs.Answer.{Line, Topmost, Note, Noted, Notes, Placed, Places, grammarLines, recordLines, grammarNotes, inputNotes, checkNotes, jobNotes, Job}
 use Rattle.answer.specs.Compute.{placeIn, placeValue, placeValues}
+use Rattle.answer.specs.Answer.{Line, Topmost, Note, Noted, Notes, Placed, Places, grammarLines, Need, needLines, grammarNotes, inputNotes, checkNotes, jobNotes, Job}
 use Rattle.answer.specs.Compute.{Value, valueAt, Values, placesAt, grammarValues, inputValues, checkValues, jobValues}
 use Rattle.answer.proofs.Lines.{numbers, distinct, given}
 
@@ -200,22 +200,23 @@ module _ (bs : List ℕ) (ls : List Line) (d : T (distinct (numbers (grammarLine
 pub keeps-check : (bs : List ℕ) (n : ℕ) → Topmost (grammarLines bs []) n → Keeps n (checkNotes bs) (checkValues bs)
 keeps-check bs n t = record { bytes = kept-grammar bs [] tt n t [] [] tt; faults = tt; grammars = kept-places bs [] tt n t }
 
-module _ (j : Job) (ls : List Line) (d : T (distinct (numbers (grammarLines (j .grammar) (recordLines j ls))))) (n : ℕ) (t : Topmost (grammarLines (j .grammar) (recordLines j ls)) n) where
+module _ (need : Need) (j : Job) (ls : List Line) (d : T (distinct (numbers (grammarLines (j .grammar) (needLines need j ls))))) (n : ℕ)
+    (t : Topmost (grammarLines (j .grammar) (needLines need j ls)) n) where
   at-12 : n ≡ 12 → Breaks every (j .input) 0 (breakOf every (j .input) 0)
   at-12 e =
-      let none = given (grammarLines (j .grammar) (recordLines j ls)) 12 d (λ z. omega arith) (subst (Topmost (grammarLines (j .grammar) (recordLines j ls))) e t) in
+      let none = given (grammarLines (j .grammar) (needLines need j ls)) 12 d (λ z. omega arith) (subst (Topmost (grammarLines (j .grammar) (needLines need j ls))) e t) in
       broken (j .input) 0 (λ cs u. none (cs, u))
 
   at-13 : n ≡ 13 → Breaks known (j .input) 0 (breakOf known (j .input) 0)
   at-13 e =
-      let x = given (grammarLines (j .grammar) (recordLines j ls)) 13 d (λ z. omega arith) (subst (Topmost (grammarLines (j .grammar) (recordLines j ls))) e t) in
+      let x = given (grammarLines (j .grammar) (needLines need j ls)) 13 d (λ z. omega arith) (subst (Topmost (grammarLines (j .grammar) (needLines need j ls))) e t) in
       outside (j .input) 0 (x .0) (λ cs u. utf8-unique (j .input) cs (x .0) u (x .1)) (x .2)
 
   pub keeps-job : Keeps n (jobNotes j) (jobValues j)
   keeps-job = record {
-    bytes = kept-grammar (j .grammar) (recordLines j ls) d n t (inputNotes (j .input) []) (inputValues (j .input) []) (refl, at-12, (refl, at-13, tt));
+    bytes = kept-grammar (j .grammar) (needLines need j ls) d n t (inputNotes (j .input) []) (inputValues (j .input) []) (refl, at-12, (refl, at-13, tt));
     faults = tt;
-    grammars = kept-places (j .grammar) (recordLines j ls) d n t;
+    grammars = kept-places (j .grammar) (needLines need j ls) d n t;
   }
 
 pub sole-check : (bs : List ℕ) → Sole (checkNotes bs)

@@ -9,6 +9,7 @@ use native.Mathlib.Decide.{ℕ-discrete}
 use lib.Dec.{T, ltb, eqb, ltb→lt}
 use lib.ListN.{length, drop}
 use borrow.Author.Tests.{eqb-true, eqb-false, eq-eqb, ne-eqb}
+use Rattle.text.specs.Limits.{readingNumbers}
 use Rattle.text.specs.Lists.{Text, all}
 use Rattle.text.specs.Utf8.{Utf8, unmarked}
 use Rattle.text.proofs.Tests.{look, isT, notT, T-true, T-false, clash, and-left, and-right}
@@ -17,25 +18,22 @@ use Rattle.text.proofs.Decode.{decode-sound, decode-complete}
 use Rattle.tree.specs.Tree.{Grammar}
 use Rattle.syntax.specs.Parser.{Parsed, parsed, no-parse, parse}
 use Rattle.derive.specs.Derive.{Row, root, leftParse}
-use Rattle.derive.specs.Chosen.{Chosen, Reading, Second}
-use Rattle.derive.specs.Pick.{Choice, found, no-choice, chosenOf}
+use Rattle.derive.specs.Pick.{Choice, found, no-choice}
+use Rattle.derive.specs.Pick.{chosenOf}
 use Rattle.derive.specs.Another.{ambiguousOf}
-use Rattle.derive.proofs.Choose.{found-chosen, chosen-found}
-use Rattle.derive.proofs.Ambiguous.{ambiguous-second}
 use Rattle.plain.specs.Static.{mismatched}
-use Rattle.answer.specs.Answer.{Line, line, Topmost, ofTree, grammarLines, recordLines, documentLines, Job, GrammarTree, ofReading}
-use Rattle.answer.specs.Answer.{Shown, asNumbers, asXml, ResultOf, tooLong, Notes, Placed, checkNotes, jobNotes, Answer, Answers, Checks, Reads, Converts}
-use Rattle.answer.specs.Compute.{Test, test, firstOf, onReading, grammarTests, recordTests, documentTests, isText, isTree, isFound}
-use Rattle.answer.specs.Compute.{onText, onJob, treeOf, afterMark, Result, result, resultOf, resultBy, Outcome, outcome, mismatch}
-use Rattle.answer.specs.Compute.{Values, checkValues, jobValues, checkOf, longTest, callOf, readOf, convertOf}
+use Rattle.answer.specs.Answer.{Line, line, Topmost, ofTree, grammarLines, readingLines, documentLines, listLines, documentLinesOf, needLines, Need, mainNeed, scratchNeed}
+use Rattle.answer.specs.Answer.{Job, GrammarTree, Source, chosen, given}
+use Rattle.answer.specs.Answer.{Shown, asNumbers, asXml, ResultBy, tooLong, tooLongBy, Notes, Placed, checkNotes, jobNotes, Answer, Answers, Checks, Reads, Converts, Judges}
+use Rattle.answer.specs.Compute.{Test, test, firstOf, onReading, onFound, grammarTests, needTests, noneTest, documentTests, documentTestsOf, isText, isTree, isFound}
+use Rattle.answer.specs.Compute.{onText, onJob, treeOf, afterMark, Result, result, Finder, Marker, never, foundResult, resultWith, Outcome, outcome, mismatch}
+use Rattle.answer.specs.Compute.{Values, checkValues, jobValues, checkOf, longTest, longTestBy, readOf, convertOf, judgeOf}
+use Rattle.answer.specs.Named.{namedOf}
 use Rattle.answer.proofs.Lines.{one-topmost, Agree, first-topmost, numbers, distinct}
 use Rattle.answer.proofs.Noted.{Sole, one-placed, Keeps, keeps-placed, keeps-check, keeps-job, sole-check, sole-job}
-use Rattle.answer.proofs.Agree.{Tests, grammar-agrees, record-agrees, document-agrees, tree-known, reading-known, same-test, less, tree-sound, tree-complete}
-
--- two tests of one fact are one
-pub same-mark : (a b : Bool) (A : Type 0) → T a ↔ A → T b ↔ A → a ≡ b
-same-mark true b A p q = sym (T-true b (q .1 (p .0 tt)))
-same-mark false b A p q = sym (T-false b (λ t. p .1 (q .0 t)))
+use Rattle.answer.proofs.Agree.{Tests, grammar-agrees, need-agrees, reading-agrees, list-agrees, document-agrees, tree-known, source-known, same-test, less, tree-sound, tree-complete}
+pub use Rattle.answer.proofs.Agree.{same-mark}
+use Rattle.answer.proofs.Agree.{Finds, chosen-finds, given-finds}
 
 module _ (lines : List Line) (notes : Notes) (sole : Sole notes) (R : List ℕ → Bool → Type 0) (bs old : List ℕ)
     (one : (xs ys : List ℕ) (m n : Bool) → R xs m → R ys n → (xs ≡ ys) × (m ≡ n)) where
@@ -152,39 +150,51 @@ choice-there : (c : Choice) → not (isFound c) ≡ false → (t : Row) × (c �
 choice-there (found t) e = (t, refl)
 choice-there no-choice e = absurd (clash e refl)
 
--- Reading and converting.
-module _ (j : Job) (F : Shown) where
+-- A call on a record, by the derivation that it speaks of.
+module _ {s : Source} {c : Finder} {k : Marker} (w : Finds s c k) (j : Job) (F : Shown) where
   -- whatever is a result is the computed one
-  result-is : (xs : List ℕ) (m : Bool) → ResultOf j F xs m → result xs m ≡ resultOf j (resultBy F)
+  result-is : (xs : List ℕ) (m : Bool) → ResultBy s j F xs m → result xs m ≡ foundResult c j (resultWith k F)
   result-is xs m x =
       let g = x .0 in
       let r = x .1 in
       let t = x .3 .0 in
-      let w = x .3 .2 in
-      let em : m ≡ ambiguousOf g r t = same-mark m (ambiguousOf g r t) (Second g r (x .3 .1)) (x .3 .3 .0) (ambiguous-second g r w) in
-      let ex : xs ≡ F (ambiguousOf g r t) g r t (leftParse t) = x .3 .3 .1 ∙ (λ ι. F (em ι) g r t (w .parse ι)) in
-      let ec : result xs m ≡ result (F (ambiguousOf g r t) g r t (leftParse t)) (ambiguousOf g r t) = λ ι. result (ex ι) (em ι) in
-      rw (tree-complete (j .grammar) g (x .2 .0), decode-complete (j .input) r (x .2 .1), chosen-found g r (w .chosen)) ec
+      let p = x .3 .1 in
+      let y = x .3 .2 in
+      let em : m ≡ k g r t = w .one-mark g r t p y m (x .3 .3 .0) in
+      let ep = w .numbers g r t p y in
+      let ex : xs ≡ F (k g r t) g r t (leftParse t) = x .3 .3 .1 ∙ (λ ι. F (em ι) g r t (ep ι)) in
+      let ec : result xs m ≡ result (F (k g r t) g r t (leftParse t)) (k g r t) = λ ι. result (ex ι) (em ι) in
+      rw (tree-complete (j .grammar) g (x .2 .0), decode-complete (j .input) r (x .2 .1), w .complete g r t p y) ec
 
-  one-result : (xs ys : List ℕ) (m n : Bool) → ResultOf j F xs m → ResultOf j F ys n → (xs ≡ ys) × (m ≡ n)
+  one-result : (xs ys : List ℕ) (m n : Bool) → ResultBy s j F xs m → ResultBy s j F ys n → (xs ≡ ys) × (m ≡ n)
   one-result xs ys m n x y = let e = result-is xs m x ∙ sym (result-is ys n y) in (ap (λ (z : Result). z .cells) e, ap (λ (z : Result). z .ambiguous) e)
 
-  by-reading : (g : Grammar) (r : Text) (t : Row) → GrammarTree (j .grammar) g × Utf8 (j .input) r → Chosen g r t (root g ∷ []) 0 (length r)
-      → ResultOf j F (resultBy F g r t .cells) (resultBy F g r t .ambiguous)
-  by-reading g r t v c = let w : Reading g r t (leftParse t) = record { chosen = c; parse = refl } in (g, r, v, (t, leftParse t, w, (ambiguous-second g r w, refl)))
+  by-source : (g : Grammar) (r : Text) (t : Row) → GrammarTree (j .grammar) g × Utf8 (j .input) r → s .Is g r t (leftParse t)
+      → ResultBy s j F (resultWith k F g r t .cells) (resultWith k F g r t .ambiguous)
+  by-source g r t v y = (g, r, v, (t, leftParse t, y, (w .marked g r t (leftParse t) y, refl)))
 
-  long-known : (old : List ℕ) → Tests (onReading j (λ g r t. ltb (length old) (length (resultBy F g r t .cells)))) ((xs : List ℕ) × (m : Bool) × ResultOf j F xs m × (length old < length xs))
+  -- the numbers of a source are those of its derivation
+  with-numbers : (g : Grammar) (r : Text) (t : Row) (p : List ℕ) → s .Is g r t p → s .Is g r t (leftParse t)
+  with-numbers g r t p y = subst (λ (q : List ℕ). s .Is g r t q) (w .numbers g r t p y) y
+
+  long-known : (old : List ℕ) → Tests (onFound c j (λ g r t. ltb (length old) (length (resultWith k F g r t .cells))))
+      ((xs : List ℕ) × (m : Bool) × ResultBy s j F xs m × (length old < length xs))
   long-known old =
-      let w = reading-known j (λ g r t. ltb (length old) (length (resultBy F g r t .cells)))
-      (λ g r t p. length old < length (resultBy F g r t .cells)) (λ g r t. less (length old) (length (resultBy F g r t .cells))) in (
-        λ h. let x = w .0 h in (resultBy F (x .0) (x .1) (x .3 .0) .cells, resultBy F (x .0) (x .1) (x .3 .0) .ambiguous, by-reading (x .0) (x .1) (x .3 .0) (x .2) (x .3 .2 .chosen), x .3 .3),
-        λ x. w .1 (x .2 .0, x .2 .1, x .2 .2, (x .2 .3 .0, x .2 .3 .1, x .2 .3 .2, longer (x .0) (x .1) (x .2) (x .3))),
+      let o = source-known w j (λ g r t. ltb (length old) (length (resultWith k F g r t .cells)))
+      (λ g r t p. length old < length (resultWith k F g r t .cells)) (λ g r t. less (length old) (length (resultWith k F g r t .cells))) in (
+        λ h. let x = o .0 h in (
+          resultWith k F (x .0) (x .1) (x .3 .0) .cells,
+          resultWith k F (x .0) (x .1) (x .3 .0) .ambiguous,
+          by-source (x .0) (x .1) (x .3 .0) (x .2) (with-numbers (x .0) (x .1) (x .3 .0) (x .3 .1) (x .3 .2)),
+          x .3 .3,
+        ),
+        λ x. o .1 (x .2 .0, x .2 .1, x .2 .2, (x .2 .3 .0, x .2 .3 .1, x .2 .3 .2, longer (x .0) (x .1) (x .2) (x .3))),
       )
     where
-      longer : (xs : List ℕ) (m : Bool) (x : ResultOf j F xs m) → length old < length xs → length old < length (resultBy F (x .0) (x .1) (x .3 .0) .cells)
+      longer : (xs : List ℕ) (m : Bool) (x : ResultBy s j F xs m) → length old < length xs → length old < length (resultWith k F (x .0) (x .1) (x .3 .0) .cells)
       longer xs m x h = subst (λ (ys : List ℕ). length old < length ys)
-          (one-result xs (resultBy F (x .0) (x .1) (x .3 .0) .cells) m (resultBy F (x .0) (x .1) (x .3 .0) .ambiguous) x
-          (by-reading (x .0) (x .1) (x .3 .0) (x .2) (x .3 .2 .chosen)) .0) h
+          (one-result xs (resultWith k F (x .0) (x .1) (x .3 .0) .cells) m (resultWith k F (x .0) (x .1) (x .3 .0) .ambiguous) x
+          (by-source (x .0) (x .1) (x .3 .0) (x .2) (with-numbers (x .0) (x .1) (x .3 .0) (x .3 .1) (x .3 .2))) .0) h
 
   -- where no line applies there is a result
   there-tree : (cs : Text) → decode (j .grammar) ≡ text cs → onText (decode (j .grammar)) (λ cs. not (isTree (parse (unmarked cs)))) ≡ false
@@ -192,60 +202,96 @@ module _ (j : Job) (F : Shown) where
   unfolding treeOf
   there-tree cs e f = let p = tree-there (parse (unmarked cs)) (rw e at f) in (p .0, ap afterMark e ∙ p .1)
 
-  there-result : (g : Grammar) (r : Text) (t : Row) → treeOf (j .grammar) ≡ parsed g → decode (j .input) ≡ text r → chosenOf g r ≡ found t
-      → ResultOf j F (resultOf j (resultBy F) .cells) (resultOf j (resultBy F) .ambiguous)
-  there-result g r t et er ec = rw (et, er, ec) (by-reading g r t (tree-sound (j .grammar) g et, decode-sound (j .input) r er) (found-chosen g r ec))
+  there-result : (g : Grammar) (r : Text) (t : Row) → treeOf (j .grammar) ≡ parsed g → decode (j .input) ≡ text r → c g r ≡ found t
+      → ResultBy s j F (foundResult c j (resultWith k F) .cells) (foundResult c j (resultWith k F) .ambiguous)
+  there-result g r t et er ec = rw (et, er, ec) (by-source g r t (tree-sound (j .grammar) g et, decode-sound (j .input) r er) (w .sound g r t ec))
 
   there-choice : (g : Grammar) (r : Text) → treeOf (j .grammar) ≡ parsed g → decode (j .input) ≡ text r
-      → onJob j (λ g r. not (isFound (chosenOf g r))) ≡ false → (t : Row) × (chosenOf g r ≡ found t)
-  there-choice g r et er f = choice-there (chosenOf g r) (rw (et, er) at f)
+      → onJob j (λ g r. not (isFound (c g r))) ≡ false → (t : Row) × (c g r ≡ found t)
+  there-choice g r et er f = choice-there (c g r) (rw (et, er) at f)
 
-  there : (ts : List Test) → Fail (grammarTests (j .grammar) (recordTests j ts)) → ResultOf j F (resultOf j (resultBy F) .cells) (resultOf j (resultBy F) .ambiguous)
-  there ts w =
-      let records = w .1 .1 .1 .1 .1 .1 .1 .1 .1 .1 .1 .1 in
-      let d = text-there (decode (j .grammar)) (w .1 .0) in
-      let e = text-there (decode (j .input)) (records .0) in
-      let p = there-tree (d .0) (d .1) (w .1 .1 .1 .0) in
-      let c = there-choice (p .0) (e .0) (p .1) (e .1) (records .1 .1 .1 .1 .0) in
-      there-result (p .0) (e .0) (c .0) (p .1) (e .1) (c .1)
+  module _ (need : Need) (number : ℕ) (ts : List Test) where
+    tests : List Test
+    tests = grammarTests (j .grammar) (needTests need j (noneTest number c j ∷ ts))
 
-  -- the lines of a call, and its tests
-  module _ (old : List ℕ) (ls : List Line) (ts : List Test) (k : T (numbered (grammarTests (j .grammar) (recordTests j ts))))
-      (d : T (distinct (numbers (grammarLines (j .grammar) (recordLines j ls))))) (a : Agree ls ts) where
-    lines : List Line
-    lines = grammarLines (j .grammar) (recordLines j ls)
+    there : Fail tests → ResultBy s j F (foundResult c j (resultWith k F) .cells) (foundResult c j (resultWith k F) .ambiguous)
+    unfolding tests
+    there u =
+        let records = u .1 .1 .1 .1 .1 .1 .1 .1 .1 .1 .1 .1 in
+        let d = text-there (decode (j .grammar)) (u .1 .0) in
+        let e = text-there (decode (j .input)) (records .0) in
+        let p = there-tree (d .0) (d .1) (u .1 .1 .1 .0) in
+        let o = there-choice (p .0) (e .0) (p .1) (e .1) (records .1 .1 .1 .1 .0) in
+        there-result (p .0) (e .0) (o .0) (p .1) (e .1) (o .1)
 
-    made : Outcome
-    made = outcome old (mismatch (j .grammar)) (jobValues j) (firstOf (grammarTests (j .grammar) (recordTests j ts))) (resultOf j (resultBy F))
+    -- the lines of a call, and its tests
+    module _ (old : List ℕ) (ls : List Line) (h : T (numbered tests)) (d : T (distinct (numbers (grammarLines (j .grammar) (needLines need j ls))))) (a : Agree ls (noneTest number c j ∷ ts)) where
+      lines : List Line
+      lines = grammarLines (j .grammar) (needLines need j ls)
 
-    call-answers : Answers lines (jobNotes j) (ResultOf j F) (j .grammar) old (made .answer) (made .buffer)
-    unfolding lines made
-    call-answers =
-        computed (grammarLines (j .grammar) (recordLines j ls)) (grammarTests (j .grammar) (recordTests j ts)) (jobNotes j) (jobValues j)
-        (ResultOf j F) (j .grammar) old (resultOf j (resultBy F)) (mismatch (j .grammar))
-        (grammar-agrees (j .grammar) (recordLines j ls) (recordTests j ts) (record-agrees j ls ts a)) (mismatch-known (j .grammar)) (keeps-job j ls d)
-        (λ z. there ts (none-pass (grammarTests (j .grammar) (recordTests j ts)) k z))
+      made : Outcome
+      made = outcome old (mismatch (j .grammar)) (jobValues j) (firstOf tests) (foundResult c j (resultWith k F))
 
-    call-settled : (b : Answer) (new : List ℕ) → Answers lines (jobNotes j) (ResultOf j F) (j .grammar) old b new → (b ≡ made .answer) × (new ≡ made .buffer)
-    call-settled b new p = one-answer lines (jobNotes j) (sole-job j) (ResultOf j F) (j .grammar) old one-result b (made .answer) new (made .buffer) p call-answers
+      call-answers : Answers lines (jobNotes j) (ResultBy s j F) (j .grammar) old (made .answer) (made .buffer)
+      unfolding lines made tests
+      call-answers =
+          computed (grammarLines (j .grammar) (needLines need j ls)) (grammarTests (j .grammar) (needTests need j (noneTest number c j ∷ ts))) (jobNotes j) (jobValues j)
+          (ResultBy s j F) (j .grammar) old (foundResult c j (resultWith k F)) (mismatch (j .grammar))
+          (grammar-agrees (j .grammar) (needLines need j ls) (needTests need j (noneTest number c j ∷ ts)) (need-agrees need j ls (noneTest number c j ∷ ts) a))
+          (mismatch-known (j .grammar)) (keeps-job need j ls d)
+          (λ z. there (none-pass (grammarTests (j .grammar) (needTests need j (noneTest number c j ∷ ts))) h z))
+
+      call-settled : (b : Answer) (new : List ℕ) → Answers lines (jobNotes j) (ResultBy s j F) (j .grammar) old b new → (b ≡ made .answer) × (new ≡ made .buffer)
+      call-settled b new p = one-answer lines (jobNotes j) (sole-job j) (ResultBy s j F) (j .grammar) old one-result b (made .answer) new (made .buffer) p call-answers
 
 -- the computed answer is an answer, and the only one
-pub read-answers : (j : Job) (old : List ℕ) → Reads j old (readOf j old .answer) (readOf j old .buffer)
-unfolding readOf lines made
-read-answers j old = call-answers j asNumbers old (tooLong j asNumbers old ∷ []) (longTest asNumbers j old ∷ []) tt tt (refl, long-known j asNumbers old, tt)
+module _ (j : Job) (old : List ℕ) where
+  longest : Test
+  longest = test 29 (λ _. onReading j (λ g r t. ltb readingNumbers (length (leftParse t))))
 
-pub read-settled : (j : Job) (old : List ℕ) (a : Answer) (new : List ℕ) → Reads j old a new → (a ≡ readOf j old .answer) × (new ≡ readOf j old .buffer)
-unfolding readOf lines made
-read-settled j old a new p = call-settled j asNumbers old (tooLong j asNumbers old ∷ []) (longTest asNumbers j old ∷ []) tt tt (refl, long-known j asNumbers old, tt) a new p
+  read-lines : Agree (readingLines j (tooLong j asNumbers old ∷ [])) (noneTest 16 chosenOf j ∷ longest ∷ longTest asNumbers j old ∷ [])
+  unfolding longest
+  read-lines = reading-agrees j (tooLong j asNumbers old ∷ []) (longTest asNumbers j old ∷ []) (refl, long-known chosen-finds j asNumbers old, tt)
 
-pub convert-answers : (j : Job) (old : List ℕ) → Converts j old (convertOf j old .answer) (convertOf j old .buffer)
-unfolding convertOf lines made
-convert-answers j old =
-    call-answers j asXml old (documentLines j (tooLong j asXml old ∷ [])) (documentTests j (longTest asXml j old ∷ [])) tt tt
-    (document-agrees j (tooLong j asXml old ∷ []) (longTest asXml j old ∷ []) (refl, long-known j asXml old, tt))
+  pub read-answers : Reads j old (readOf j old .answer) (readOf j old .buffer)
+  unfolding readOf lines made longest tests
+  read-answers = call-answers chosen-finds j asNumbers mainNeed 16 (longest ∷ longTest asNumbers j old ∷ []) old (readingLines j (tooLong j asNumbers old ∷ [])) tt tt read-lines
 
-pub convert-settled : (j : Job) (old : List ℕ) (a : Answer) (new : List ℕ) → Converts j old a new → (a ≡ convertOf j old .answer) × (new ≡ convertOf j old .buffer)
-unfolding convertOf lines made
-convert-settled j old a new p =
-    call-settled j asXml old (documentLines j (tooLong j asXml old ∷ [])) (documentTests j (longTest asXml j old ∷ [])) tt tt
-    (document-agrees j (tooLong j asXml old ∷ []) (longTest asXml j old ∷ []) (refl, long-known j asXml old, tt)) a new p
+  pub read-settled : (a : Answer) (new : List ℕ) → Reads j old a new → (a ≡ readOf j old .answer) × (new ≡ readOf j old .buffer)
+  unfolding readOf lines made longest tests
+  read-settled a new p = call-settled chosen-finds j asNumbers mainNeed 16 (longest ∷ longTest asNumbers j old ∷ []) old (readingLines j (tooLong j asNumbers old ∷ [])) tt tt read-lines a new p
+
+  abbrev convertLines : List Line
+  convertLines = readingLines j (documentLines j (tooLong j asXml old ∷ []))
+
+  convert-lines : Agree convertLines (noneTest 16 chosenOf j ∷ longest ∷ documentTests j (longTest asXml j old ∷ []))
+  unfolding longest
+  convert-lines = reading-agrees j (documentLines j (tooLong j asXml old ∷ [])) (documentTests j (longTest asXml j old ∷ []))
+      (document-agrees chosen-finds j (tooLong j asXml old ∷ []) (longTest asXml j old ∷ []) (refl, long-known chosen-finds j asXml old, tt))
+
+  pub convert-answers : Converts j old (convertOf j old .answer) (convertOf j old .buffer)
+  unfolding convertOf lines made longest tests
+  convert-answers = call-answers chosen-finds j asXml mainNeed 16 (longest ∷ documentTests j (longTest asXml j old ∷ [])) old convertLines tt tt convert-lines
+
+  pub convert-settled : (a : Answer) (new : List ℕ) → Converts j old a new → (a ≡ convertOf j old .answer) × (new ≡ convertOf j old .buffer)
+  unfolding convertOf lines made longest tests
+  convert-settled a new p = call-settled chosen-finds j asXml mainNeed 16 (longest ∷ documentTests j (longTest asXml j old ∷ [])) old convertLines tt tt convert-lines a new p
+
+  module _ (q : List ℕ) where
+    abbrev judgeLines : List Line
+    judgeLines = listLines q j (documentLinesOf (given q) j (tooLongBy (given q) j asXml old ∷ []))
+
+    abbrev judgeTests : List Test
+    judgeTests = documentTestsOf (namedOf q) j (longTestBy (namedOf q) never asXml j old ∷ [])
+
+    judge-lines : Agree judgeLines (noneTest 25 (namedOf q) j ∷ judgeTests)
+    judge-lines = list-agrees q j (documentLinesOf (given q) j (tooLongBy (given q) j asXml old ∷ [])) judgeTests
+        (document-agrees (given-finds q) j (tooLongBy (given q) j asXml old ∷ []) (longTestBy (namedOf q) never asXml j old ∷ []) (refl, long-known (given-finds q) j asXml old, tt))
+
+    pub judge-answers : Judges q j old (judgeOf q j old .answer) (judgeOf q j old .buffer)
+    unfolding judgeOf lines made tests
+    judge-answers = call-answers (given-finds q) j asXml (scratchNeed q) 25 judgeTests old judgeLines tt tt judge-lines
+
+    pub judge-settled : (a : Answer) (new : List ℕ) → Judges q j old a new → (a ≡ judgeOf q j old .answer) × (new ≡ judgeOf q j old .buffer)
+    unfolding judgeOf lines made tests
+    judge-settled a new p = call-settled (given-finds q) j asXml (scratchNeed q) 25 judgeTests old judgeLines tt tt judge-lines a new p

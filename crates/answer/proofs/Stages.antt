@@ -19,8 +19,8 @@ use Rattle.plain.specs.Plain.{size}
 use Rattle.derive.specs.Derive.{Row, leftParse}
 use Rattle.derive.specs.Yield.{unproductive}
 use Rattle.derive.specs.Pick.{Choice, found, no-choice, chosenOf}
-use Rattle.answer.specs.Answer.{Job, tableNeed}
-use Rattle.answer.specs.Compute.{Test, test, firstOf, onText, onTree, treeOf, grammarTests, recordTests, mismatch}
+use Rattle.answer.specs.Answer.{Job, Need, tableNeed}
+use Rattle.answer.specs.Compute.{Test, test, firstOf, onText, onTree, treeOf, grammarTests, needTests, noneTest, Finder, recordTests, mismatch}
 
 -- no test's number is above m, so neither is the first that passes
 pub first-below : (m : ℕ) (ts : List Test) → T (all (λ t. leb (t .number) m) ts) → firstOf ts ≤ m
@@ -70,30 +70,43 @@ module _ (bs : List ℕ) (ts : List Test) where
           pub mismatch-is : mismatch bs ≡ mismatched g
           mismatch-is = rw tree-is
 
--- a record's bytes
-module _ (j : Job) (ts : List Test) where
-  pub stage-12 : decode (j .input) ≡ not-utf8 → firstOf (recordTests j ts) ≡ 12
+-- a record's bytes, and the lent tables
+module _ (need : Need) (j : Job) (ts : List Test) where
+  pub stage-12 : decode (j .input) ≡ not-utf8 → firstOf (needTests need j ts) ≡ 12
   stage-12 e = rw e
 
   module _ (r : Text) (e : decode (j .input) ≡ text r) where
-    pub stage-13 : all known r ≡ false → firstOf (recordTests j ts) ≡ 13
+    pub stage-13 : all known r ≡ false → firstOf (needTests need j ts) ≡ 13
     stage-13 k = rw (e, k)
 
     module _ (k : all known r ≡ true) where
-      pub stage-14 : recordChars < length r → firstOf (recordTests j ts) ≡ 14
+      pub stage-14 : recordChars < length r → firstOf (needTests need j ts) ≡ 14
       stage-14 l = rw (e, k, lt-ltb recordChars (length r) l)
 
       module _ (l : length r ≤ recordChars) (g : Grammar) (t : treeOf (j .grammar) ≡ parsed g) where
-        pub stage-15 : (ltb (j .mainTable) (tableNeed (size g) (length r)) || ltb (j .secondTable) grammarTable) ≡ true → firstOf (recordTests j ts) ≡ 15
+        pub stage-15 : (ltb (j .mainTable) (need g r) || ltb (j .secondTable) grammarTable) ≡ true → firstOf (needTests need j ts) ≡ 15
         stage-15 w = rw (e, k, le-ltb recordChars (length r) l, t, w)
 
-        module _ (w : (ltb (j .mainTable) (tableNeed (size g) (length r)) || ltb (j .secondTable) grammarTable) ≡ false) where
-          pub stage-16 : chosenOf g r ≡ no-choice → firstOf (recordTests j ts) ≡ 16
-          stage-16 c = rw (e, k, le-ltb recordChars (length r) l, t, w, c)
+        pub stage-lent : (ltb (j .mainTable) (need g r) || ltb (j .secondTable) grammarTable) ≡ false → firstOf (needTests need j ts) ≡ firstOf ts
+        stage-lent w = rw (e, k, le-ltb recordChars (length r) l, t, w)
 
-          module _ (row : Row) (c : chosenOf g r ≡ found row) where
-            pub stage-29 : readingNumbers < length (leftParse row) → firstOf (recordTests j ts) ≡ 29
-            stage-29 q = rw (e, k, le-ltb recordChars (length r) l, t, w, c, lt-ltb readingNumbers (length (leftParse row)) q)
+-- the derivation that is spoken of
+module _ (j : Job) (ts : List Test) (r : Text) (e : decode (j .input) ≡ text r) (g : Grammar) (t : treeOf (j .grammar) ≡ parsed g) where
+  module _ (number : ℕ) (c : Finder) where
+    pub stage-none : c g r ≡ no-choice → firstOf (noneTest number c j ∷ ts) ≡ number
+    stage-none o = rw (e, t, o)
 
-            pub stage-read : length (leftParse row) ≤ readingNumbers → firstOf (recordTests j ts) ≡ firstOf ts
-            stage-read q = rw (e, k, le-ltb recordChars (length r) l, t, w, c, le-ltb readingNumbers (length (leftParse row)) q)
+    pub stage-found : (row : Row) → c g r ≡ found row → firstOf (noneTest number c j ∷ ts) ≡ firstOf ts
+    stage-found row o = rw (e, t, o)
+
+module _ (j : Job) (ts : List Test) (r : Text) (e : decode (j .input) ≡ text r) (k : all known r ≡ true) (l : length r ≤ recordChars)
+    (g : Grammar) (t : treeOf (j .grammar) ≡ parsed g) (w : (ltb (j .mainTable) (tableNeed (size g) (length r)) || ltb (j .secondTable) grammarTable) ≡ false) where
+  pub stage-16 : chosenOf g r ≡ no-choice → firstOf (recordTests j ts) ≡ 16
+  stage-16 c = rw (e, k, le-ltb recordChars (length r) l, t, w, c)
+
+  module _ (row : Row) (c : chosenOf g r ≡ found row) where
+    pub stage-29 : readingNumbers < length (leftParse row) → firstOf (recordTests j ts) ≡ 29
+    stage-29 q = rw (e, k, le-ltb recordChars (length r) l, t, w, c, lt-ltb readingNumbers (length (leftParse row)) q)
+
+    pub stage-read : length (leftParse row) ≤ readingNumbers → firstOf (recordTests j ts) ≡ firstOf ts
+    stage-read q = rw (e, k, le-ltb recordChars (length r) l, t, w, c, le-ltb readingNumbers (length (leftParse row)) q)

@@ -16,7 +16,7 @@ use Rattle.syntax.specs.Syntax.{Ixml}
 use Rattle.plain.specs.Static.{undefined, duplicate, beyond, banned, backwards, unclassed, mismatched}
 use Rattle.plain.specs.Plain.{size}
 use Rattle.places.specs.Place.{Place}
-use Rattle.derive.specs.Derive.{Row, Derivation, root}
+use Rattle.derive.specs.Derive.{Row, Derivation, root, leftParse}
 use Rattle.derive.specs.Chosen.{Reading, Second}
 use Rattle.derive.specs.Productive.{Unproductive}
 use Rattle.xml.specs.Document.{document, markOf, twice, misnamed, unwritable, isAttribute, notOne, namespaced}
@@ -66,7 +66,8 @@ grammarLines bs ls =
     ∷ line 24 (ofTree bs Unproductive)
     ∷ ls
 
--- what reading and converting are given beside the result buffer: bytes of the grammar and the record, lengths of the two tables
+-- what a call on a record is given beside the result buffer: bytes of the grammar and the record, lengths of the two tables; the first is
+-- the main table, and where judging asks it is the scratch
 pub record Job : Type 0 where
   pub grammar : List ℕ
   pub input : List ℕ
@@ -76,24 +77,57 @@ pub record Job : Type 0 where
 abbrev pub job : List ℕ → List ℕ → ℕ → ℕ → Job
 job gs rs main second = record { grammar = gs; input = rs; mainTable = main; secondTable = second }
 
--- of the job's grammar and record; of these, the chosen derivation and its numbers
+-- which derivation of the record is spoken of, with its numbers; and when the ambiguous mark is set
+pub record Source : Type 1 where
+  pub Is : Grammar → Text → Row → List ℕ → Type 0
+  pub Marks : Grammar → Text → List ℕ → Bool → Type 0
+
+-- reading and converting speak of the chosen one
+abbrev pub chosen : Source
+chosen = record { Is = Reading; Marks = λ g r p m. T m ↔ Second g r p }
+
+-- "accepts it exactly when the list, used to its last number, is a derivation of exactly this record"
+abbrev pub Names : List ℕ → Grammar → Text → Row → Type 0
+Names q g r t = Derivation g r t × (leftParse t ≡ q)
+
+-- judging speaks of the one that the list names; "It sets no ambiguous mark and never writes that word as a state"
+abbrev pub given : List ℕ → Source
+given q = record { Is = λ g r t p. Names q g r t × (p ≡ leftParse t); Marks = λ g r p m. m ≡ false }
+
+-- of the job's grammar and record; of these, the derivation and its numbers
 abbrev pub ofJob : Job → (Grammar → Text → Type 0) → Type 0
 ofJob j P = (g : Grammar) × (r : Text) × (GrammarTree (j .grammar) g × Utf8 (j .input) r) × P g r
 
+abbrev pub ofSource : Source → Job → (Grammar → Text → Row → List ℕ → Type 0) → Type 0
+ofSource s j P = ofJob j (λ g r. (t : Row) × (p : List ℕ) × s .Is g r t p × P g r t p)
+
 abbrev pub ofReading : Job → (Grammar → Text → Row → List ℕ → Type 0) → Type 0
-ofReading j P = ofJob j (λ g r. (t : Row) × (p : List ℕ) × Reading g r t p × P g r t p)
+ofReading = ofSource chosen
 
 -- "size × (n+1) × (n+2) / 2 numbers"
 abbrev pub tableNeed : ℕ → ℕ → ℕ
 tableNeed s n = s * ((n + 1) * (n + 2) / 2)
 
-abbrev pub inputLines : Job → List Line → List Line
-inputLines j ls =
+-- the numbers that the first table needs: of the main table, and of the scratch, "two numbers for each list entry"
+abbrev pub Need : Type 0
+Need = Grammar → Text → ℕ
+
+abbrev pub mainNeed : Need
+mainNeed g r = tableNeed (size g) (length r)
+
+abbrev pub scratchNeed : List ℕ → Need
+scratchNeed q g r = 2 * length q
+
+abbrev pub needLines : Need → Job → List Line → List Line
+needLines need j ls =
     line 12 (((cs : Text) × Utf8 (j .input) cs) → ⊥)
     ∷ line 13 (ofText Utf8 (j .input) (λ cs. T (not (all known cs))))
     ∷ line 14 (ofText Utf8 (j .input) (λ cs. recordChars < length cs))
-    ∷ line 15 (ofJob j (λ g r. (j .mainTable < tableNeed (size g) (length r)) ⊎ (j .secondTable < grammarTable)))
+    ∷ line 15 (ofJob j (λ g r. (j .mainTable < need g r) ⊎ (j .secondTable < grammarTable)))
     ∷ ls
+
+abbrev pub inputLines : Job → List Line → List Line
+inputLines = needLines mainNeed
 
 abbrev pub readingLines : Job → List Line → List Line
 readingLines j ls =
@@ -104,15 +138,22 @@ readingLines j ls =
 abbrev pub recordLines : Job → List Line → List Line
 recordLines j ls = inputLines j (readingLines j ls)
 
-abbrev pub documentLines : Job → List Line → List Line
-documentLines j ls =
-    line 17 (ofReading j (λ g r t p. T (twice (document g r t))))
-    ∷ line 18 (ofReading j (λ g r t p. T (misnamed (document g r t))))
-    ∷ line 19 (ofReading j (λ g r t p. T (unwritable (document g r t))))
-    ∷ line 20 (ofReading j (λ g r t p. T (isAttribute (markOf g (root g)))))
-    ∷ line 21 (ofReading j (λ g r t p. T (notOne (document g r t))))
-    ∷ line 22 (ofReading j (λ g r t p. T (namespaced (document g r t))))
+-- "A bad list is refused as 25, in the place where 16 stands now", and "29 isn't given"
+abbrev pub listLines : List ℕ → Job → List Line → List Line
+listLines q j ls = line 25 (ofJob j (λ g r. ((t : Row) × Names q g r t) → ⊥)) ∷ ls
+
+abbrev pub documentLinesOf : Source → Job → List Line → List Line
+documentLinesOf s j ls =
+    line 17 (ofSource s j (λ g r t p. T (twice (document g r t))))
+    ∷ line 18 (ofSource s j (λ g r t p. T (misnamed (document g r t))))
+    ∷ line 19 (ofSource s j (λ g r t p. T (unwritable (document g r t))))
+    ∷ line 20 (ofSource s j (λ g r t p. T (isAttribute (markOf g (root g)))))
+    ∷ line 21 (ofSource s j (λ g r t p. T (notOne (document g r t))))
+    ∷ line 22 (ofSource s j (λ g r t p. T (namespaced (document g r t))))
     ∷ ls
+
+abbrev pub documentLines : Job → List Line → List Line
+documentLines = documentLinesOf chosen
 
 -- the result of reading, "the reading as numbers", and of converting, "the XML", with the ambiguous mark m
 abbrev pub Shown : Type 0
@@ -124,11 +165,17 @@ asNumbers m g r t p = p
 abbrev pub asXml : Shown
 asXml m g r t p = bytes m (mismatched g) (document g r t)
 
+abbrev pub ResultBy : Source → Job → Shown → List ℕ → Bool → Type 0
+ResultBy s j F xs m = ofSource s j (λ g r t p. s .Marks g r p m × (xs ≡ F m g r t p))
+
 abbrev pub ResultOf : Job → Shown → List ℕ → Bool → Type 0
-ResultOf j F xs m = ofReading j (λ g r t p. (T m ↔ Second g r p) × (xs ≡ F m g r t p))
+ResultOf = ResultBy chosen
+
+abbrev pub tooLongBy : Source → Job → Shown → List ℕ → Line
+tooLongBy s j F old = line 23 ((xs : List ℕ) × (m : Bool) × ResultBy s j F xs m × (length old < length xs))
 
 abbrev pub tooLong : Job → Shown → List ℕ → Line
-tooLong j F old = line 23 ((xs : List ℕ) × (m : Bool) × ResultOf j F xs m × (length old < length xs))
+tooLong = tooLongBy chosen
 
 -- the places that an answer carries: of a byte, of a character of the record, of one of the grammar
 pub record Places : Type 0 where
@@ -197,7 +244,7 @@ pub record Answers (lines : List Line) (notes : Notes) (Result : List ℕ → Bo
   pub version : T (a .version) ↔ (((a .number ≡ 0) ⊎ (a .number ≡ 16)) × ofTree bs (λ g. T (mismatched g)))
   pub places : Placed notes (a .number) (a .places)
 
--- the four calls: "Checking gives 0 to 11 only, … reading gives 0 to 16, 29 and 23; converting gives all.", and each may give 24
+-- the calls: "Checking gives 0 to 11 only, … reading gives 0 to 16, 29 and 23; converting gives all.", and each may give 24
 abbrev pub Checks : List ℕ → Answer → Type 0
 Checks bs a = Answers (grammarLines bs []) (checkNotes bs) (λ xs m. (xs ≡ []) × (m ≡ false)) bs [] a []
 
@@ -206,6 +253,11 @@ Reads j old = Answers (grammarLines (j .grammar) (recordLines j (tooLong j asNum
 
 abbrev pub Converts : Job → List ℕ → Answer → List ℕ → Type 0
 Converts j old = Answers (grammarLines (j .grammar) (recordLines j (documentLines j (tooLong j asXml old ∷ [])))) (jobNotes j) (ResultOf j asXml) (j .grammar) old
+
+-- judging a list q: "17 to 23 and demand 2 are then judged on the given derivation as in converting"
+abbrev pub Judges : List ℕ → Job → List ℕ → Answer → List ℕ → Type 0
+Judges q j old = Answers (grammarLines (j .grammar) (needLines (scratchNeed q) j (listLines q j (documentLinesOf (given q) j (tooLongBy (given q) j asXml old ∷ [])))))
+    (jobNotes j) (ResultBy (given q) j asXml) (j .grammar) old
 
 abbrev pub Categorizes : ℕ → ℕ → Type 0
 Categorizes code n = n ≡ categoryNumber code

@@ -19,7 +19,8 @@ use Rattle.derive.specs.Pick.{Choice, found, no-choice, chosenOf}
 use Rattle.derive.specs.Another.{ambiguousOf}
 use Rattle.derive.specs.Yield.{unproductive}
 use Rattle.xml.specs.Document.{document, markOf, twice, misnamed, unwritable, isAttribute, notOne, namespaced}
-use Rattle.answer.specs.Answer.{Job, tableNeed, Shown, asNumbers, asXml, Places, Answer}
+use Rattle.answer.specs.Answer.{Job, Need, mainNeed, scratchNeed, Shown, asNumbers, asXml, Places, Answer}
+use Rattle.answer.specs.Named.{namedOf}
 
 -- a line's number, and a test that waits until it is asked
 pub record Test : Type 0 where
@@ -85,28 +86,46 @@ grammarTests bs ts =
 abbrev pub onJob : Job → (Grammar → Text → Bool) → Bool
 onJob j f = onTree (treeOf (j .grammar)) (λ g. onText (decode (j .input)) (f g))
 
-abbrev pub onReading : Job → (Grammar → Text → Row → Bool) → Bool
-onReading j f = onJob j (λ g r. onChoice (chosenOf g r) (f g r))
+-- what finds the derivation that is spoken of
+abbrev pub Finder : Type 0
+Finder = Grammar → Text → Choice
 
-abbrev pub recordTests : Job → List Test → List Test
-recordTests j ts =
+abbrev pub onFound : Finder → Job → (Grammar → Text → Row → Bool) → Bool
+onFound c j f = onJob j (λ g r. onChoice (c g r) (f g r))
+
+abbrev pub onReading : Job → (Grammar → Text → Row → Bool) → Bool
+onReading = onFound chosenOf
+
+abbrev pub needTests : Need → Job → List Test → List Test
+needTests need j ts =
     test 12 (λ _. not (isText (decode (j .input))))
     ∷ test 13 (λ _. onText (decode (j .input)) (λ cs. not (all known cs)))
     ∷ test 14 (λ _. onText (decode (j .input)) (λ cs. ltb recordChars (length cs)))
-    ∷ test 15 (λ _. onJob j (λ g r. ltb (j .mainTable) (tableNeed (size g) (length r)) || ltb (j .secondTable) grammarTable))
-    ∷ test 16 (λ _. onJob j (λ g r. not (isFound (chosenOf g r))))
+    ∷ test 15 (λ _. onJob j (λ g r. ltb (j .mainTable) (need g r) || ltb (j .secondTable) grammarTable))
+    ∷ ts
+
+-- 16, and 25
+abbrev pub noneTest : ℕ → Finder → Job → Test
+noneTest n c j = test n (λ _. onJob j (λ g r. not (isFound (c g r))))
+
+abbrev pub recordTests : Job → List Test → List Test
+recordTests j ts =
+    needTests mainNeed j (noneTest 16 chosenOf j
     ∷ test 29 (λ _. onReading j (λ g r t. ltb readingNumbers (length (leftParse t))))
+    ∷ ts)
+
+abbrev pub documentTestsOf : Finder → Job → List Test → List Test
+documentTestsOf c j ts =
+    test 17 (λ _. onFound c j (λ g r t. twice (document g r t)))
+    ∷ test 18 (λ _. onFound c j (λ g r t. misnamed (document g r t)))
+    ∷ test 19 (λ _. onFound c j (λ g r t. unwritable (document g r t)))
+    ∷ test 20 (λ _. onFound c j (λ g r t. isAttribute (markOf g (root g))))
+    ∷ test 21 (λ _. onFound c j (λ g r t. notOne (document g r t)))
+    ∷ test 22 (λ _. onFound c j (λ g r t. namespaced (document g r t)))
     ∷ ts
 
 abbrev pub documentTests : Job → List Test → List Test
-documentTests j ts =
-    test 17 (λ _. onReading j (λ g r t. twice (document g r t)))
-    ∷ test 18 (λ _. onReading j (λ g r t. misnamed (document g r t)))
-    ∷ test 19 (λ _. onReading j (λ g r t. unwritable (document g r t)))
-    ∷ test 20 (λ _. onReading j (λ g r t. isAttribute (markOf g (root g))))
-    ∷ test 21 (λ _. onReading j (λ g r t. notOne (document g r t)))
-    ∷ test 22 (λ _. onReading j (λ g r t. namespaced (document g r t)))
-    ∷ ts
+documentTests = documentTestsOf chosenOf
 
 -- a result with its ambiguous mark; none where there is no reading
 pub record Result : Type 0 where
@@ -128,11 +147,24 @@ abbrev pub resultTree : Parsed → (Grammar → Result) → Result
 resultTree (parsed g) f = f g
 resultTree no-parse f = result [] false
 
+abbrev pub foundResult : Finder → Job → (Grammar → Text → Row → Result) → Result
+foundResult c j f = resultTree (treeOf (j .grammar)) (λ g. resultText (decode (j .input)) (λ r. onResult (c g r) (f g r)))
+
 abbrev pub resultOf : Job → (Grammar → Text → Row → Result) → Result
-resultOf j f = resultTree (treeOf (j .grammar)) (λ g. resultText (decode (j .input)) (λ r. onResult (chosenOf g r) (f g r)))
+resultOf = foundResult chosenOf
+
+-- when the ambiguous mark is set
+abbrev pub Marker : Type 0
+Marker = Grammar → Text → Row → Bool
+
+abbrev pub never : Marker
+never g r t = false
+
+abbrev pub resultWith : Marker → Shown → Grammar → Text → Row → Result
+resultWith k F g r t = let m = k g r t in result (F m g r t (leftParse t)) m
 
 abbrev pub resultBy : Shown → Grammar → Text → Row → Result
-resultBy F g r t = let m = ambiguousOf g r t in result (F m g r t (leftParse t)) m
+resultBy = resultWith ambiguousOf
 
 -- the place beside a number, computed when it is asked
 pub record Value : Type 0 where
@@ -196,8 +228,11 @@ mismatch bs = onTree (treeOf bs) mismatched
 unfoldable pub checkOf : List ℕ → Answer
 checkOf bs = outcome [] (mismatch bs) (checkValues bs) (firstOf (grammarTests bs [])) (result [] false) .answer
 
+abbrev pub longTestBy : Finder → Marker → Shown → Job → List ℕ → Test
+longTestBy c k F j old = test 23 (λ _. onFound c j (λ g r t. ltb (length old) (length (resultWith k F g r t .cells))))
+
 abbrev pub longTest : Shown → Job → List ℕ → Test
-longTest F j old = test 23 (λ _. onReading j (λ g r t. ltb (length old) (length (resultBy F g r t .cells))))
+longTest = longTestBy chosenOf ambiguousOf
 
 -- a call, by the tests after 29 and the way its result is shown
 abbrev pub callOf : List Test → Shown → Job → List ℕ → Outcome
@@ -208,3 +243,9 @@ readOf j old = callOf (longTest asNumbers j old ∷ []) asNumbers j old
 
 unfoldable pub convertOf : Job → List ℕ → Outcome
 convertOf j old = callOf (documentTests j (longTest asXml j old ∷ [])) asXml j old
+
+unfoldable pub judgeOf : List ℕ → Job → List ℕ → Outcome
+judgeOf q j old =
+    let c = namedOf q in
+    let ts = noneTest 25 c j ∷ documentTestsOf c j (longTestBy c never asXml j old ∷ []) in
+    outcome old (mismatch (j .grammar)) (jobValues j) (firstOf (grammarTests (j .grammar) (needTests (scratchNeed q) j ts))) (foundResult c j (resultWith never asXml))

@@ -9,7 +9,7 @@ use lib.Dec.{T}
 use lib.ListN.{length, take, drop}
 use lib.Seq.{take-append-seam}
 use Rattle.text.specs.Lists.{Text, chars, any, all}
-use Rattle.text.specs.Utf8.{utf8, utf8s}
+use Rattle.text.specs.Utf8.{Utf8, utf8, utf8s}
 use Rattle.text.proofs.Tests.{clash, isT, T-true, T-false, and-left, and-right, both-and}
 use Rattle.tree.specs.Tree.{Mark, unmarked, included, attribute, deleted, Symbol, nonterminal, Rule, Grammar, rules}
 use Rattle.plain.specs.Written.{kind, written}
@@ -19,7 +19,8 @@ use Rattle.derive.proofs.Chosen.{chosen-derives}
 use Rattle.xml.specs.Names.{xmlName}
 use Rattle.xml.specs.Document.{Xml, none, char, attr, elem, markOf, asRoot, marked, nodes, value, stretch, document, isAttribute, misnamed, notOne}
 use Rattle.xml.specs.Bytes.{state, attributes, closed, content, bytes}
-use Rattle.answer.specs.Answer.{Line, Job, Answer, Converts, GrammarTree, ofTree, asXml, grammarLines, recordLines, documentLines, tooLong}
+use Rattle.answer.specs.Answer.{Line, Job, Answer, Converts, Judges, GrammarTree, ofTree, asXml, grammarLines, recordLines, documentLines, tooLong}
+use Rattle.answer.specs.Answer.{needLines, scratchNeed, listLines, documentLinesOf, given, tooLongBy}
 use Rattle.answer.specs.Demands.{None}
 use Rattle.answer.proofs.Lines.{none-given}
 use Rattle.answer.proofs.Demands.{demands-hold, one-grammar}
@@ -140,6 +141,21 @@ later-none (suc k) (l ∷ ls) h = later-none k ls (h .1)
 abbrev before-names : ℕ
 before-names = 19
 
+-- the XML that begins a buffer, of a derivation of the record that no line forbids
+module _ (j : Job) (old new : List ℕ) (n : ℕ) (mark : Bool) {g : Grammar} {r : Text} {t : Row} (texts : GrammarTree (j .grammar) g × Utf8 (j .input) r)
+    (d : Derivation g r t) (named : misnamed (document g r t) ≡ false) (single : notOne (document g r t) ≡ false)
+    (k : ofTree (j .grammar) (λ g. T (noAttributes g) × T (allKept g))) where
+  abbrev xml : List ℕ
+  xml = bytes mark (mismatched g) (document g r t)
+
+  spells-record : n ≡ length xml → new ≡ xml ++ drop (length xml) old → Between (take n new) (j .input)
+  spells-record e f =
+      let same : k .0 ≡ g = one-grammar j (k .1) (texts .0) in
+      let fair : T (noAttributes g) × T (allKept g) = subst (λ (h : Grammar). T (noAttributes h) × T (allKept h)) same (k .2) in
+      let b = audits g r t mark (mismatched g) d named single .whole (fair .0) (fair .1) in
+      let c : take n new ≡ xml = ap (λ (i : ℕ). take i new) e ∙ ap (take (length xml)) f ∙ take-append-seam xml (drop (length xml) old) in
+      subst (λ (v : List ℕ). Between v (j .input)) (sym c) (subst (λ (v : List ℕ). Between xml v) (sym (texts .1 .spelt)) b)
+
 converted : (j : Job) (old new : List ℕ) (a : Answer) → Converts j old a new → a .number ≡ 0 → ofTree (j .grammar) (λ g. T (noAttributes g) × T (allKept g))
     → Between (take (a .length) new) (j .input)
 converted j old new a w e k =
@@ -151,13 +167,23 @@ converted j old new a w e k =
     let none = later-none before-names ls (none-given ls (a .number) tt (w .number) .0 e) in
     let named = T-false (misnamed (document g r t)) (λ m. none .0 (g, r, x .2, (t, x .3 .1, x .3 .2, m))) in
     let single = T-false (notOne (document g r t)) (λ m. none .1 .1 .1 .0 (g, r, x .2, (t, x .3 .1, x .3 .2, m))) in
-    let same : k .0 ≡ g = one-grammar j (k .1) (x .2 .0) in
-    let fair : T (noAttributes g) × T (allKept g) = subst (λ (h : Grammar). T (noAttributes h) × T (allKept h)) same (k .2) in
-    let d = chosen-derives g r (x .3 .2 .chosen) in
-    let b = audits g r t (a .ambiguous) (mismatched g) d named single .whole (fair .0) (fair .1) in
-    let xml = asXml (a .ambiguous) g r t (x .3 .1) in
-    let c : take (a .length) new ≡ xml = ap (λ (n : ℕ). take n new) (x .3 .3 .1) ∙ ap (take (length xml)) (x .3 .3 .2) ∙ take-append-seam xml (drop (length xml) old) in
-    subst (λ (v : List ℕ). Between v (j .input)) (sym c) (subst (λ (v : List ℕ). Between xml v) (sym (x .2 .1 .spelt)) b)
+    spells-record j old new (a .length) (a .ambiguous) (x .2) (chosen-derives g r (x .3 .2 .chosen)) named single k (x .3 .3 .1) (x .3 .3 .2)
+
+-- 4. Judging: the same of the derivation that the list names. The lines before 18 are one less, for 29.
+judged : (q : List ℕ) (j : Job) (old new : List ℕ) (a : Answer) → Judges q j old a new → a .number ≡ 0 → ofTree (j .grammar) (λ g. T (noAttributes g) × T (allKept g))
+    → Between (take (a .length) new) (j .input)
+judged q j old new a w e k =
+    let x = w .answered e in
+    let y = x .1 in
+    let g = y .0 in
+    let r = y .1 in
+    let t = y .3 .0 in
+    let ls = grammarLines (j .grammar) (needLines (scratchNeed q) j (listLines q j (documentLinesOf (given q) j (tooLongBy (given q) j asXml old ∷ [])))) in
+    let none = later-none 18 ls (none-given ls (a .number) tt (w .number) .0 e) in
+    let named = T-false (misnamed (document g r t)) (λ m. none .0 (g, r, y .2, (t, y .3 .1, y .3 .2, m))) in
+    let single = T-false (notOne (document g r t)) (λ m. none .1 .1 .1 .0 (g, r, y .2, (t, y .3 .1, y .3 .2, m))) in
+    let is : x .0 ≡ bytes (a .ambiguous) (mismatched g) (document g r t) = y .3 .3 .1 in
+    spells-record j old new (a .length) (a .ambiguous) (y .2) (y .3 .2 .0 .0) named single k (x .2 ∙ ap length is) (x .3 ∙ ap (λ (xs : List ℕ). xs ++ drop (length xs) old) is)
 
 pub audited : Audited
-audited = record { derivations = audits; converting = converted; one = one-text }
+audited = record { derivations = audits; converting = converted; judging = judged; one = one-text }

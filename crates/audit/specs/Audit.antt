@@ -13,7 +13,7 @@ use Rattle.derive.specs.Derive.{Row, root, Derivation}
 use Rattle.xml.specs.Document.{document, value, isAttribute, misnamed, notOne}
 use Rattle.xml.specs.Bytes.{bytes}
 use Rattle.xml.specs.References.{Reference}
-use Rattle.answer.specs.Answer.{Job, Answer, ofTree, Converts}
+use Rattle.answer.specs.Answer.{Job, Answer, ofTree, Converts, Judges}
 
 -- "the text between the tags, with references turned back into characters": of the bytes t it is u. A tag runs from `<` to the next `>`, a
 -- reference from `&` to its `;`, and any other byte stands for itself.
@@ -58,6 +58,9 @@ pub record Audited : Type 0 where
       → notOne (document g r t) ≡ false → Audits g r t ambiguous mismatch
   -- and so of converting, whatever the record
   pub converting : (j : Job) (old new : List ℕ) (a : Answer) → Converts j old a new → a .number ≡ 0
+      → ofTree (j .grammar) (λ g. T (noAttributes g) × T (allKept g)) → Between (take (a .length) new) (j .input)
+  -- and of judging, whoever made the list
+  pub judging : (q : List ℕ) (j : Job) (old new : List ℕ) (a : Answer) → Judges q j old a new → a .number ≡ 0
       → ofTree (j .grammar) (λ g. T (noAttributes g) × T (allKept g)) → Between (take (a .length) new) (j .input)
   -- what stands between the tags is one text
   pub one : {t u w : List ℕ} → Between t u → Between t w → u ≡ w

@@ -5,10 +5,13 @@ use mathlib.Core.List.{List}
 use Prim.Native.Nat.{ℕ}
 use lib.Dec.{eqb}
 use Rattle.answer.specs.Answer as defined
-use Rattle.answer.specs.Answer.{Job, Checks, Reads, Converts}
-use Rattle.answer.specs.Compute.{checkOf, readOf, convertOf}
+use Rattle.answer.specs.Answer.{Job, Checks, Reads, Converts, Judges}
+use Rattle.answer.specs.Compute.{checkOf, readOf, convertOf, judgeOf}
 use Rattle.tidy.specs.Call.{Tidies, tidyOf}
+use Rattle.text.specs.Stages.{plainly}
 use Rattle.job.specs.declared.Refusal.{Refusal}
+use Rattle.convert.specs.declared.Converted.{Converted}
+use Rattle.convert.specs.declared.Converted.the-variants.{Xml, Refused as Not-converted}
 use Rattle.calls.specs.declared.Answer.{Answer}
 
 abbrev pub shown : Answer → defined.Answer
@@ -40,6 +43,11 @@ refusalOf r = record {
   places = record { byte = r .why .places .byte .0; fault = r .why .places .fault .0; grammar = r .why .places .grammar .0 };
 }
 
+-- the answer to XML that is written, or refused
+abbrev pub answerOf : Converted → Bool → Bool → Answer
+answerOf (Xml n) a m = done n a m
+answerOf (Not-converted n) a m = refusalOf (record { why = plainly n; mismatch = m })
+
 -- answer and buffer are those that the definition of reading gives, of which there are exactly one each: that they are the computed ones
 -- follows (read-settled)
 pub record ReadAs (j : Job) (old : List ℕ) (a : Answer) (new : List ℕ) : Type 0 where
@@ -52,6 +60,12 @@ pub record ConvertedAs (j : Job) (old : List ℕ) (a : Answer) (new : List ℕ) 
   pub computed : shown a ≡ convertOf j old .answer
   pub buffer : new ≡ convertOf j old .buffer
   pub defines : Converts j old (shown a) new
+
+-- of judging a list (judge-settled)
+pub record JudgedAs (q : List ℕ) (j : Job) (old : List ℕ) (a : Answer) (new : List ℕ) : Type 0 where
+  pub computed : shown a ≡ judgeOf q j old .answer
+  pub buffer : new ≡ judgeOf q j old .buffer
+  pub defines : Judges q j old (shown a) new
 
 -- of tidying (tidy-settled)
 pub record TidiedAs (bs old : List ℕ) (a : Answer) (new : List ℕ) : Type 0 where

@@ -6,13 +6,16 @@ ghost use Prim.Native.Nat.{_≤_};
 ghost use lib.Dec.{eqb};
 ghost use lib.ListN.{length, take, drop};
 ghost use Rattle.answer.specs.Answer.{job, Categorizes};
-ghost use Rattle.convert.specs.Concluded.{convertedNumber};
-ghost use Rattle.calls.specs.Calls.{Checked, refusalOf, ReadAs, ConvertedAs, TidiedAs};
+ghost use Rattle.calls.specs.Calls.{Checked, refusalOf, answerOf, ReadAs, ConvertedAs, JudgedAs, TidiedAs};
+ghost use Rattle.calls.specs.Judging.{Judgeable, Concluded};
 use accept::Accepted;
+use accept::Rules;
 use convert::Converted;
+use job::Begun;
 use job::Lending;
 use job::Parse;
 use job::Refusal;
+use markup::StateWords;
 use text::limits;
 use text::refusals;
 use tidy_text::Tidied;
@@ -190,12 +193,26 @@ pub extern "C" fn ixml_read_plain(
     read_with(true, grammar, record, main, second, result)
 }
 
-fn why_converted(converted: Converted) -> u32
-    ensures { λ r. ⌜ r ≡ convertedNumber converted ⌝ }
+// What a call answers to XML that is written, or refused.
+fn answer_to(converted: Converted, ambiguous: bool, mismatch: bool) -> Answer
+    ensures { λ r. ⌜ r ≡ answerOf converted ambiguous mismatch ⌝ }
 {
     match converted {
-        Converted::Xml(_) => refusals::ANSWERED,
-        Converted::Refused(number) => number,
+        Converted::Xml(length) => Answer {
+            number: refusals::ANSWERED,
+            length,
+            ambiguous,
+            version: mismatch,
+            places: Places {
+                byte: 0,
+                fault: 0,
+                grammar: 0,
+            },
+        },
+        Converted::Refused(number) => refuse(Refusal {
+            why: text::plain(number),
+            mismatch,
+        }),
     }
 }
 
@@ -240,23 +257,72 @@ pub extern "C" fn ixml_convert(
         found.mismatch,
         result,
     );
-    let Converted::Xml(length) = converted else {
+    answer_to(converted, found.ambiguous, found.mismatch)
+}
+
+// A list that names no derivation of the record.
+const NOT_A_DERIVATION: u32 = 25;
+
+// 17 to 23 of a list that is judged already, or 25.
+fn conclude_list(
+    table: &[u32],
+    rules: Rules,
+    list: &[u32],
+    record: &[u32],
+    scratch: &mut [u64],
+    result: &mut [u8],
+) -> Answer
+    requires { ⌜ Judgeable (now table) (rules .root) (now list) (now «record») (now scratch) ⌝ }
+    ensures { λ r. ⌜ Concluded (now (table .entry)) (rules .root) (now (list .entry)) (now («record» .entry)) (rules .mismatch) (now (result .entry)) (now (result .exit)) r ⌝ }
+{
+    if judge::judge_list(table, rules.root, list, record, scratch) {
+        let due = StateWords {
+            ambiguous: false,
+            mismatch: rules.mismatch,
+        };
+        let converted = convert::conclude(table, rules.root, list, record, due, scratch, result);
+        return answer_to(converted, false, rules.mismatch);
+    }
+    refuse(Refusal {
+        why: text::plain(NOT_A_DERIVATION),
+        mismatch: false,
+    })
+}
+
+// Judges a list of numbers, whoever made it: the XML of the derivation that it names. The scratch takes two numbers for each entry; what it
+// holds afterwards is left open.
+#[no_mangle]
+pub extern "C" fn ixml_judge(
+    grammar: &[u8],
+    record: &[u8],
+    list: &[u32],
+    second: &[u32],
+    scratch: &mut [u64],
+    result: &mut [u8],
+) -> Answer
+    ensures { λ r. ⌜ JudgedAs (now (list .entry)) (job (now (grammar .entry)) (now («record» .entry)) (length (now (scratch .entry)))
+        (length (now (second .entry)))) (now (result .entry)) r (now (result .exit)) ⌝ }
+{
+    let mut table = [0u32; limits::GRAMMAR_TABLE];
+    let mut text = [0u32; limits::RECORD_CHARACTERS];
+    let begun = job::begin_list(
+        grammar,
+        record,
+        list.len(),
+        scratch.len(),
+        second.len(),
+        &mut table,
+        &mut text,
+    );
+    let Begun::At(start) = begun else {
         return refuse(Refusal {
-            why: text::plain(why_converted(converted)),
-            mismatch: found.mismatch,
+            why: job::why_begun(begun),
+            mismatch: false,
         });
     };
-    Answer {
-        number: refusals::ANSWERED,
-        length,
-        ambiguous: found.ambiguous,
-        version: found.mismatch,
-        places: Places {
-            byte: 0,
-            fault: 0,
-            grammar: 0,
-        },
-    }
+    let rules = start.rules;
+    let chars = start.chars.0;
+    conclude_list(&table, rules, list, &text[..chars], scratch, result)
 }
 
 // Tidies a grammar.

@@ -25,7 +25,7 @@ use Rattle.dynamic_errors.proofs.Verdict.{the-type}
 use Rattle.dynamic_errors.specs.declared.Verdict.the-variants.{Allowed, RepeatedAttribute, NotXmlName, NotXmlCharacter, AttributeRoot, DeletedRoot, AttributeXmlns}
 use Rattle.convert.specs.declared.Converted.{Converted}
 use Rattle.convert.specs.declared.Converted.the-variants.{Xml, Refused}
-use Rattle.convert.specs.Concluded.{Parsing, Ready, Written, NotWritten, Concludes}
+use Rattle.convert.specs.Concluded.{Parsing, Ready, Annotated, Written, NotWritten, Concludes}
 
 -- where no line applies, no test holds
 record Clear (t m u b : Bool) : Type 0 where
@@ -65,6 +65,9 @@ module _ {T : List ℕ} {root : ℕ} {P : List ℕ} {r : Text} where
   pub room : {S : List ℕ} → Ready T root P r → length S ≡ 8192 → Room T P S
   room w l = record { table = omega (arith, w .table); list = omega (arith, w .few); scratch = omega (arith, w .few) }
 
+  pub annotated : {S : List ℕ} → Ready T root P r → length S ≡ 8192 → ((g : Grammar) (q : Text) (t : Row) → Parsed T root P g q t → Noted S 0 t) → Annotated T root P r S
+  annotated w l n = record { room = room w l; g = w .g; t = w .t; parsing = w .parsing; noted = n }
+
   job-of : {g : Grammar} {t : Row} {S : List ℕ} → Parsing T root P r g t → Noted S 0 t → Job T root P r S g t
   job-of p n = record { parsed = p .parsed; noted = n; tokens = p .tokens }
 
@@ -72,14 +75,17 @@ module _ {T : List ℕ} {root : ℕ} {P : List ℕ} {r : Text} where
     its-job : {g : Grammar} {t : Row} → Parsing T root P r g t → Job T root P r S g t
     its-job {g} {t} p = job-of p (notes g r t (p .parsed))
 
-    pub some-job : Ready T root P r → Some T root P r S
+    pub some-job : Annotated T root P r S → Some T root P r S
     some-job w = record { g = w .g; t = w .t; job = its-job (w .parsing) }
 
     module _ {S′ : List ℕ} {v : Verdict} (j : Judged T root P r S S′ v) where
       later-job : {g : Grammar} {t : Row} → Parsing T root P r g t → Job T root P r S′ g t
       later-job {g} {t} p = subst (λ (x : List ℕ). Job T root P r x g t) (sym (j .kept)) (its-job p)
 
-      pub some-later : Ready T root P r → Some T root P r S′
+      pub room-later : Annotated T root P r S → Room T P S′
+      room-later w = subst (λ (x : List ℕ). Room T P x) (sym (j .kept)) (w .room)
+
+      pub some-later : Annotated T root P r S → Some T root P r S′
       some-later w = record { g = w .g; t = w .t; job = later-job (w .parsing) }
 
       module _ (g : Grammar) (t : Row) (a m : Bool) (old : List ℕ) (n : ℕ) (p : Parsing T root P r g t) (e : n ≡ verdictNumber v) where

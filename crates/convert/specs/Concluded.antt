@@ -14,7 +14,7 @@ use Rattle.derive.specs.Derive.{Row}
 use Rattle.items.specs.Items.{Reads}
 use Rattle.xml.specs.Document.{document}
 use Rattle.xml.specs.Bytes.{bytes}
-use Rattle.left_parse.specs.Noted.{Parsed}
+use Rattle.left_parse.specs.Noted.{Noted, Parsed, Room}
 use Rattle.dynamic_errors.specs.Judgment.{judgmentOf}
 use Rattle.convert.specs.declared.Converted.{Converted}
 use Rattle.convert.specs.declared.Converted.the-variants.{Xml, Refused}
@@ -30,6 +30,14 @@ pub record Ready (T : List ℕ) (root : ℕ) (P : List ℕ) (r : Text) : Type 0 
   pub g : Grammar
   pub t : Row
   pub parsing : Parsing T root P r g t
+
+-- the same, with every entry noted
+pub record Annotated (T : List ℕ) (root : ℕ) (P : List ℕ) (r : Text) (S : List ℕ) : Type 0 where
+  pub room : Room T P S
+  pub g : Grammar
+  pub t : Row
+  pub parsing : Parsing T root P r g t
+  pub noted : (g : Grammar) (r : Text) (t : Row) → Parsed T root P g r t → Noted S 0 t
 
 -- nothing forbids the XML, and it fits
 pub record Written (bs : List ℕ) (judgment : ℕ) (old new : List ℕ) (n : ℕ) : Type 0 where

@@ -3,7 +3,7 @@ ghost use mathlib.Core.Path.{_≡_};
 ghost use Rattle.tree.specs.Tree.{Grammar};
 ghost use Rattle.derive.specs.Derive.{Row};
 ghost use Rattle.dynamic_errors.specs.Judgment.{verdictNumber};
-ghost use Rattle.convert.specs.Concluded.{Ready, Parsing, Concludes};
+ghost use Rattle.convert.specs.Concluded.{Ready, Annotated, Parsing, Concludes};
 use dynamic_errors::Verdict;
 use markup::StateWords;
 use text::limits;
@@ -12,6 +12,9 @@ use writer::Written;
 
 // Two numbers are noted of each entry of a left parse.
 const NOTES: usize = 2 * limits::READING_NUMBERS;
+
+// Tokens stand in the first cells of the table: names have no more.
+const NAME_TOKENS: usize = 12288;
 
 // The count of the XML's bytes, or the refusal.
 pub enum Converted {
@@ -34,7 +37,33 @@ fn why(judged: Verdict) -> u32
     }
 }
 
-// 17 to 23. The numbers noted of the entries and the names seen are local: 49,152 bytes.
+// 17 to 23, of a left parse whose entries are noted. The names seen are local: 49,152 bytes.
+pub fn conclude(
+    table: &[u32],
+    root: usize,
+    parse: &[u32],
+    record: &[u32],
+    due: StateWords,
+    scratch: &mut [u64],
+    out: &mut [u8],
+) -> Converted
+    requires { ⌜ Annotated (now table) root (now parse) (now «record») (now scratch) ⌝ }
+    ensures { λ a. ⌜ ((g : Grammar) (t : Row) → Parsing (now (table .entry)) root (now (parse .entry)) (now («record» .entry)) g t
+        → Concludes g (now («record» .entry)) t (due .ambiguous) (due .mismatch) (now (out .entry)) (now (out .exit)) a) ⌝ }
+{
+    let mut seen = [0u32; NAME_TOKENS];
+    let judged = dynamic_errors::first_error(table, root, parse, record, scratch, &mut seen);
+    let Verdict::Allowed = judged else {
+        return Converted::Refused(why(judged));
+    };
+    let written = writer::write_xml(table, root, parse, record, due, scratch, out);
+    let Written::Xml(n) = written else {
+        return Converted::Refused(refusals::RESULT_TOO_LONG);
+    };
+    Converted::Xml(n)
+}
+
+// The same of a reading. The numbers noted of the entries are local: 65,536 bytes.
 pub fn convert(
     table: &[u32],
     root: usize,
@@ -48,20 +77,11 @@ pub fn convert(
     ensures { λ a. ⌜ ((g : Grammar) (t : Row) → Parsing (now (table .entry)) root (now (parse .entry)) (now («record» .entry)) g t
         → Concludes g (now («record» .entry)) t ambiguous mismatch (now (out .entry)) (now (out .exit)) a) ⌝ }
 {
-    let mut scratch = [0u32; NOTES];
-    let mut seen = [0u32; limits::READING_NUMBERS];
+    let mut scratch = [0u64; NOTES];
     left_parse::note(table, root, parse, &mut scratch);
-    let judged = dynamic_errors::first_error(table, root, parse, record, &mut scratch, &mut seen);
-    let Verdict::Allowed = judged else {
-        return Converted::Refused(why(judged));
-    };
     let due = StateWords {
         ambiguous,
         mismatch,
     };
-    let written = writer::write_xml(table, root, parse, record, due, &mut scratch, out);
-    let Written::Xml(n) = written else {
-        return Converted::Refused(refusals::RESULT_TOO_LONG);
-    };
-    Converted::Xml(n)
+    conclude(table, root, parse, record, due, &mut scratch, out)
 }

@@ -68,7 +68,7 @@ module _ {T P : List ℕ} {r : Text} {S₀ S : List ℕ} {c : Cursor} {k : Rest}
   ahead-enters a b = enters-at (A .walk) same-room (A .room) a b
 
   pub ahead-leaves : 0 < c .at .inner → Leaves S (c .at)
-  ahead-leaves some = leaves-at (A .walk) same-room (A .room) some
+  ahead-leaves some = leaves-at (A .walk) (A .scratch) same-room (A .room) some
 
   abbrev Seen : ℕ → Row → List Symbol → Type 0
   Seen j t ss = View T r (A .g) (A .starts) (c .at .item) (c .at .place .0) j t ss

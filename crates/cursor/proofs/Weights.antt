@@ -9,10 +9,10 @@ use Rattle.tree.specs.Tree.{Symbol, Grammar}
 use Rattle.derive.specs.Derive.{Row}
 use Rattle.items.specs.Items.{kindAt, Starts}
 use Rattle.left_parse.specs.declared.Position.{Position}
-use Rattle.left_parse.specs.Walk.{Frame, Walk, weight}
+use Rattle.left_parse.specs.Walk.{Frame, opened, Walk, weight}
 use Rattle.left_parse.specs.Steps.{Enters, Leaves}
 use Rattle.left_parse.proofs.Items.{View, v-end, v-leaf, v-node}
-use Rattle.left_parse.proofs.Walks.{spot, seen, node-list, falls, falls-on, later}
+use Rattle.left_parse.proofs.Walks.{spot, seen, node-list, open-inside, falls, falls-on, later}
 use Rattle.left_parse.proofs.After.{small-of}
 
 -- where a walk stands by its items
@@ -29,9 +29,11 @@ enters-at {T} {P} {S₀} {S} {r} {g} {starts} {e₁} {i₁} {h} {row} {ss} {fs} 
     go (v-node l k st b′ dc dt) W = node-list W .0
 
 pub leaves-at : {T P S₀ S : List ℕ} {r : Text} {g : Grammar} {starts : Starts} {e₁ i₁ : ℕ} {h : Position} {row : Row} {ss : List Symbol}
-    {fs : List Frame} → Walk T P r S₀ g starts e₁ i₁ h row ss fs → length S ≡ length S₀ → 2 * length P ≤ length S₀
+    {fs : List Frame} → Walk T P r S₀ g starts e₁ i₁ h row ss fs → S ≡ opened fs S₀ → length S ≡ length S₀ → 2 * length P ≤ length S₀
     → 0 < h .inner → Leaves S h
-leaves-at W len room some = let s = small-of W in record { some = some; room = omega (arith, W .deep, W .inside); entry = s .entry; place = s .place }
+leaves-at {S₀ = S₀} W e len room some =
+    let s = small-of W in
+    record { some = some; room = omega (arith, W .deep, W .inside); item = omega (arith, open-inside S₀ W e room some, W .table); entry = s .entry; place = s .place }
 
 -- weights
 module _ (T P : List ℕ) (h : Position) where

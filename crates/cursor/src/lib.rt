@@ -58,7 +58,7 @@ fn kind_in(table: &[u32], item: usize, value: usize) -> usize
 }
 
 // Over all that writes nothing.
-fn pass(table: &[u32], parse: &[u32], scratch: &mut [u32], from: Cursor) -> Cursor
+fn pass(table: &[u32], parse: &[u32], scratch: &mut [u64], from: Cursor) -> Cursor
     requires { ⌜ SomeAhead (now table) (now parse) (now scratch) from ⌝ }
     ensures { λ n. ⌜ Settled (now (table .entry)) (now (parse .entry)) (now (scratch .entry)) (now (scratch .exit)) from n ⌝ }
 {
@@ -84,7 +84,7 @@ fn pass(table: &[u32], parse: &[u32], scratch: &mut [u32], from: Cursor) -> Curs
         } else if h.inner == 0 {
             return c;
         } else {
-            let item = tokens::look(scratch, 2 * (h.inner - 1) + 1);
+            let item = left_parse::note_at(scratch, 2 * (h.inner - 1) + 1);
             if closes(table, item, value, h.inner) {
                 return c;
             }
@@ -95,7 +95,7 @@ fn pass(table: &[u32], parse: &[u32], scratch: &mut [u32], from: Cursor) -> Curs
 }
 
 // The same. Most often there is nothing to pass: what tells that is short enough to be inlined.
-fn settle(table: &[u32], parse: &[u32], scratch: &mut [u32], c: Cursor) -> Cursor
+fn settle(table: &[u32], parse: &[u32], scratch: &mut [u64], c: Cursor) -> Cursor
     requires { ⌜ SomeAhead (now table) (now parse) (now scratch) c ⌝ }
     ensures { λ n. ⌜ Settled (now (table .entry)) (now (parse .entry)) (now (scratch .entry)) (now (scratch .exit)) c n ⌝ }
 {
@@ -115,7 +115,7 @@ fn settle(table: &[u32], parse: &[u32], scratch: &mut [u32], c: Cursor) -> Curso
     if h.inner == 0 {
         return c;
     }
-    let item = tokens::look(scratch, 2 * (h.inner - 1) + 1);
+    let item = left_parse::note_at(scratch, 2 * (h.inner - 1) + 1);
     if closes(table, item, c.value, h.inner) {
         return c;
     }
@@ -123,7 +123,7 @@ fn settle(table: &[u32], parse: &[u32], scratch: &mut [u32], c: Cursor) -> Curso
 }
 
 // The event at a cursor that has nothing to pass.
-fn event_at(table: &[u32], parse: &[u32], scratch: &mut [u32], c: Cursor) -> Event
+fn event_at(table: &[u32], parse: &[u32], scratch: &mut [u64], c: Cursor) -> Event
     requires { ⌜ SomeAhead (now table) (now parse) (now scratch) c × Shown (now table) (now scratch) c ⌝ }
     ensures { λ r. ⌜ Next (now (table .entry)) (now (parse .entry)) (now (scratch .entry)) (now (scratch .exit)) c r ⌝ }
 {
@@ -141,13 +141,13 @@ fn event_at(table: &[u32], parse: &[u32], scratch: &mut [u32], c: Cursor) -> Eve
     if h.inner == 0 {
         return Event::End;
     }
-    let item = tokens::look(scratch, 2 * (h.inner - 1) + 1);
+    let item = left_parse::note_at(scratch, 2 * (h.inner - 1) + 1);
     let n = left_parse::leave(scratch, h);
     Event::Close(item, Cursor { at: n, value: 0 })
 }
 
 // What comes next, over all that writes nothing.
-pub fn next(table: &[u32], parse: &[u32], scratch: &mut [u32], from: Cursor) -> Event
+pub fn next(table: &[u32], parse: &[u32], scratch: &mut [u64], from: Cursor) -> Event
     requires { ⌜ SomeAhead (now table) (now parse) (now scratch) from ⌝ }
     ensures { λ r. ⌜ Next (now (table .entry)) (now (parse .entry)) (now (scratch .entry)) (now (scratch .exit)) from r ⌝ }
 {
@@ -164,7 +164,7 @@ pub fn text_at(table: &[u32], c: Cursor) -> Piece
 }
 
 // Over text.
-pub fn skip(table: &[u32], parse: &[u32], scratch: &[u32], c: Cursor) -> Cursor
+pub fn skip(table: &[u32], parse: &[u32], scratch: &[u64], c: Cursor) -> Cursor
     requires { ⌜ SomeText (now table) (now parse) (now scratch) c ⌝ }
     ensures { λ n. ⌜ Over (now (table .entry)) (now (parse .entry)) (now (scratch .entry)) c n ⌝ }
 {
@@ -175,7 +175,7 @@ pub fn skip(table: &[u32], parse: &[u32], scratch: &[u32], c: Cursor) -> Cursor
 }
 
 // Into an element, or into an attribute's value.
-pub fn enter(table: &[u32], parse: &[u32], scratch: &mut [u32], c: Cursor) -> Cursor
+pub fn enter(table: &[u32], parse: &[u32], scratch: &mut [u64], c: Cursor) -> Cursor
     requires { ⌜ ((r : Text) × SomeNode (now table) (now parse) r (now scratch) c) ⌝ }
     ensures { λ r. ⌜ Entered (now (table .entry)) (now (parse .entry)) (now (scratch .entry)) (now (scratch .exit)) c r ⌝ }
 {
@@ -189,7 +189,7 @@ pub fn enter(table: &[u32], parse: &[u32], scratch: &mut [u32], c: Cursor) -> Cu
 }
 
 // Over an element or an attribute.
-pub fn past(table: &[u32], parse: &[u32], scratch: &[u32], c: Cursor) -> Cursor
+pub fn past(table: &[u32], parse: &[u32], scratch: &[u64], c: Cursor) -> Cursor
     requires { ⌜ ((r : Text) × SomeNode (now table) (now parse) r (now scratch) c) ⌝ }
     ensures { λ r. ⌜ Past (now (table .entry)) (now (parse .entry)) (now (scratch .entry)) c r ⌝ }
 {
@@ -200,7 +200,7 @@ pub fn past(table: &[u32], parse: &[u32], scratch: &[u32], c: Cursor) -> Cursor
 }
 
 // Before what stands in an element, as a walk of its own.
-pub fn inside(table: &[u32], parse: &[u32], scratch: &[u32], c: Cursor) -> Cursor
+pub fn inside(table: &[u32], parse: &[u32], scratch: &[u64], c: Cursor) -> Cursor
     requires { ⌜ ((r : Text) × SomeNode (now table) (now parse) r (now scratch) c) ⌝ }
     ensures { λ r. ⌜ Inside (now (table .entry)) (now (parse .entry)) (now (scratch .entry)) c r ⌝ }
 {

@@ -10,6 +10,7 @@ ghost use Rattle.left_parse.specs.Steps.{Named};
 ghost use Rattle.cursor.specs.Ahead.{SomeRow, SomeNode};
 ghost use Rattle.writer.specs.Whole.{Some as SomeJob};
 ghost use Rattle.xml_shape.specs.Judges.{Judges};
+ghost use Rattle.xml_shape.specs.Names.{nameTokens};
 ghost use Rattle.dynamic_errors.specs.Within.{Repeats, RowFound};
 ghost use Rattle.dynamic_errors.specs.Judgment.{topmost, withinRoot, misnamedIn, notOneIn, verdictNumber, RowJudged, Judged};
 use cursor::Cursor;
@@ -25,11 +26,11 @@ const ATTRIBUTE_HEAD: usize = tokens::RULE_HEAD_ATTRIBUTE as usize;
 fn repeats_in(
     table: &[u32],
     parse: &[u32],
-    scratch: &mut [u32],
+    scratch: &mut [u64],
     seen: &mut [u32],
     c: Cursor,
 ) -> bool
-    requires { ⌜ length (now parse) ≤ length (now seen) ⌝ }
+    requires { ⌜ nameTokens ≤ length (now seen) ⌝ }
     requires { ⌜ (kindAt (now table) (c .at .item) ≡ 2) × ((r : Text) × SomeNode (now table) (now parse) r (now scratch) c) ⌝ }
     ensures { λ b. ⌜ Repeats (now (table .entry)) (now (parse .entry)) (now (scratch .entry)) (now (scratch .exit)) c b ⌝ }
 {
@@ -48,11 +49,11 @@ fn found_in(
     table: &[u32],
     parse: &[u32],
     record: &[u32],
-    scratch: &mut [u32],
+    scratch: &mut [u64],
     seen: &mut [u32],
     first: Cursor,
 ) -> Findings
-    requires { ⌜ (length (now parse) ≤ length (now seen)) × SomeRow (now table) (now parse) (now «record») (now scratch) first ⌝ }
+    requires { ⌜ (nameTokens ≤ length (now seen)) × SomeRow (now table) (now parse) (now «record») (now scratch) first ⌝ }
     ensures { λ f. ⌜ RowFound (now (table .entry)) (now (parse .entry)) (now («record» .entry)) (now (scratch .entry)) (now (scratch .exit)) first f ⌝ }
 {
     let mut twice = false;
@@ -89,13 +90,13 @@ fn found_in(
 fn twice_in(
     table: &[u32],
     parse: &[u32],
-    scratch: &mut [u32],
+    scratch: &mut [u64],
     seen: &mut [u32],
     first: Cursor,
     deleted: bool,
     within: bool,
 ) -> bool
-    requires { ⌜ length (now parse) ≤ length (now seen) ⌝ }
+    requires { ⌜ nameTokens ≤ length (now seen) ⌝ }
     requires { ⌜ ((r : Text) × SomeRow (now table) (now parse) r (now scratch) first) ⌝ }
     ensures { λ b. ⌜ Judges (λ x. withinRoot deleted x within) (now (table .entry)) (now (parse .entry)) (now (scratch .entry)) (now (scratch .exit)) first b ⌝ }
 {
@@ -122,7 +123,7 @@ fn misnamed_in(table: &[u32], head: usize, deleted: bool, found: bool) -> bool
 fn not_one_in(
     table: &[u32],
     parse: &[u32],
-    scratch: &mut [u32],
+    scratch: &mut [u64],
     first: Cursor,
     deleted: bool,
 ) -> bool
@@ -180,12 +181,12 @@ fn judge_row(
     table: &[u32],
     parse: &[u32],
     record: &[u32],
-    scratch: &mut [u32],
+    scratch: &mut [u64],
     seen: &mut [u32],
     head: usize,
     first: Cursor,
 ) -> Verdict
-    requires { ⌜ (length (now parse) ≤ length (now seen)) × (head < 4294967298) ⌝ }
+    requires { ⌜ (nameTokens ≤ length (now seen)) × (head < 4294967298) ⌝ }
     requires { ⌜ SomeRow (now table) (now parse) (now «record») (now scratch) first ⌝ }
     ensures { λ v. ⌜ RowJudged (now (table .entry)) (now (parse .entry)) (now («record» .entry)) (now (scratch .entry)) (now (scratch .exit)) head first v ⌝ }
 {
@@ -213,10 +214,10 @@ pub fn first_error(
     root: usize,
     parse: &[u32],
     record: &[u32],
-    scratch: &mut [u32],
+    scratch: &mut [u64],
     seen: &mut [u32],
 ) -> Verdict
-    requires { ⌜ length (now parse) ≤ length (now seen) ⌝ }
+    requires { ⌜ nameTokens ≤ length (now seen) ⌝ }
     requires { ⌜ Room (now table) (now parse) (now scratch) × SomeJob (now table) root (now parse) (now «record») (now scratch) ⌝ }
     ensures { λ v. ⌜ Judged (now (table .entry)) root (now (parse .entry)) (now («record» .entry)) (now (scratch .entry)) (now (scratch .exit)) v ⌝ }
 {

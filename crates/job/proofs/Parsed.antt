@@ -2,15 +2,19 @@
 use mathlib.Core.Bool.{Bool, false, _&&_}
 use mathlib.Core.Path.{_≡_, ap, _∙_, subst}
 use mathlib.Core.Logic.{⊎-elim}
-use mathlib.Core.List.{List}
+use mathlib.Core.List.{List, _∷_}
 use Prim.Native.Nat.{ℕ}
 use native.Mathlib.Omega.{arith}
-use lib.Dec.{eqb}
+use lib.Dec.{eqb, ltb}
+use lib.ListN.{length}
+use Rattle.text.specs.Limits.{readingNumbers}
+use Rattle.derive.specs.Derive.{leftParse}
+use Rattle.derive.specs.Pick.{chosenOf}
 use borrow.Author.Tests.{ne-eqb}
 use Rattle.text.specs.Stages.{numberOf, diagnosticOf, plainly}
 use Rattle.text.specs.declared.Diagnostic.{Diagnostic}
 use Rattle.answer.specs.Answer.{Job}
-use Rattle.answer.specs.Compute.{mismatch}
+use Rattle.answer.specs.Compute.{mismatch, test, noneTest, onReading}
 use Rattle.job.specs.declared.Start.{Start}
 use Rattle.job.specs.declared.Found.{Found}
 use Rattle.job.specs.declared.Begun.{Begun}
@@ -30,7 +34,12 @@ module _ (j : Job) (T new : List ℕ) where
   ended b k n q e w =
       let s = subst (Begins j T new) q w in
       let h : n ≡ k = e ∙ ap (λ (x : Begun). diagnosticOf (begunOf x)) q in
-      rw h (record { some = s .some; is = s .is; version = rw (ne-eqb (k .number) 16 (λ z. ⊎-elim (λ l. omega arith) (λ l. omega arith) (s .early))); places = s .places })
+      rw h (record {
+        some = s .some;
+        is = λ ts. s .is (noneTest 16 chosenOf j ∷ test 29 (λ _. onReading j (λ g r t. ltb readingNumbers (length (leftParse t)))) ∷ ts);
+        version = rw (ne-eqb (k .number) 16 (λ z. ⊎-elim (λ l. omega arith) (λ l. omega arith) (s .early)));
+        places = s .places;
+      })
 
   module _ (s : Start) (w : Started j T new s) (P : List ℕ) (r : Read) where
     -- there is no reading, or it is too long

@@ -7,7 +7,6 @@ use Prim.Native.Nat.{ℕ, _≤_, _<_}
 use native.Mathlib.Omega.{arith}
 use lib.Dec.{ltb, eqb}
 use lib.ListN.{length}
-use borrow.Author.Tests.{lt-ltb, le-ltb}
 use Rattle.text.specs.Limits.{grammarTable, recordChars}
 use Rattle.text.specs.Stages.{diagnosticOf, plainly}
 use Rattle.text.specs.Utf8.{known}
@@ -16,8 +15,8 @@ use Rattle.text.specs.Faults.{every, afterMark}
 use Rattle.text.specs.declared.Diagnostic.{Diagnostic}
 use Rattle.text.specs.declared.CharPlace.{CharPlace}
 use Rattle.plain.specs.Plain.{size}
-use Rattle.answer.specs.Answer.{Job, tableNeed}
-use Rattle.answer.specs.Compute.{firstOf, grammarTests, recordTests, Value, value, valueAt, placesAt, placeValues, checkValues, jobValues}
+use Rattle.answer.specs.Answer.{Job, Need, mainNeed, tableNeed}
+use Rattle.answer.specs.Compute.{firstOf, grammarTests, needTests, Value, value, valueAt, placesAt, placeValues, checkValues, jobValues}
 use Rattle.answer.proofs.Noted.{value-skip}
 use Rattle.answer.proofs.Stages.{stage-15}
 use Rattle.load.specs.Loaded.{Turned}
@@ -27,8 +26,10 @@ use Rattle.accept.specs.declared.Accepted.the-variants.{Grammar as A-grammar, R
 use Rattle.accept.specs.Accepted.{stageOf, Kept, Accepts}
 use Rattle.job.specs.declared.Taken.{Taken}
 use Rattle.job.specs.declared.Taken.the-variants.{Chars, Refused}
+use Rattle.job.specs.declared.Start.{Start}
+use Rattle.job.specs.declared.Begun.{Begun}
 use Rattle.job.specs.declared.Begun.the-variants.{At, Refused as Ended}
-use Rattle.job.specs.Stages.{takenOf, Got, Takes, Begins}
+use Rattle.job.specs.Stages.{takenOf, begunOf, Takes, Opened, lending, NotBegun, Opens, BeginsBy}
 
 -- the place of a value depends on those after it no more than they differ
 value-cong : (v : Value) (vs ws : List Value) (n : ℕ) → valueAt vs n ≡ valueAt ws n → valueAt (v ∷ vs) n ≡ valueAt (v ∷ ws) n
@@ -51,59 +52,70 @@ module _ (j : Job) (T new : List ℕ) where
       let e = value-cong two (three ∷ []) (three ∷ twelve ∷ thirteen ∷ []) n rest in
       λ ι. record { byte = e ι; fault = 0; grammar = valueAt (placeValues (j .grammar)) n }
 
-  pub ends-grammar : (d : Accepted) (k n : Diagnostic) → d ≡ Turned-down k → n ≡ diagnosticOf (stageOf d) → Accepts (j .grammar) T d → Begins j T new (Ended n)
-  ends-grammar d k n q e l =
+  -- 1 to 11, and 24
+  pub ends-grammar : (need : Need) (d : Accepted) (k n : Diagnostic) → d ≡ Turned-down k → n ≡ diagnosticOf (stageOf d) → Accepts (j .grammar) T d → NotBegun need j n
+  ends-grammar need d k n q e l =
       let w : n ≡ k = e ∙ ap (λ (x : Accepted). diagnosticOf (stageOf x)) q in
       let t : Turned (j .grammar) k = subst (Accepts (j .grammar) T) q l in
       rw w (record {
         some = t .some;
         early = ⊎-elim (λ l. inl (omega arith)) inr (t .early);
-        is = λ ts. t .first (recordTests j ts);
+        is = λ ts. t .first (needTests need j ts);
         places = t .places ∙ same-places (k .number) (λ e. ⊎-elim (λ l. omega arith) (λ l. omega arith) (t .early)) (λ e. ⊎-elim (λ l. omega arith) (λ l. omega arith) (t .early));
       })
 
-  module _ (d : Accepted) (p : Rules) (q : d ≡ A-grammar p) (l : Accepts (j .grammar) T d) where
-    kept : Kept (j .grammar) T p
-    kept = subst (Accepts (j .grammar) T) q l
+  -- 12 to 14
+  pub ends-record : (need : Need) (d : Accepted) (p : Rules) → d ≡ A-grammar p → Accepts (j .grammar) T d → (x : Taken) (k n : Diagnostic) → x ≡ Refused k
+      → n ≡ diagnosticOf (takenOf x) → Takes (j .input) new x → NotBegun need j n
+  ends-record need d p q l x k n e f t =
+      let kept : Kept (j .grammar) T p = subst (Accepts (j .grammar) T) q l in
+      let w : n ≡ k = f ∙ ap (λ (z : Taken). diagnosticOf (takenOf z)) e in
+      let s = subst (Takes (j .input) new) e t need j refl in
+      rw w (record { some = s .some; early = s .early; is = λ ts. kept .first (needTests need j ts) ∙ s .is ts; places = s .places })
 
-    pub small : p .size ≤ 512
-    small = omega (arith, kept .sized, kept .small)
+module _ (gs rs T new : List ℕ) where
+  pub opens-grammar : (d : Accepted) (k n : Diagnostic) → d ≡ Turned-down k → n ≡ diagnosticOf (stageOf d) → Accepts gs T d → Opens gs rs T new (Ended n)
+  opens-grammar d k n q e l = λ need j eg er. ends-grammar j T new need d k n q e (subst (λ (bs : List ℕ). Accepts bs T d) (sym eg) l)
 
-    pub ends-record : (x : Taken) (k n : Diagnostic) → x ≡ Refused k → n ≡ diagnosticOf (takenOf x) → Takes (j .input) new x → Begins j T new (Ended n)
-    ends-record x k n e f t =
-        let w : n ≡ k = f ∙ ap (λ (z : Taken). diagnosticOf (takenOf z)) e in
-        let s = subst (Takes (j .input) new) e t j refl in
-        rw w (record { some = s .some; early = s .early; is = λ ts. kept .first (recordTests j ts) ∙ s .is ts; places = s .places })
+  module _ (d : Accepted) (p : Rules) (q : d ≡ A-grammar p) (l : Accepts gs T d) where
+    pub opens-record : (x : Taken) (k n : Diagnostic) → x ≡ Refused k → n ≡ diagnosticOf (takenOf x) → Takes rs new x → Opens gs rs T new (Ended n)
+    opens-record x k n e f t = λ need j eg er.
+        ends-record j T new need d p q (subst (λ (bs : List ℕ). Accepts bs T d) (sym eg) l) x k n e f (subst (λ (bs : List ℕ). Takes bs new x) (sym er) t)
 
-    module _ (x : Taken) (n : CharPlace) (e : x ≡ Chars n) (t : Takes (j .input) new x) where
-      got : Got (j .input) new (n .0)
-      got = subst (Takes (j .input) new) e t
+    pub opens-at : (x : Taken) (n : CharPlace) → x ≡ Chars n → Takes rs new x → Opens gs rs T new (At (record { rules = p; chars = n }))
+    opens-at x n e t = record { grammar = subst (Accepts gs T) q l; input = subst (Takes rs new) e t }
 
-      pub few : n .0 ≤ recordChars
-      few = omega (arith, got .count, got .short)
+-- 15
+module _ (need : Need) (j : Job) (T new : List ℕ) (b : Begun) (o : Opens (j .grammar) (j .input) T new b) where
+  pub begins-ended : (k n : Diagnostic) → b ≡ Ended k → n ≡ diagnosticOf (begunOf b) → BeginsBy need j T new (Ended n)
+  begins-ended k n q e =
+      let h : n ≡ k = e ∙ ap (λ (x : Begun). diagnosticOf (begunOf x)) q in
+      let s = subst (Opens (j .grammar) (j .input) T new) q o in
+      rw h (s need j refl refl)
 
-      refused : (ltb (j .mainTable) (tableNeed (size (kept .tree)) (length (got .chars))) || ltb (j .secondTable) grammarTable) ≡ true → Begins j T new (Ended (plainly 15))
-      refused w =
-          record {
-            some = λ e. omega arith;
-            early = inl (omega arith);
-            places = refl;
-            is = λ ts. kept .first (recordTests j ts) ∙ stage-15 j ts (got .chars) (got .decoded) (got .within) (got .short) (kept .tree)
-                (kept .is) w;
-          }
+  module _ (s : Start) (q : b ≡ At s) where
+    pub opened : Opened (j .grammar) (j .input) T new s
+    opened = subst (Opens (j .grammar) (j .input) T new) q o
 
-      need-is : (k : ℕ) → k ≡ tableNeed (p .size) (n .0) → k ≡ tableNeed (size (kept .tree)) (length (got .chars))
-      need-is k f = f ∙ ap (λ (s : ℕ). tableNeed s (n .0)) (kept .sized) ∙ ap (tableNeed (size (kept .tree))) (got .count)
+    pub small : s .rules .size ≤ 512
+    small = omega (arith, opened .grammar .sized, opened .grammar .small)
 
-      pub ends-main : (k : ℕ) → k ≡ tableNeed (p .size) (n .0) → j .mainTable < k → Begins j T new (Ended (plainly 15))
-      ends-main k f h = refused (rw (lt-ltb (j .mainTable) (tableNeed (size (kept .tree)) (length (got .chars))) (omega (arith, need-is k f))))
+    pub few : s .chars .0 ≤ recordChars
+    few = omega (arith, opened .input .count, opened .input .short)
 
-      module _ (k : ℕ) (f : k ≡ tableNeed (p .size) (n .0)) (h : k ≤ j .mainTable) where
-        main-enough : ltb (j .mainTable) (tableNeed (size (kept .tree)) (length (got .chars))) ≡ false
-        main-enough = le-ltb (j .mainTable) (tableNeed (size (kept .tree)) (length (got .chars))) (omega (arith, need-is k f))
+    pub begins-lent : (k : ℕ) → k ≡ need (opened .grammar .tree) (opened .input .chars) → (r : Begun) → r ≡ lending s (ltb (j .mainTable) k || ltb (j .secondTable) grammarTable)
+        → BeginsBy need j T new r
+    begins-lent k f r e = rw e (go (ltb (j .mainTable) k || ltb (j .secondTable) grammarTable) (ap (λ (n : ℕ). ltb (j .mainTable) n || ltb (j .secondTable) grammarTable) (sym f)))
+      where
+        go : (c : Bool) → (ltb (j .mainTable) (need (opened .grammar .tree) (opened .input .chars)) || ltb (j .secondTable) grammarTable) ≡ c → BeginsBy need j T new (lending s c)
+        go true w = record {
+          some = λ e. omega arith;
+          early = inl (omega arith);
+          places = refl;
+          is = λ ts. opened .grammar .first (needTests need j ts) ∙ stage-15 need j ts (opened .input .chars) (opened .input .decoded) (opened .input .within) (opened .input .short)
+              (opened .grammar .tree) (opened .grammar .is) w;
+        }
+        go false w = record { grammar = opened .grammar; input = opened .input; enough = w }
 
-        pub ends-second : j .secondTable < 16384 → Begins j T new (Ended (plainly 15))
-        ends-second i = refused (rw (main-enough, lt-ltb (j .secondTable) grammarTable i))
-
-        pub begun : 16384 ≤ j .secondTable → Begins j T new (At (record { rules = p; chars = n }))
-        begun i = record { grammar = kept; input = got; enough = rw (main-enough, le-ltb (j .secondTable) grammarTable i) }
+pub need-is : {gs rs T new : List ℕ} {s : Start} (o : Opened gs rs T new s) (k : ℕ) → k ≡ tableNeed (s .rules .size) (s .chars .0) → k ≡ mainNeed (o .grammar .tree) (o .input .chars)
+need-is {s = s} o k f = f ∙ ap (λ (n : ℕ). tableNeed n (s .chars .0)) (o .grammar .sized) ∙ ap (tableNeed (size (o .grammar .tree))) (o .input .count)

@@ -46,14 +46,14 @@ module _ (bs old new : List ℕ) (r : Decoding) (w : Decodes bs 0 old r new) whe
       go : {d : Decoding} → Stops bs 0 d → Tells (decode bs) d → (whyOf 12 13 d .number ≡ 0 → ⊥) → Takes bs new (Refused (whyOf 12 13 d))
       go a (tells-of x) z = absurd (z refl)
       go (cut-short {p = p} b c) (tells-cut x) z =
-          λ j q. record { some = z; early = inl (omega arith); is = λ ts. stage-12 j ts (ap decode q ∙ x); places = at every 12 p b j q }
+          λ need j q. record { some = z; early = inl (omega arith); is = λ ts. stage-12 need j ts (ap decode q ∙ x); places = at every 12 p b j q }
       go (malformed {p = p} b c) (tells-malformed x) z =
-          λ j q. record { some = z; early = inl (omega arith); is = λ ts. stage-12 j ts (ap decode q ∙ x); places = at every 12 p b j q }
+          λ need j q. record { some = z; early = inl (omega arith); is = λ ts. stage-12 need j ts (ap decode q ∙ x); places = at every 12 p b j q }
       go (unknown {p = p} cs v b) (tells-unknown x) z =
-          λ j q. record {
+          λ need j q. record {
             some = z;
             early = inl (omega arith);
-            is = λ ts. stage-13 j ts (x .chars) (ap decode q ∙ x .is) (x .outside);
+            is = λ ts. stage-13 need j ts (x .chars) (ap decode q ∙ x .is) (x .outside);
             places = at alphabet 13 p b j q;
           }
 
@@ -69,10 +69,10 @@ module _ (bs old new : List ℕ) (r : Decoding) (w : Decodes bs 0 old r new) whe
 
     pub too-many : (n : Diagnostic) → n ≡ plainly 14 → recordChars < k .0 → Takes bs new (Refused n)
     too-many n u h =
-        rw u (λ j q. record {
+        rw u (λ need j q. record {
           some = λ e. omega arith;
           early = inl (omega arith);
-          is = λ ts. stage-14 j ts (known .chars) (ap decode q ∙ known .is) (known .within) (let c = known .count in omega arith);
+          is = λ ts. stage-14 need j ts (known .chars) (ap decode q ∙ known .is) (known .within) (let c = known .count in omega arith);
           places = refl;
         })
 

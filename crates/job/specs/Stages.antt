@@ -1,5 +1,5 @@
 -- What the stages of a job answer.
-use mathlib.Core.Bool.{true, false, _||_}
+use mathlib.Core.Bool.{Bool, true, false, _||_}
 use mathlib.Core.Path.{_≡_}
 use mathlib.Core.Logic.{_⊎_}
 use mathlib.Core.List.{List}
@@ -7,14 +7,13 @@ use Prim.Native.Nat.{ℕ, _≤_}
 use lib.Dec.{ltb}
 use lib.ListN.{length, take}
 use Rattle.text.specs.Limits.{recordChars, grammarTable}
-use Rattle.text.specs.Lists.{Text, all}
-use Rattle.text.specs.Stages.{StageAnswer, answered, refused, Settles}
+use Rattle.text.specs.Lists.{Text, all, pick}
+use Rattle.text.specs.Stages.{StageAnswer, answered, refused, Settles, plainly}
 use Rattle.text.specs.declared.Diagnostic.{Diagnostic}
 use Rattle.text.specs.Utf8.{known}
 use Rattle.text.specs.Decode.{text, decode}
-use Rattle.plain.specs.Plain.{size}
-use Rattle.answer.specs.Answer.{Job, tableNeed}
-use Rattle.answer.specs.Compute.{Test, firstOf, grammarTests, recordTests, placesAt, jobValues}
+use Rattle.answer.specs.Answer.{Job, Need, mainNeed}
+use Rattle.answer.specs.Compute.{Test, firstOf, grammarTests, needTests, placesAt, jobValues}
 use Rattle.load.specs.Loaded.{placesOf}
 use Rattle.accept.specs.Accepted.{Kept}
 use Rattle.job.specs.declared.Taken.{Taken}
@@ -45,18 +44,39 @@ takenOf (Chars n) = answered (n .0)
 takenOf (Refused d) = refused d
 
 abbrev pub Takes : List ℕ → List ℕ → Taken → Type 0
-Takes bs new r = Settles (Got bs new) (λ d. (j : Job) → j .input ≡ bs → Stopped (λ ts. firstOf (recordTests j ts)) j d) (takenOf r)
+Takes bs new r = Settles (Got bs new) (λ d. (need : Need) (j : Job) → j .input ≡ bs → Stopped (λ ts. firstOf (needTests need j ts)) j d) (takenOf r)
 
--- none of 1 to 15 applies, nor 24: the table has the grammar's tokens and plain rules, the buffer the record's characters
-pub record Started (j : Job) (T new : List ℕ) (s : Start) : Type 0 where
+-- none of 1 to 14 applies, nor 24: the table has the grammar's tokens and plain rules, the buffer the record's characters
+pub record Opened (gs rs : List ℕ) (T new : List ℕ) (s : Start) : Type 0 where
+  pub grammar : Kept gs T (s .rules)
+  pub input : Got rs new (s .chars .0)
+
+-- nor 15, by what the first table needs
+pub record StartedBy (need : Need) (j : Job) (T new : List ℕ) (s : Start) : Type 0 where
   pub grammar : Kept (j .grammar) T (s .rules)
   pub input : Got (j .input) new (s .chars .0)
-  pub enough : (ltb (j .mainTable) (tableNeed (size (grammar .tree)) (length (input .chars))) || ltb (j .secondTable) grammarTable) ≡ false
+  pub enough : (ltb (j .mainTable) (need (grammar .tree) (input .chars)) || ltb (j .secondTable) grammarTable) ≡ false
+
+abbrev pub Started : Job → List ℕ → List ℕ → Start → Type 0
+Started = StartedBy mainNeed
 
 -- document 01's number and values for each case
 abbrev pub begunOf : Begun → StageAnswer Start Diagnostic
 begunOf (At s) = answered s
 begunOf (Ended d) = refused d
 
+-- 15, by a test
+abbrev pub lending : Start → Bool → Begun
+lending s b = pick b (Ended (plainly 15)) (At s)
+
+abbrev pub NotBegun : Need → Job → Diagnostic → Type 0
+NotBegun need j = Stopped (λ ts. firstOf (grammarTests (j .grammar) (needTests need j ts))) j
+
+abbrev pub Opens : List ℕ → List ℕ → List ℕ → List ℕ → Begun → Type 0
+Opens gs rs T new r = Settles (Opened gs rs T new) (λ d. (need : Need) (j : Job) → j .grammar ≡ gs → j .input ≡ rs → NotBegun need j d) (begunOf r)
+
+abbrev pub BeginsBy : Need → Job → List ℕ → List ℕ → Begun → Type 0
+BeginsBy need j T new r = Settles (StartedBy need j T new) (NotBegun need j) (begunOf r)
+
 abbrev pub Begins : Job → List ℕ → List ℕ → Begun → Type 0
-Begins j T new r = Settles (Started j T new) (Stopped (λ ts. firstOf (grammarTests (j .grammar) (recordTests j ts))) j) (begunOf r)
+Begins = BeginsBy mainNeed

@@ -1,13 +1,15 @@
 // The stages of a job, from its bytes to the chosen reading. The first stage that refuses ends it.
 ghost use mathlib.Core.Path.{_≡_};
-ghost use Prim.Native.Nat.{_≤_};
+ghost use mathlib.Core.Bool.{_||_};
+ghost use Prim.Native.Nat.{_*_, _<_, _≤_};
+ghost use lib.Dec.{ltb};
 ghost use lib.ListN.{length};
 ghost use Rattle.text.specs.Limits.{grammarTable, recordChars, mostSize};
 ghost use Rattle.answer.specs.Answer.{Job, tableNeed};
 ghost use Rattle.answer.specs.Answer.{job};
 ghost use Rattle.text.specs.Stages.{numberOf, diagnosticOf};
 ghost use Rattle.reading.specs.Answer.{stageOf as walkedOf};
-ghost use Rattle.job.specs.Stages.{takenOf, begunOf, Takes, Started, Begins};
+ghost use Rattle.job.specs.Stages.{takenOf, begunOf, Takes, Started, Opens, lending, Begins, BeginsBy};
 ghost use Rattle.job.specs.Found.{foundOf, Readable, Ends};
 ghost use Rattle.job.specs.Parses.{whyRefused, Lent, Parses};
 use accept::Accepted;
@@ -72,7 +74,36 @@ fn why_taken(taken: Taken) -> Diagnostic
     }
 }
 
-// 1 to 15, and 24. The lent tables are known by their lengths.
+// 1 to 14, and 24.
+fn open_job(grammar: &[u8], record: &[u8], table: &mut [u32], text: &mut [u32]) -> Begun
+    requires { ⌜ (length (now table) ≡ grammarTable) × (length (now text) ≡ recordChars) ⌝ }
+    ensures { λ r. ⌜ Opens (now (grammar .entry)) (now («record» .entry)) (now (table .exit)) (now (text .exit)) r ⌝ }
+{
+    let accepted = accept::accept_grammar(grammar, table);
+    let Accepted::Grammar(rules) = accepted else {
+        return Begun::Refused(accept::why_not_accepted(accepted));
+    };
+    let taken = take_record(record, text);
+    let Taken::Chars(chars) = taken else {
+        return Begun::Refused(why_taken(taken));
+    };
+    Begun::At(Start { rules, chars })
+}
+
+// 15: the first table is shorter than its need, or the second too short.
+fn lend(start: Start, first: usize, need: usize, second: usize) -> Begun
+    ensures { λ r. ⌜ r ≡ lending start (ltb first need || ltb second grammarTable) ⌝ }
+{
+    if first < need {
+        return Begun::Refused(text::plain(refusals::TABLE_TOO_SHORT));
+    }
+    if second < limits::GRAMMAR_TABLE {
+        return Begun::Refused(text::plain(refusals::TABLE_TOO_SHORT));
+    }
+    Begun::At(start)
+}
+
+// 1 to 15, and 24, of a job that is read. The lent tables are known by their lengths.
 fn begin(
     grammar: &[u8],
     record: &[u8],
@@ -84,21 +115,35 @@ fn begin(
     requires { ⌜ (length (now table) ≡ grammarTable) × (length (now text) ≡ recordChars) ⌝ }
     ensures { λ r. ⌜ Begins (job (now (grammar .entry)) (now («record» .entry)) main second) (now (table .exit)) (now (text .exit)) r ⌝ }
 {
-    let accepted = accept::accept_grammar(grammar, table);
-    let Accepted::Grammar(rules) = accepted else {
-        return Begun::Refused(accept::why_not_accepted(accepted));
+    let opened = open_job(grammar, record, table, text);
+    let Begun::At(start) = opened else {
+        return Begun::Refused(why_begun(opened));
     };
-    let taken = take_record(record, text);
-    let Taken::Chars(chars) = taken else {
-        return Begun::Refused(why_taken(taken));
+    let rules = start.rules;
+    let chars = start.chars;
+    let need = need(rules.size, chars.0);
+    lend(start, main, need, second)
+}
+
+// The same of a job whose list of so many numbers is judged: the first table is the scratch.
+pub fn begin_list(
+    grammar: &[u8],
+    record: &[u8],
+    numbers: usize,
+    scratch: usize,
+    second: usize,
+    table: &mut [u32],
+    text: &mut [u32],
+) -> Begun
+    requires { ⌜ numbers < 4611686018427387904 ⌝ }
+    requires { ⌜ (length (now table) ≡ grammarTable) × (length (now text) ≡ recordChars) ⌝ }
+    ensures { λ r. ⌜ BeginsBy (λ g r. 2 * numbers) (job (now (grammar .entry)) (now («record» .entry)) scratch second) (now (table .exit)) (now (text .exit)) r ⌝ }
+{
+    let opened = open_job(grammar, record, table, text);
+    let Begun::At(start) = opened else {
+        return Begun::Refused(why_begun(opened));
     };
-    if main < need(rules.size, chars.0) {
-        return Begun::Refused(text::plain(refusals::TABLE_TOO_SHORT));
-    }
-    if second < limits::GRAMMAR_TABLE {
-        return Begun::Refused(text::plain(refusals::TABLE_TOO_SHORT));
-    }
-    Begun::At(Start { rules, chars })
+    lend(start, scratch, 2 * numbers, second)
 }
 
 // The chosen reading: how many numbers it has, and whether there is a second derivation.
@@ -152,7 +197,7 @@ fn read_record(
     Read::Reading(Found { count, ambiguous })
 }
 
-fn why_begun(begun: Begun) -> Diagnostic
+pub fn why_begun(begun: Begun) -> Diagnostic
     ensures { λ r. ⌜ r ≡ diagnosticOf (begunOf begun) ⌝ }
 {
     match begun {

@@ -152,6 +152,34 @@ module _ {T : List ℕ} {g : Grammar} {starts : Starts} where
       go (al-last sp k) q = rw q at sp
       go (al-more sp k al) q = rw q at sp
 
+-- alternatives are counted
+pub record Counting (T : List ℕ) (g : Grammar) (starts : Starts) (number x a total : ℕ) : Type 0 where
+  pub left : List (List Symbol)
+  pub stands : Alternatives T g starts x left
+  pub sum : a + total ≡ number + length left
+
+module _ {T : List ℕ} {g : Grammar} {starts : Starts} where
+  pub counting-on : {number x a total : ℕ} → Counting T g starts number x a total → 0 < a → (e : ℕ)
+      → ((ts : List Symbol) → Spells T g starts x ts → e ≡ x + length ts)
+      → (kindAt T e ≡ 5 → Counting T g starts number (e + 1) (a - 1) total) × ((kindAt T e ≡ 5 → ⊥) → total ≤ number)
+  counting-on {number} {x} {a} {total} C h e f = go (C .stands) (C .sum)
+    where
+      go : {left : List (List Symbol)} → Alternatives T g starts x left → a + total ≡ number + length left
+          → (kindAt T e ≡ 5 → Counting T g starts number (e + 1) (a - 1) total) × ((kindAt T e ≡ 5 → ⊥) → total ≤ number)
+      go (al-last {ss = us} sp k) q = let p = f us sp in let k′ : kindAt T e ≡ 6 = rw p k in (λ z. absurd (omega arith), λ z. omega arith)
+      go (al-more {ss = us} {ts = ts} sp k al) q =
+          let p = f us sp in
+          let z : x + (length us + 1) ≡ e + 1 = omega arith in
+          let k′ : kindAt T e ≡ 5 = rw p k in
+          (λ y. record { left = ts; stands = rw z at al; sum = omega arith }, λ y. absurd (y k′))
+
+  pub counting-end : {number x total : ℕ} → Counting T g starts number x 0 total → number < total
+  counting-end {number} {x} {total} C = go (C .stands) (C .sum)
+    where
+      go : {left : List (List Symbol)} → Alternatives T g starts x left → 0 + total ≡ number + length left → number < total
+      go (al-last sp k) q = omega arith
+      go (al-more sp k al) q = omega arith
+
 -- the width of a terminal, by its token
 pub mark-number : (m : Mark) → markNumber m ≤ 3
 mark-number unmarked = omega arith

@@ -18,7 +18,7 @@ use Rattle.left_parse.specs.Walk.{Frame, opened, Chain, bottom, link, Wa
 use Rattle.left_parse.specs.Steps.{Found, Wide, Enters, Entered, Leaves, Left, Going, Stepped}
 use Rattle.left_parse.proofs.Items.{View, v-end, v-leaf, v-node, alternatives-of}
 use Rattle.left_parse.proofs.Scratch.{opened-length, opened-past, opened-over, opened-back, link-of, item-of, noted-same, Has, notes-of}
-use Rattle.left_parse.proofs.Walks.{spot, frame, seen, walk-leaf, walk-enter, walk-leave, node-ends, node-list, walk-over, item-inside, place-inside, falls, falls-on, later}
+use Rattle.left_parse.proofs.Walks.{spot, frame, seen, walk-leaf, walk-enter, walk-leave, node-ends, node-list, walk-over, item-inside, place-inside, open-inside, falls, falls-on, later}
 
 -- what an alternative's number finds
 pub found-at : {T P S : List ℕ} {r : Text} {g : Grammar} {starts : Starts} {e₁ i₁ : ℕ} {h : Position} {a m : ℕ} {c t : Row} {s : Symbol} {ss : List Symbol} {fs : List Frame}
@@ -171,7 +171,15 @@ module _ {T P S F₀ : List ℕ} {h : Position} {e₀ i₀ : ℕ} (G₀ : Going 
   leaves-fit k some =
       let W = G₀ .walk in
       let b = place-inside W in
-      record { some = some; room = omega (arith, W .deep, W .inside, G₀ .room); entry = omega (arith, W .inside, W .entries); place = omega (arith, b .0, b .1, W .record-length) }
+      let len : length S ≡ length (G₀ .under) = ap length (G₀ .scratch) ∙ opened-length (G₀ .fs) (G₀ .under) in
+      let item = open-inside (G₀ .under) W (G₀ .scratch) (omega (arith, G₀ .room)) some in
+      record {
+        some = some;
+        room = omega (arith, W .deep, W .inside, G₀ .room);
+        item = omega (arith, W .table);
+        entry = omega (arith, W .inside, W .entries);
+        place = omega (arith, b .0, b .1, W .record-length);
+      }
 
   pub stepped-leave : {S′ : List ℕ} {r : Position} → 5 ≤ kindAt T (h .item) → 0 < h .inner → Left S S′ h r → Stepped T P S S′ h r
   stepped-leave {S′} {r} k some L =

@@ -13,9 +13,9 @@ use Rattle.derive.proofs.Rows.{forward}
 use Rattle.items.specs.Items.{Starts, Spells, kindAt}
 use Rattle.left_parse.specs.declared.Position.{Position}
 use Rattle.left_parse.specs.Noted.{Noted}
-use Rattle.left_parse.specs.Walk.{Frame, rests, Link, Chain, bottom, link, Walk, Over}
-use Rattle.left_parse.proofs.Scratch.{innermost, outer}
-use Rattle.left_parse.proofs.Items.{View, v-end, v-leaf, v-node, view, next-spells, first-stands, spells-kind, in-table}
+use Rattle.left_parse.specs.Walk.{Frame, opened, rests, Link, Chain, bottom, link, Walk, Over}
+use Rattle.left_parse.proofs.Scratch.{innermost, outer, item-of}
+use Rattle.left_parse.proofs.Items.{View, v-end, v-leaf, v-node, view, next-spells, first-stands, spells-kind, stands-kind, in-table}
 
 abbrev pub spot : ℕ → ℕ → ℕ → ℕ → Position
 spot p e i n = record { item = p; entry = e; place = record { 0 = i }; inner = n }
@@ -58,6 +58,14 @@ chain-last : {T : List ℕ} {r : Text} {S : List ℕ} {g : Grammar} {starts : St
 chain-last (bottom a b c) = omega arith
 chain-last {r = r} {g = g} (link l c) = omega (arith, forward g r (l .derives), chain-last c)
 
+-- the item that is kept of the innermost open node stands in the table
+open-item : {T : List ℕ} (U : List ℕ) {r : Text} {S : List ℕ} {g : Grammar} {starts : Starts} {e₁ i₁ n e i : ℕ} {fs : List Frame}
+    → Chain T r S g starts e₁ i₁ fs n e i → 0 < n → 2 * n ≤ length U → getD (opened fs U) (2 * (n - 1) + 1) 0 < length T
+open-item U (bottom a b c) some room = absurd (omega arith)
+open-item {T} U {n = n} (link {f = f} {fs = fs} L c) some room =
+    let j : n - 1 ≡ f .entry = omega (arith, L .last) in
+    rw (j, item-of f fs U (omega (arith, L .last))) (in-table T (f .item) (λ z. omega (arith, stands-kind (L .stands) .0)))
+
 -- the frame of a node that is entered
 abbrev pub frame : Position → Symbol → Row → List Symbol → ℕ → ℕ → Frame
 frame h s t ss m to = record { entry = h .entry; link = h .inner; item = h .item; symbol = s; row = t; symbols = ss; from = m; to = to }
@@ -74,6 +82,10 @@ module _ {T P S : List ℕ} {r : Text} {g : Grammar} {starts : Starts} {e₁ i�
 
   pub node-last : {h : Position} {a m : ℕ} {c t : Row} {s : Symbol} {ss : List Symbol} {fs : List Frame} → Walk T P r S g starts e₁ i₁ h (node a m c t) (s ∷ ss) fs → m ≤ length r
   node-last W = omega (arith, forward g r (node-rest (W .derives)), chain-last (W .chain), W .last)
+
+  pub open-inside : {h : Position} {row : Row} {ss : List Symbol} {fs : List Frame} (U : List ℕ) {now : List ℕ} → Walk T P r S g starts e₁ i₁ h row ss fs
+      → now ≡ opened fs U → 2 * length P ≤ length U → 0 < h .inner → getD now (2 * (h .inner - 1) + 1) 0 < length T
+  open-inside U W e room some = rw e (open-item U (W .chain) some (omega (arith, W .deep, W .inside)))
 
   pub walk-leaf : {h : Position} {m : ℕ} {t : Row} {s : Symbol} {ss : List Symbol} {fs : List Frame}
       → Walk T P r S g starts e₁ i₁ h (leaf m t) (s ∷ ss) fs

@@ -24,5 +24,5 @@ pub record Parsed (T : List ℕ) (root : ℕ) (P : List ℕ) (g : Grammar) (r : 
 -- numbers of the table and of the list fit where they are noted
 pub record Room (T P S : List ℕ) : Type 0 where
   pub table : length T < 4294967296
-  pub list : length P < 4294967296
+  pub list : length P < 4611686018427387904
   pub scratch : 2 * length P ≤ length S

@@ -25,6 +25,11 @@ pub record Passed (T : List ℕ) (p r : ℕ) : Type 0 where
 pub record Found (T : List ℕ) (x a r : ℕ) : Type 0 where
   pub spells : (g : Grammar) (starts : Starts) (ts : List (List Symbol)) → Alternatives T g starts x ts → a < length ts → Spells T g starts r (getD ts a [])
 
+-- whether the rule at the item x has an alternative a
+pub record Counted (T : List ℕ) (x a : ℕ) (r : Bool) : Type 0 where
+  pub some : r ≡ true → (g : Grammar) (starts : Starts) (ts : List (List Symbol)) → Alternatives T g starts x ts → a < length ts
+  pub none : r ≡ false → (g : Grammar) (starts : Starts) (ts : List (List Symbol)) → Alternatives T g starts x ts → length ts ≤ a
+
 pub record Wide (T : List ℕ) (token r : ℕ) : Type 0 where
   pub is : (x : Terminal) → Reads T token (terminalTokens x) → r ≡ plain.width x
   pub fits : r < 4294967296
@@ -33,7 +38,7 @@ pub record Wide (T : List ℕ) (token r : ℕ) : Type 0 where
 pub record Enters (S : List ℕ) (h : Position) : Type 0 where
   pub room : 2 * h .entry + 1 < length S
   pub item : h .item < 4294967296
-  pub inner : h .inner < 4294967296
+  pub inner : h .inner < 4611686018427387904
 
 pub record Entered (T P S S' : List ℕ) (h r : Position) : Type 0 where
   pub scratch : S' ≡ set (set S (2 * h .entry) (h .inner)) (2 * h .entry + 1) (h .item)
@@ -44,7 +49,8 @@ pub record Entered (T P S S' : List ℕ) (h r : Position) : Type 0 where
 pub record Leaves (S : List ℕ) (h : Position) : Type 0 where
   pub some : 0 < h .inner
   pub room : 2 * h .inner ≤ length S
-  pub entry : h .entry < 4294967296
+  pub item : getD S (2 * (h .inner - 1) + 1) 0 < 4294967296
+  pub entry : h .entry < 4611686018427387904
   pub place : h .place .0 < 4294967296
 
 pub record Left (S S' : List ℕ) (h r : Position) : Type 0 where
@@ -58,7 +64,7 @@ pub record Named (T : List ℕ) (token first : ℕ) (n : Text) : Type 0 where
 
 pub record Small (h : Position) : Type 0 where
   pub item : h .item < 4294967296
-  pub entry : h .entry < 4294967296
+  pub entry : h .entry < 4611686018427387904
   pub place : h .place .0 < 4294967296
 
 -- over a terminal

@@ -66,7 +66,7 @@ pub record Walk (T P : List ℕ) (r : Text) (S : List ℕ) (g : Grammar) (starts
   pub inside : h .entry ≤ length P
   pub last : i₁ ≤ length r
   pub table : length T < 4294967296
-  pub entries : length P < 4294967296
+  pub entries : length P < 4611686018427387904
   pub record-length : length r < 4294967296
 
 -- a step falls by this

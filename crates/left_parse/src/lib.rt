@@ -9,7 +9,7 @@ ghost use Rattle.tree.specs.Tree.{Grammar};
 ghost use Rattle.derive.specs.Derive.{Row};
 ghost use Rattle.left_parse.specs.Noted.{Noted, Parsed, Room};
 ghost use Rattle.left_parse.specs.Walk.{Over};
-ghost use Rattle.left_parse.specs.Steps.{Symbolic, Passed, Found, Enters, Entered, Leaves, Left, Small, Skipped, jumped, Inside, Going, Stepped};
+ghost use Rattle.left_parse.specs.Steps.{Symbolic, Passed, Found, Counted, Enters, Entered, Leaves, Left, Small, Skipped, jumped, Inside, Going, Stepped};
 use text::CharPlace;
 
 // Where a walk stands: the item of the next symbol, the next entry, the place in the record, and one more than the innermost
@@ -30,6 +30,16 @@ const ALTERNATIVE_END: usize = items::ALTERNATIVE_END as usize;
 const NOTE_COLUMNS: usize = 2;
 
 const NOTE_PLACE: usize = 1;
+
+// A number that is noted, 0 past the end.
+pub fn note_at(scratch: &[u64], i: usize) -> usize
+    ensures { λ r. ⌜ r ≡ getD (now (scratch .entry)) i 0 ⌝ }
+{
+    if i < scratch.len() {
+        return scratch[i] as usize;
+    }
+    0
+}
 
 // Whether the item is a symbol, and no end of an alternative.
 fn symbolic(table: &[u32], item: usize) -> bool
@@ -70,8 +80,25 @@ pub fn alternative(table: &[u32], first: usize, number: usize) -> usize
     x
 }
 
+// Whether the rule whose first item is `first` has an alternative of that number.
+pub fn has_alternative(table: &[u32], first: usize, number: usize) -> bool
+    ensures { λ r. ⌜ Counted (now (table .entry)) first number r ⌝ }
+{
+    let mut x = first;
+    let mut a = number;
+    while a > 0 {
+        let e = pass(table, x);
+        if items::kind_at(table, e) != ALTERNATIVE_END {
+            return false;
+        }
+        x = e + 1;
+        a -= 1;
+    }
+    true
+}
+
 // Into a node: its two numbers are the number that was open before it and its item, until it is left.
-pub fn enter(table: &[u32], parse: &[u32], scratch: &mut [u32], h: Position) -> Position
+pub fn enter(table: &[u32], parse: &[u32], scratch: &mut [u64], h: Position) -> Position
     requires { ⌜ Enters (now scratch) h ⌝ }
     ensures { λ r. ⌜ Entered (now (table .entry)) (now (parse .entry)) (now (scratch .entry)) (now (scratch .exit)) h r ⌝ }
 {
@@ -79,8 +106,8 @@ pub fn enter(table: &[u32], parse: &[u32], scratch: &mut [u32], h: Position) -> 
     let a = tokens::look(parse, h.entry);
     let x = items::target_at(table, h.item);
     let item = alternative(table, x, a);
-    scratch[at] = h.inner as u32;
-    scratch[at + NOTE_PLACE] = h.item as u32;
+    scratch[at] = h.inner as u64;
+    scratch[at + NOTE_PLACE] = h.item as u64;
     let place = h.place;
     Position {
         item,
@@ -91,16 +118,16 @@ pub fn enter(table: &[u32], parse: &[u32], scratch: &mut [u32], h: Position) -> 
 }
 
 // Out of the innermost open node, whose end is noted.
-pub fn leave(scratch: &mut [u32], h: Position) -> Position
+pub fn leave(scratch: &mut [u64], h: Position) -> Position
     requires { ⌜ Leaves (now scratch) h ⌝ }
     ensures { λ r. ⌜ Left (now (scratch .entry)) (now (scratch .exit)) h r ⌝ }
 {
     let at = NOTE_COLUMNS * (h.inner - 1);
-    let link = tokens::look(scratch, at);
-    let item = tokens::look(scratch, at + NOTE_PLACE);
+    let link = note_at(scratch, at);
+    let item = note_at(scratch, at + NOTE_PLACE);
     let place = h.place;
-    scratch[at] = h.entry as u32;
-    scratch[at + NOTE_PLACE] = place.0 as u32;
+    scratch[at] = h.entry as u64;
+    scratch[at + NOTE_PLACE] = place.0 as u64;
     Position {
         item: item + 1,
         entry: h.entry,
@@ -125,12 +152,12 @@ pub fn skip(table: &[u32], h: Position) -> Position
 }
 
 // Over a node, by what is noted of it.
-pub fn jump(scratch: &[u32], h: Position) -> Position
+pub fn jump(scratch: &[u64], h: Position) -> Position
     requires { ⌜ Small h ⌝ }
     ensures { λ r. ⌜ r ≡ jumped (now (scratch .entry)) h ⌝ }
 {
-    let e = tokens::look(scratch, NOTE_COLUMNS * h.entry);
-    let m = tokens::look(scratch, NOTE_COLUMNS * h.entry + NOTE_PLACE);
+    let e = note_at(scratch, NOTE_COLUMNS * h.entry);
+    let m = note_at(scratch, NOTE_COLUMNS * h.entry + NOTE_PLACE);
     Position {
         item: h.item + 1,
         entry: e,
@@ -166,7 +193,7 @@ pub fn more(table: &[u32], h: Position) -> bool
     h.inner > 0
 }
 
-fn step(table: &[u32], parse: &[u32], scratch: &mut [u32], h: Position) -> Position
+fn step(table: &[u32], parse: &[u32], scratch: &mut [u64], h: Position) -> Position
     requires { ⌜ (Over (now table) h → ⊥) ⌝ }
     requires { ⌜ ((F : List ℕ) × (e : ℕ) × (i : ℕ) × Going (now table) (now parse) (now scratch) h F e i) ⌝ }
     ensures { λ r. ⌜ Stepped (now (table .entry)) (now (parse .entry)) (now (scratch .entry)) (now (scratch .exit)) h r ⌝ }
@@ -189,7 +216,7 @@ fn step(table: &[u32], parse: &[u32], scratch: &mut [u32], h: Position) -> Posit
 }
 
 // Notes all entries of a left parse.
-pub fn note(table: &[u32], root: usize, parse: &[u32], scratch: &mut [u32])
+pub fn note(table: &[u32], root: usize, parse: &[u32], scratch: &mut [u64])
     requires { ⌜ Room (now table) (now parse) (now scratch) ⌝ }
     requires { ⌜ ((g : Grammar) × (r : Text) × (t : Row) × Parsed (now table) root (now parse) g r t) ⌝ }
     ensures { λ _. ⌜ ((g : Grammar) (r : Text) (t : Row) → Parsed (now (table .entry)) root (now (parse .entry)) g r t → Noted (now (scratch .exit)) 0 t) ⌝ }
@@ -206,6 +233,6 @@ pub fn note(table: &[u32], root: usize, parse: &[u32], scratch: &mut [u32])
         h = step(table, parse, scratch, h);
     }
     let end = h.place;
-    scratch[0] = h.entry as u32;
-    scratch[NOTE_PLACE] = end.0 as u32;
+    scratch[0] = h.entry as u64;
+    scratch[NOTE_PLACE] = end.0 as u64;
 }

@@ -1,12 +1,12 @@
 -- What is ahead, event by event: the names of attributes, and whether it is one element.
 use mathlib.Core.Path.{_≡_, refl, sym, ap, _∙_}
-use mathlib.Core.Bool.{Bool, false, not, _||_}
+use mathlib.Core.Bool.{Bool, true, false, not, _||_}
 use mathlib.Core.List.{List, [], _∷_, _++_, append-assoc}
 use Prim.Native.Nat.{ℕ, _+_, _≤_, _<_}
 use native.Mathlib.Omega.{arith}
 use lib.Dec.{eqb}
 use lib.ListN.{length, set}
-use Rattle.text.specs.Lists.{Text, any, same, repeats}
+use Rattle.text.specs.Lists.{Text, any, same, repeats, pick}
 use Rattle.text.proofs.Lists.{or-assoc, or-false}
 use Rattle.xml.specs.Document.{Xml, none, char, attr, elem, join, text, attributeNames, notOne}
 use Rattle.xml.proofs.Rows.{names-join}
@@ -15,9 +15,10 @@ use Rattle.cursor.specs.Rest.{Rest, row, within, before}
 use Rattle.cursor.specs.Ahead.{Ahead, AtRow, SomeRow}
 use Rattle.cursor.specs.declared.Cursor.{Cursor}
 use Rattle.xml_shape.specs.Judges.{Judges}
-use Rattle.xml_shape.specs.Names.{repeated, clashes, Listed, Seen}
+use Rattle.xml_shape.specs.Names.{repeated, clashes, Listed, Seen, Fresh, nameTokens}
 use Rattle.xml_shape.specs.One.{more, shape}
-use Rattle.xml_shape.proofs.Laws.{clashes-begin, listed-more, else, one-shape}
+use Rattle.xml_shape.proofs.Laws.{clashes-begin, listed-set, listed-more, else, one-shape}
+use Rattle.xml_shape.proofs.Room.{room-for}
 
 -- the names of the attributes that are ahead
 abbrev pub names : Rest → List Text
@@ -37,15 +38,16 @@ pub record Tally (T seen : List ℕ) (count : ℕ) (twice : Bool) (r : Text) (k�
   pub ns : List Text
   pub listed : Listed T seen ns
   pub count-is : length ns ≡ count
+  pub fresh : Fresh ns
   pub owes : (twice || clashes ns (names k)) ≡ repeats (names k₀)
 
 pub tally-begin : {T seen : List ℕ} {r : Text} {k : Rest} → Tally T seen 0 false r k k
-tally-begin {k = k} = record { ns = []; listed = tt; count-is = refl; owes = clashes-begin (names k) }
+tally-begin {k = k} = record { ns = []; listed = tt; count-is = refl; fresh = tt; owes = clashes-begin (names k) }
 
 module _ {T seen : List ℕ} {count : ℕ} {twice : Bool} {r : Text} {k₀ : Rest} where
   -- what is met has no names
   same-names : {k k′ : Rest} → names k ≡ names k′ → Tally T seen count twice r k₀ k → Tally T seen count twice r k₀ k′
-  same-names e O = record { ns = O .ns; listed = O .listed; count-is = O .count-is; owes = ap (λ (ms : List Text). twice || clashes (O .ns) ms) (sym e) ∙ O .owes }
+  same-names e O = record { ns = O .ns; listed = O .listed; count-is = O .count-is; fresh = O .fresh; owes = ap (λ (ms : List Text). twice || clashes (O .ns) ms) (sym e) ∙ O .owes }
 
   pub tally-text : (t : Text) (k : Rest) → Tally T seen count twice r k₀ (before (text t) k) → Tally T seen count twice r k₀ k
   tally-text t k = same-names (names-before (text t) k ∙ ap (λ (ns : List Text). ns ++ names k) (names-text t))
@@ -56,23 +58,51 @@ module _ {T seen : List ℕ} {count : ℕ} {twice : Bool} {r : Text} {k₀ : Res
   pub tally-close : (n : Text) (k : Rest) → Tally T seen count twice r k₀ (within n none k) → Tally T seen count twice r k₀ k
   tally-close n k = same-names refl
 
-  -- one attribute more
-  pub tally-attribute : (token m : ℕ) (n v : Text) (k : Rest) → Named T token m n → count < length seen → {found both : Bool}
-      → Seen T seen count token found → both ≡ (twice || found) → Tally T seen count twice r k₀ (before (attr n v none) k)
-      → Tally T (set seen count token) (count + 1) both r k₀ k
-  tally-attribute token m n v k N l F e O =
-      let f = F .is m n (O .ns) N (O .listed) (O .count-is) in
+-- one attribute more
+module _ {T seen : List ℕ} {count : ℕ} {r : Text} {k₀ : Rest} (token m : ℕ) (n v : Text) (k : Rest) (N : Named T token m n) (room : nameTokens ≤ length seen) where
+  -- its name came before, or some name did
+  again : {twice found : Bool} → (twice || found) ≡ true → Seen T seen count token found → Tally T seen count twice r k₀ (before (attr n v none) k)
+      → Tally T (set seen count token) count true r k₀ k
+  again {twice} {found} e F O =
       let c = O .count-is in
       record {
-        ns = n ∷ O .ns;
-        listed = listed-more T seen (O .ns) count token m n c l N (O .listed);
-        count-is = omega arith;
+        ns = O .ns;
+        listed = listed-set T seen (O .ns) count token (omega arith) (O .listed);
+        count-is = c;
+        fresh = O .fresh;
         owes =
-            ap (λ (w : Bool). w || clashes (n ∷ O .ns) (names k)) (e ∙ ap (λ (w : Bool). twice || w) f)
-            ∙ or-assoc twice (any (same n) (O .ns)) (clashes (n ∷ O .ns) (names k))
+            sym (ap (λ (w : Bool). w || clashes (n ∷ O .ns) (names k)) e)
+            ∙ or-assoc twice found (clashes (n ∷ O .ns) (names k))
+            ∙ ap (λ (w : Bool). twice || (w || clashes (n ∷ O .ns) (names k))) (F .is m n (O .ns) N (O .listed) c)
             ∙ sym (ap (λ (ms : List Text). twice || clashes (O .ns) ms) (names-before (attr n v none) k))
             ∙ O .owes;
       }
+
+  -- it is a new one
+  anew : Seen T seen count token false → Tally T seen count false r k₀ (before (attr n v none) k) → Tally T (set seen count token) (count + 1) false r k₀ k
+  anew F O =
+      let c = O .count-is in
+      let f = F .is m n (O .ns) N (O .listed) c in
+      record {
+        ns = n ∷ O .ns;
+        listed = listed-more T seen (O .ns) count token m n c (omega (arith, room-for seen (O .ns) N (O .listed) (sym f) (O .fresh))) N (O .listed);
+        count-is = omega arith;
+        fresh = (sym f, O .fresh);
+        owes =
+            ap (λ (w : Bool). w || clashes (n ∷ O .ns) (names k)) f
+            ∙ sym (ap (λ (ms : List Text). clashes (O .ns) ms) (names-before (attr n v none) k))
+            ∙ O .owes;
+      }
+
+  pub tally-attribute : {twice found both : Bool} → Seen T seen count token found → both ≡ (twice || found) → {count′ : ℕ} → count′ ≡ pick both count (count + 1)
+      → Tally T seen count twice r k₀ (before (attr n v none) k) → Tally T (set seen count token) count′ both r k₀ k
+  tally-attribute {twice} {found} {both} F e q O = rw (q, e) (go twice found F O)
+    where
+      go : (twice found : Bool) → Seen T seen count token found → Tally T seen count twice r k₀ (before (attr n v none) k)
+          → Tally T (set seen count token) (pick (twice || found) count (count + 1)) (twice || found) r k₀ k
+      go true found F O = again {twice = true} {found = found} refl F O
+      go false true F O = again {twice = false} {found = true} refl F O
+      go false false F O = anew F O
 
 -- the answer of a walk over a row
 pub judged : (f : Xml → Bool) {T P : List ℕ} {S S′ : List ℕ} {c : Cursor} {b : Bool} → ((r : Text) × SomeRow T P r S c)

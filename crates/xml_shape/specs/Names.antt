@@ -25,3 +25,12 @@ Listed T seen (n ∷ ns) = ((k : ℕ) × Named T (getD seen (length ns) 0) k n) 
 -- the first `count` tokens of a list are those of names, and whether that of the token is among them
 pub record Seen (T seen : List ℕ) (count token : ℕ) (b : Bool) : Type 0 where
   pub is : (k : ℕ) (n : Text) (ns : List Text) → Named T token k n → Listed T seen ns → length ns ≡ count → b ≡ any (same n) ns
+
+-- every name is different from those before it
+abbrev pub Fresh : List Text → Type 0
+Fresh [] = Unit {0}
+Fresh (n ∷ ns) = (any (same n) ns ≡ false) × Fresh ns
+
+-- tokens stand in the first cells of the grammar table
+abbrev pub nameTokens : ℕ
+nameTokens = 12288

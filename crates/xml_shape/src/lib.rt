@@ -1,14 +1,14 @@
 // Judges of what a row of a left parse comes to: an attribute twice, and anything but one element.
 ghost use mathlib.Core.Path.{_≡_};
 ghost use mathlib.Core.Bool.{_||_};
-ghost use Prim.Native.Nat.{ℕ, _<_, _≤_};
+ghost use Prim.Native.Nat.{ℕ, _+_, _<_, _≤_};
 ghost use lib.ListN.{length, set};
-ghost use Rattle.text.specs.Lists.{Text};
+ghost use Rattle.text.specs.Lists.{Text, pick};
 ghost use Rattle.xml.specs.Document.{notOne};
 ghost use Rattle.left_parse.specs.Steps.{Named};
 ghost use Rattle.cursor.specs.Ahead.{SomeRow};
 ghost use Rattle.xml_shape.specs.Judges.{Judges};
-ghost use Rattle.xml_shape.specs.Names.{repeated, Seen};
+ghost use Rattle.xml_shape.specs.Names.{repeated, Seen, nameTokens};
 ghost use Rattle.xml_shape.specs.One.{more as oneMore};
 use cursor::Cursor;
 use cursor::Event;
@@ -29,25 +29,39 @@ fn is_seen(table: &[u32], seen: &[u32], count: usize, token: usize) -> bool
     false
 }
 
-// The token is listed after the first `count`; whether one of those has its name.
+// The token is listed after the first `count`, if there is room; whether one of those has its name.
 fn add_name(table: &[u32], seen: &mut [u32], count: usize, token: usize) -> bool
-    requires { ⌜ (token < 4294967296) × (count < length (now seen)) ⌝ }
+    requires { ⌜ token < 4294967296 ⌝ }
     ensures { λ r. ⌜ (now (seen .exit) ≡ set (now (seen .entry)) count token) × Seen (now (table .entry)) (now (seen .entry)) count token r ⌝ }
 {
     let found = is_seen(table, seen, count, token);
-    seen[count] = token as u32;
+    if count < seen.len() {
+        seen[count] = token as u32;
+    }
     found
 }
 
-// Whether a row exposes two attributes of one name. Their tokens are listed in `seen`, which keeps nothing that counts.
+// How many names are listed: one more, but none once a name came twice.
+fn names_on(count: usize, twice: bool) -> usize
+    requires { ⌜ count + 1 < 18446744073709551616 ⌝ }
+    ensures { λ r. ⌜ r ≡ pick twice count (count + 1) ⌝ }
+{
+    if twice {
+        return count;
+    }
+    count + 1
+}
+
+// Whether a row exposes two attributes of one name. Their tokens are listed in `seen`, which keeps nothing that counts: different names
+// have different tokens, so there is room for all, however many attributes there are.
 pub fn repeats_attribute(
     table: &[u32],
     parse: &[u32],
-    scratch: &mut [u32],
+    scratch: &mut [u64],
     seen: &mut [u32],
     first: Cursor,
 ) -> bool
-    requires { ⌜ length (now parse) ≤ length (now seen) ⌝ }
+    requires { ⌜ nameTokens ≤ length (now seen) ⌝ }
     requires { ⌜ ((r : Text) × SomeRow (now table) (now parse) r (now scratch) first) ⌝ }
     ensures { λ b. ⌜ Judges repeated (now (table .entry)) (now (parse .entry)) (now (scratch .entry)) (now (scratch .exit)) first b ⌝ }
 {
@@ -65,7 +79,7 @@ pub fn repeats_attribute(
             }
             Event::Attribute(token, n) => {
                 twice = text::either(twice, add_name(table, seen, count, token));
-                count += 1;
+                count = names_on(count, twice);
                 at = cursor::past(table, parse, scratch, n);
             }
             Event::Close(_, n) => {
@@ -100,7 +114,7 @@ fn one_more(sort: usize) -> usize
 }
 
 // Whether a row comes to anything else than one element.
-pub fn not_one(table: &[u32], parse: &[u32], scratch: &mut [u32], first: Cursor) -> bool
+pub fn not_one(table: &[u32], parse: &[u32], scratch: &mut [u64], first: Cursor) -> bool
     requires { ⌜ ((r : Text) × SomeRow (now table) (now parse) r (now scratch) first) ⌝ }
     ensures { λ b. ⌜ Judges notOne (now (table .entry)) (now (parse .entry)) (now (scratch .entry)) (now (scratch .exit)) first b ⌝ }
 {

@@ -78,7 +78,7 @@ pub fn of(call: &str) -> Vec<Vector> {
     lines(call).into_iter().map(vector).collect()
 }
 
-fn bytes(hex: &str) -> Vec<u8> {
+pub fn bytes(hex: &str) -> Vec<u8> {
     if hex == "-" {
         return Vec::new();
     }

@@ -10,7 +10,6 @@ use Rattle.cursor.proofs.event_at.Reads as reads
 use Rattle.cursor.proofs.event_at.Lts as lts
 use Rattle.items.proofs.kind_at.Reads as kind-at-reads
 use Rattle.left_parse.proofs.leave.Reads as leave-reads
-use Rattle.tokens.proofs.look.Reads as look-reads
 use Rattle.items.proofs.token_at.Reads as token-at-reads
 
 -- src/lib.rt:130:9
@@ -58,20 +57,20 @@ returns-4 c =
     record { is = λ r S₀ k A. ahead-over A five (c .if4 .taken) }
 
 -- src/lib.rt:143:41
-sub-look : tie.Need-sub-look
-sub-look c = search needs
+sub-note-at : tie.Need-sub-note-at
+sub-note-at c = search needs
 
 -- src/lib.rt:143:36
-mul-look : tie.Need-mul-look
-mul-look c = search needs
+mul-note-at : tie.Need-mul-note-at
+mul-note-at c = search needs
 
 -- src/lib.rt:143:36
-add-look : tie.Need-add-look
-add-look c = search needs
+add-note-at : tie.Need-add-note-at
+add-note-at c = search needs
 
 -- src/lib.rt:143:9
-look-requires : tie.Need-look-requires
-look-requires c κs = search needs
+note-at-requires : tie.Need-note-at-requires
+note-at-requires c κs = search needs
 
 -- src/lib.rt:144:9
 leave-requires : tie.Need-leave-requires
@@ -87,16 +86,16 @@ same-length c = search needs
 -- src/lib.rt:125:1
 returns-5 : tie.Need-returns-5
 returns-5 c =
-    let at-look = c .before .before .before .before in
-    let at-if4 = at-look .before .before .before in
+    let at-note-at = c .before .before .before .before in
+    let at-if4 = at-note-at .before .before .before in
     let at-if3 = at-if4 .before .before in
     let at-if2 = at-if3 .before in
     let at-if1 = at-if2 .before in
     let at-kind-at = at-if1 .before in
     let start = at-kind-at .before .before .before .before .before in
     let five = shown-end (at-kind-at .kind-at .ensures) (start .pre .1) (at-if1 .if1 .left) (at-if2 .if2 .left) (at-if3 .if3 .left) in
-    let x = shown-close (at-kind-at .kind-at .ensures) (start .pre .1) (at-if1 .if1 .left) (at-if2 .if2 .left) (at-if3 .if3 .left) (at-if4 .if4 .left) (at-look .look .ensures .0) in
-    record { is = turn-close (start .pre .0) five (decide-zero _ (at-if4 .if4 .left)) (c .before .before .leave .ensures) (at-look .look .ensures .0) x }
+    let x = shown-close (at-kind-at .kind-at .ensures) (start .pre .1) (at-if1 .if1 .left) (at-if2 .if2 .left) (at-if3 .if3 .left) (at-if4 .if4 .left) (at-note-at .note-at .ensures) in
+    record { is = turn-close (start .pre .0) five (decide-zero _ (at-if4 .if4 .left)) (c .before .before .leave .ensures) (at-note-at .note-at .ensures) x }
 
 pub event-at-spec : {M : Type 1} → statement M
 event-at-spec =
@@ -109,10 +108,10 @@ event-at-spec =
     token-at-requires-2
     returns-3
     returns-4
-    sub-look
-    mul-look
-    add-look
-    look-requires
+    sub-note-at
+    mul-note-at
+    add-note-at
+    note-at-requires
     leave-requires
     same-length
     returns-5)

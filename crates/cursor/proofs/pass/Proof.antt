@@ -16,7 +16,6 @@ use Rattle.cursor.proofs.closes.Reads as closes-reads
 use Rattle.cursor.proofs.kind_in.Reads as kind-in-reads
 use Rattle.left_parse.proofs.enter.Reads as enter-reads
 use Rattle.left_parse.proofs.leave.Reads as leave-reads
-use Rattle.tokens.proofs.look.Reads as look-reads
 use Rattle.left_parse.proofs.skip.Reads as skip-reads
 use Rattle.items.proofs.token_at.Reads as token-at-reads
 use Rattle.markup.proofs.piece_of.Reads as piece-of-reads
@@ -144,20 +143,20 @@ returns-4 c =
     (at-if4 .if4 .left) (c .before .before .if5 .left) (ahead-kind (at-loop .loop .inv .1 .ahead))) (c .if6 .taken))
 
 -- src/lib.rt:86:49
-sub-look : tie.Need-sub-look Inv-loop μ-loop
-sub-look c = search needs
+sub-note-at : tie.Need-sub-note-at Inv-loop μ-loop
+sub-note-at c = search needs
 
 -- src/lib.rt:86:44
-mul-look : tie.Need-mul-look Inv-loop μ-loop
-mul-look c = search needs
+mul-note-at : tie.Need-mul-note-at Inv-loop μ-loop
+mul-note-at c = search needs
 
 -- src/lib.rt:86:44
-add-look : tie.Need-add-look Inv-loop μ-loop
-add-look c = search needs
+add-note-at : tie.Need-add-note-at Inv-loop μ-loop
+add-note-at c = search needs
 
 -- src/lib.rt:86:17
-look-requires : tie.Need-look-requires Inv-loop μ-loop
-look-requires c κs = search needs
+note-at-requires : tie.Need-note-at-requires Inv-loop μ-loop
+note-at-requires c κs = search needs
 
 -- src/lib.rt:87:16
 closes-requires : tie.Need-closes-requires Inv-loop μ-loop
@@ -178,7 +177,7 @@ returns-5 c =
     let at-kind-in = at-if1 .before in
     let at-loop = at-kind-in .before .before in
     let five = at-kind-in .kind-in .ensures .ends (at-if1 .if1 .left) (at-if3 .if3 .left) (at-if4 .if4 .left) (at-if5 .if5 .left) (ahead-kind (at-loop .loop .inv .1 .ahead)) in
-    came-settled (at-loop .loop .inv .2) (s-close five (decide-zero _ (at-if6 .if6 .left)) _ (c .before .before .look .ensures .0) (c .before .closes .ensures .yes (c .if7 .taken)))
+    came-settled (at-loop .loop .inv .2) (s-close five (decide-zero _ (at-if6 .if6 .left)) _ (c .before .before .note-at .ensures) (c .before .closes .ensures .yes (c .if7 .taken)))
 
 -- src/lib.rt:90:17
 leave-requires : tie.Need-leave-requires Inv-loop μ-loop
@@ -192,8 +191,8 @@ loop-less-3 : tie.Need-loop-less-3 Inv-loop μ-loop
 loop-less-3 c =
     let at-if7 = c .before .before .before .before in
     let at-closes = at-if7 .before in
-    let at-look = at-closes .before in
-    let at-if6 = at-look .before .before .before in
+    let at-note-at = at-closes .before in
+    let at-if6 = at-note-at .before .before .before in
     let at-if5 = at-if6 .before .before in
     let at-if4 = at-if5 .before in
     let at-if3 = at-if4 .before in
@@ -202,15 +201,15 @@ loop-less-3 c =
     let at-loop = at-kind-in .before .before in
     let five = at-kind-in .kind-in .ensures .ends (at-if1 .if1 .left) (at-if3 .if3 .left) (at-if4 .if4 .left) (at-if5 .if5 .left) (ahead-kind (at-loop .loop .inv .1 .ahead)) in
     let n = at-closes .closes .ensures .no (at-if7 .if7 .left) in
-    turn-out (at-loop .loop .inv .1) five (decide-zero _ (at-if6 .if6 .left)) (c .before .before .leave .ensures) (at-look .look .ensures .0) (n .0) (n .1) .falls
+    turn-out (at-loop .loop .inv .1) five (decide-zero _ (at-if6 .if6 .left)) (c .before .before .leave .ensures) (at-note-at .note-at .ensures) (n .0) (n .1) .falls
 
 -- src/lib.rt:65:5
 loop-again-3 : tie.Need-loop-again-3 Inv-loop μ-loop
 loop-again-3 c =
     let at-if7 = c .before .before .before .before in
     let at-closes = at-if7 .before in
-    let at-look = at-closes .before in
-    let at-if6 = at-look .before .before .before in
+    let at-note-at = at-closes .before in
+    let at-if6 = at-note-at .before .before .before in
     let at-if5 = at-if6 .before .before in
     let at-if4 = at-if5 .before in
     let at-if3 = at-if4 .before in
@@ -219,7 +218,7 @@ loop-again-3 c =
     let at-loop = at-kind-in .before .before in
     let five = at-kind-in .kind-in .ensures .ends (at-if1 .if1 .left) (at-if3 .if3 .left) (at-if4 .if4 .left) (at-if5 .if5 .left) (ahead-kind (at-loop .loop .inv .1 .ahead)) in
     let n = at-closes .closes .ensures .no (at-if7 .if7 .left) in
-    let M = turn-out (at-loop .loop .inv .1) five (decide-zero _ (at-if6 .if6 .left)) (c .before .before .leave .ensures) (at-look .look .ensures .0) (n .0) (n .1) in
+    let M = turn-out (at-loop .loop .inv .1) five (decide-zero _ (at-if6 .if6 .left)) (c .before .before .leave .ensures) (at-note-at .note-at .ensures) (n .0) (n .1) in
     (omega (arith, at-loop .loop .inv .0), came-some (at-loop .loop .inv .1) M, came-on (at-loop .loop .inv .2) M)
 
 pub pass-spec : {M : Type 1} → statement M
@@ -246,10 +245,10 @@ pass-spec =
     loop-again-2
     same-length-4
     returns-4
-    sub-look
-    mul-look
-    add-look
-    look-requires
+    sub-note-at
+    mul-note-at
+    add-note-at
+    note-at-requires
     closes-requires
     same-length-5
     returns-5

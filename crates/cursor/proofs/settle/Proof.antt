@@ -11,7 +11,6 @@ use Rattle.cursor.proofs.settle.Lts as lts
 use Rattle.cursor.proofs.closes.Reads as closes-reads
 use Rattle.cursor.proofs.pass.Reads as pass-reads
 use Rattle.items.proofs.kind_at.Reads as kind-at-reads
-use Rattle.tokens.proofs.look.Reads as look-reads
 
 -- src/lib.rt:102:9
 kind-at-requires : tie.Need-kind-at-requires
@@ -46,20 +45,20 @@ returns-4 : tie.Need-returns-4
 returns-4 c = came-settled came-begin (s-end (omega (arith, c .before .before .before .kind-at .ensures, c .before .before .if1 .left)) (c .if5 .taken))
 
 -- src/lib.rt:117:41
-sub-look : tie.Need-sub-look
-sub-look c = search needs
+sub-note-at : tie.Need-sub-note-at
+sub-note-at c = search needs
 
 -- src/lib.rt:117:36
-mul-look : tie.Need-mul-look
-mul-look c = search needs
+mul-note-at : tie.Need-mul-note-at
+mul-note-at c = search needs
 
 -- src/lib.rt:117:36
-add-look : tie.Need-add-look
-add-look c = search needs
+add-note-at : tie.Need-add-note-at
+add-note-at c = search needs
 
 -- src/lib.rt:117:9
-look-requires : tie.Need-look-requires
-look-requires c κs = search needs
+note-at-requires : tie.Need-note-at-requires
+note-at-requires c κs = search needs
 
 -- src/lib.rt:118:8
 closes-requires : tie.Need-closes-requires
@@ -76,7 +75,7 @@ returns-5 c =
     let at-if1 = at-if5 .before .before in
     let at-kind-at = at-if1 .before in
     came-settled came-begin (s-close (omega (arith, at-kind-at .kind-at .ensures, at-if1 .if1 .left)) (decide-zero _ (at-if5 .if5 .left)) _
-    (c .before .before .look .ensures .0) (c .before .closes .ensures .yes (c .if6 .taken)))
+    (c .before .before .note-at .ensures) (c .before .closes .ensures .yes (c .if6 .taken)))
 
 -- src/lib.rt:121:5
 pass-requires-2 : tie.Need-pass-requires-2
@@ -101,10 +100,10 @@ settle-spec =
     same-length
     returns-3
     returns-4
-    sub-look
-    mul-look
-    add-look
-    look-requires
+    sub-note-at
+    mul-note-at
+    add-note-at
+    note-at-requires
     closes-requires
     same-length-2
     returns-5

@@ -17,17 +17,11 @@ target-at-requires c κs = search needs
 alternative-requires : tie.Need-alternative-requires
 alternative-requires c κs = search needs
 
-cast-scratch : tie.Need-cast-scratch
-cast-scratch c = search needs
-
 mul-scratch : tie.Need-mul-scratch
 mul-scratch c = search needs
 
 slice-write-scratch : tie.Need-slice-write-scratch
 slice-write-scratch c = search needs
-
-cast-scratch-2 : tie.Need-cast-scratch-2
-cast-scratch-2 c = search needs
 
 add-scratch : tie.Need-add-scratch
 add-scratch c = search needs
@@ -49,7 +43,7 @@ same-length c = search needs
 
 returns : tie.Need-returns
 returns c =
-    let at-alternative = c .before .before .before .before .before in
+    let at-alternative = c .before .before .before in
     let at-target-at = at-alternative .before in
     let at-look = at-target-at .before in
     record {
@@ -66,10 +60,8 @@ enter-spec =
     look-requires
     target-at-requires
     alternative-requires
-    cast-scratch
     mul-scratch
     slice-write-scratch
-    cast-scratch-2
     add-scratch
     mul-scratch-2
     slice-write-scratch-2

@@ -11,26 +11,20 @@ sub-at c = search needs
 mul-at : tie.Need-mul-at
 mul-at c = search needs
 
-look-requires : tie.Need-look-requires
-look-requires c κs = search needs
+note-at-requires : tie.Need-note-at-requires
+note-at-requires c κs = search needs
 
-add-look : tie.Need-add-look
-add-look c = search needs
+add-note-at : tie.Need-add-note-at
+add-note-at c = search needs
 
-look-requires-2 : tie.Need-look-requires-2
-look-requires-2 c κs = search needs
-
-cast-scratch : tie.Need-cast-scratch
-cast-scratch c = search needs
+note-at-requires-2 : tie.Need-note-at-requires-2
+note-at-requires-2 c κs = search needs
 
 mul-scratch : tie.Need-mul-scratch
 mul-scratch c = search needs
 
 slice-write-scratch : tie.Need-slice-write-scratch
 slice-write-scratch c = search needs
-
-cast-scratch-2 : tie.Need-cast-scratch-2
-cast-scratch-2 c = search needs
 
 add-scratch : tie.Need-add-scratch
 add-scratch c = search needs
@@ -40,7 +34,7 @@ mul-scratch-2 c = search needs
 
 slice-write-scratch-2 : tie.Need-slice-write-scratch-2
 slice-write-scratch-2 c =
-    let start = c .before .before .before .before .before .before .before .before .before in
+    let start = c .before .before .before .before .before .before .before in
     simp length-set (omega (arith, start .pre .room, start .pre .some))
 
 add-t7 : tie.Need-add-t7
@@ -50,7 +44,7 @@ same-length : tie.Need-same-length
 same-length c = search needs
 
 returns : tie.Need-returns
-returns c = record { scratch = refl; spot = rw (c .before .before .before .before .before .look .ensures .0, c .before .before .before .look2 .ensures .0) }
+returns c = record { scratch = refl; spot = rw (c .before .before .before .note-at .ensures, c .before .note-at2 .ensures) }
 
 pub leave-spec : {M : Type 1} → statement M
 leave-spec =
@@ -58,13 +52,11 @@ leave-spec =
     (tie.spec
     sub-at
     mul-at
-    look-requires
-    add-look
-    look-requires-2
-    cast-scratch
+    note-at-requires
+    add-note-at
+    note-at-requires-2
     mul-scratch
     slice-write-scratch
-    cast-scratch-2
     add-scratch
     mul-scratch-2
     slice-write-scratch-2

@@ -54,30 +54,24 @@ loop-again c =
     let i = at-loop .loop .inv in
     (omega (arith, i .0), (i .1 .0, i .1 .1, i .1 .2, at-step .step .ensures .goes (i .1 .0) (i .1 .1) (i .1 .2) (i .1 .3)), λ F e p G. at-step .step .ensures .goes F e p (i .2 F e p G))
 
-cast-scratch : tie.Need-cast-scratch Inv-loop μ-loop
-cast-scratch c = let W = c .before .before .before .before .loop .inv .1 .3 .walk in omega (arith, W .inside, W .entries)
-
 slice-write-scratch : tie.Need-slice-write-scratch Inv-loop μ-loop
 slice-write-scratch c =
-    let at-loop = c .before .before .before .before in
+    let at-loop = c .before .before .before in
     let start = at-loop .before .before .before .before .before .before in
     omega (arith, at-loop .loop .inv .0, start .pre .0 .scratch, some-entry (start .pre .1 .3))
 
-cast-scratch-2 : tie.Need-cast-scratch-2 Inv-loop μ-loop
-cast-scratch-2 c = let W = c .before .before .before .before .before .loop .inv .1 .3 .walk in omega (arith, place-inside W .0, place-inside W .1, W .record-length)
-
 slice-write-scratch-2 : tie.Need-slice-write-scratch-2 Inv-loop μ-loop
 slice-write-scratch-2 c =
-    let at-loop = c .before .before .before .before .before in
+    let at-loop = c .before .before .before in
     let start = at-loop .before .before .before .before .before .before in
     simp length-set (omega (arith, at-loop .loop .inv .0, start .pre .0 .scratch, some-entry (start .pre .1 .3)))
 
 same-length : tie.Need-same-length Inv-loop μ-loop
-same-length c = simp length-set (c .before .before .before .before .before .loop .inv .0)
+same-length c = simp length-set (c .before .before .before .loop .inv .0)
 
 returns : tie.Need-returns Inv-loop μ-loop
 returns c =
-    let at-more = c .before .before .before .before in
+    let at-more = c .before .before in
     let at-loop = at-more .before in
     let at-alternative = at-loop .before in
     let at-look = at-alternative .before in
@@ -88,7 +82,7 @@ returns c =
     let B = begins (start .pre .0) p (at-alternative .alternative .result) f in
     let N = notes-of (getD (now (start .args .scratch)) 0 0) (getD (now (start .args .scratch)) 1 0) (B .tree .children) in
     going-end B (at-loop .loop .scratch) N (at-loop .loop .inv .2 (N .list) (1 + length (leftParse (B .tree .children))) (length r)
-    (going-begin (start .pre .0) B N)) (at-more .more .ensures .1 (c .before .before .before .if1 .left))
+    (going-begin (start .pre .0) B N)) (at-more .more .ensures .1 (c .before .if1 .left))
 
 pub note-spec : {M : Type 1} → statement M
 note-spec =
@@ -103,9 +97,7 @@ note-spec =
     step-requires
     loop-less
     loop-again
-    cast-scratch
     slice-write-scratch
-    cast-scratch-2
     slice-write-scratch-2
     same-length
     returns)

@@ -1,7 +1,9 @@
 use mathlib.Core.Path.{_≡_, refl, sym, ap, _∙_}
-use Prim.Native.Nat.{_≤_}
+use mathlib.Core.Bool.{Bool, true, false}
+use Prim.Native.Nat.{ℕ, _+_, _≤_}
 use native.Mathlib.Omega.{arith}
 use lib.ListN.{length}
+use Rattle.text.specs.Lists.{pick}
 use Rattle.cursor.specs.Events.{weight}
 use Rattle.cursor.proofs.Turns.{text-is, open-is, attribute-is, close-is}
 use Rattle.cursor.proofs.Folds.{Reached, reached-begin, reached-some, row-some, text-stands, on-text, on-close, on-end, open-node, open-past, attribute-node, attribute-past}
@@ -10,6 +12,10 @@ use Rattle.xml_shape.proofs.Folds.{Tally, tally-begin, tally-text, tall
 use borrow.Author.Needs.{needs}
 use Rattle.xml_shape.proofs.repeats_attribute.Statement.{statement}
 use Rattle.xml_shape.proofs.repeats_attribute.Tie as tie
+
+names-at-most : (b : Bool) (n : ℕ) {m : ℕ} → m ≡ pick b n (n + 1) → m ≤ n + 1
+names-at-most true n e = omega arith
+names-at-most false n e = omega arith
 
 abbrev Inv-loop : tie.InvT-loop
 Inv-loop table parse scratch₀ seen₀ at₀ count₀ twice₀ scratch seen at count twice =
@@ -91,22 +97,20 @@ enum-known-event-3 c = search needs
 add-name-requires : tie.Need-add-name-requires Inv-loop μ-loop
 add-name-requires c κs =
     let at-next = c .before .before .before .before .before .before in
-    let at-loop = at-next .before .before in
-    let start = at-loop .before .before .before .before .before in
     let A = attribute-is (at-next .next .ensures) (c .before .before .event3 .given .1) in
-    (A .fits, omega (arith, at-loop .loop .inv .1, at-loop .loop .inv .2, A .later, A .listed, start .pre .0))
+    A .fits
 
 either-requires : tie.Need-either-requires Inv-loop μ-loop
 either-requires c κs = search needs
 
-add-count : tie.Need-add-count Inv-loop μ-loop
-add-count c =
+names-on-requires : tie.Need-names-on-requires Inv-loop μ-loop
+names-on-requires c κs =
     let A = attribute-is (c .before .before .before .before .before .before .before .before .before .before .next .ensures) (c .before .before .before .before .before .before .event3 .given .1) in
     omega (arith, c .before .before .before .before .before .before .before .before .before .before .before .before .loop .inv .2, A .later, A .listed)
 
 past-requires-2 : tie.Need-past-requires-2 Inv-loop μ-loop
 past-requires-2 c κs =
-    let at-event3 = c .before .before .before .before .before .before .before in
+    let at-event3 = c .before .before .before .before .before .before .before .before in
     let at-next = at-event3 .before .before .before .before in
     let at-loop = at-next .before .before in
     let start = at-loop .before .before .before .before .before in
@@ -114,26 +118,28 @@ past-requires-2 c κs =
 
 loop-less-3 : tie.Need-loop-less-3 Inv-loop μ-loop
 loop-less-3 c =
-    let at-event3 = c .before .before .before .before .before .before .before .before in
+    let at-event3 = c .before .before .before .before .before .before .before .before .before in
     let at-next = at-event3 .before .before .before .before in
     omega (arith, c .past2 .ensures .falls, attribute-is (at-next .next .ensures) (at-event3 .event3 .given .1) .near)
 
 loop-again-3 : tie.Need-loop-again-3 Inv-loop μ-loop
 loop-again-3 c =
-    let at-add-name = c .before .before .before .before .before in
+    let at-names-on = c .before .before in
+    let at-either = at-names-on .before in
+    let at-add-name = at-either .before .before .before in
     let at-event3 = at-add-name .before .before .before in
     let at-next = at-event3 .before .before .before .before in
     let at-loop = at-next .before .before in
     let start = at-loop .before .before .before .before .before in
     let i = at-loop .loop .inv in
     let A = attribute-is (at-next .next .ensures) (at-event3 .event3 .given .1) in (
-      omega (arith, i .0),
+      omega (arith, i .0, at-next .next .kept .1 .1 .0),
       omega (arith, i .1, at-add-name .add-name .kept .1 .0),
-      omega (arith, i .2, A .later, c .past2 .ensures .later),
+      omega (arith, i .2, names-at-most (at-either .either .result) (at-loop .loop .count) (at-names-on .names-on .ensures), A .later, c .past2 .ensures .later),
       attribute-past (Tally _ _ _ _) (i .3) (at-next .next .ensures) (at-event3 .event3 .given .1) (c .past2 .ensures) (Tally _ _ _ _)
           (λ r k₀ k m n v N O. rw (at-add-name .add-name .ensures .0)
-          (tally-attribute _ m n v k N (omega (arith, i .1, i .2, A .later, A .listed, start .pre .0)) (at-add-name .add-name .ensures .1)
-          (c .before .before .either .ensures) O)),
+          (tally-attribute _ m n v k N (omega (arith, i .1, start .pre .0)) (at-add-name .add-name .ensures .1)
+          (at-either .either .ensures) (at-names-on .names-on .ensures) O)),
     )
 
 enum-known-event-4 : tie.Need-enum-known-event-4 Inv-loop μ-loop
@@ -190,7 +196,7 @@ repeats-attribute-spec =
     enum-known-event-3
     add-name-requires
     either-requires
-    add-count
+    names-on-requires
     past-requires-2
     loop-less-3
     loop-again-3

@@ -17,6 +17,12 @@ impl Cell for u32 {
     }
 }
 
+impl Cell for u64 {
+    fn pattern(seed: u32, place: usize) -> u64 {
+        u64::from(u32::pattern(seed, place)) << 32 | u64::from(u32::pattern(!seed, place))
+    }
+}
+
 impl Cell for u8 {
     fn pattern(seed: u32, place: usize) -> u8 {
         (u32::pattern(seed, place) >> 24) as u8

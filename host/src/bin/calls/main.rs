@@ -74,8 +74,53 @@ fn answer(line: &str) -> Result<String, String> {
         }
         ["number", text, ..] => Ok(gate::value(&bytes(text)?)),
         ["tidy", grammar, room, ..] => Ok(tidied(&bytes(grammar)?, number(room)?)),
+        ["judge", grammar, record, list, surplus, scratch, room, ..] => {
+            let list = List {
+                grammar: bytes(grammar)?,
+                record: bytes(record)?,
+                numbers: numbers(list)?,
+            };
+            Ok(list.judged(grammar_table(surplus)?, number(scratch)?, number(room)?))
+        }
         _ => Ok(Job::parse(line)?.run()),
     }
+}
+
+/// A list that is to be judged.
+struct List {
+    grammar: Vec<u8>,
+    record: Vec<u8>,
+    numbers: Vec<u32>,
+}
+
+impl List {
+    /// The line of output.
+    fn judged(&self, grammar_table: usize, scratch: usize, room: usize) -> String {
+        let mut grammar_table = Lent::new(grammar_table, SEED);
+        let mut scratch = Lent::new(scratch, SEED);
+        let mut result = Lent::new(room, SEED);
+        let answer = ixml::judge(
+            &self.grammar,
+            &self.record,
+            &self.numbers,
+            grammar_table.lend(),
+            scratch.lend(),
+            result.lend(),
+        );
+        let filled = filled(answer, room);
+        let touched = result.touched_behind(filled)
+            || grammar_table.touched_behind(0)
+            || scratch.guards_touched();
+        output(answer, &hex(&result.cells()[..filled]), touched)
+    }
+}
+
+/// The length of a grammar table, by how much it has over what it needs.
+fn grammar_table(surplus: &str) -> Result<usize, String> {
+    let surplus: isize = number(surplus)?;
+    GRAMMAR_TABLE
+        .checked_add_signed(surplus)
+        .ok_or_else(|| format!("a grammar table of {surplus} more than {GRAMMAR_TABLE}"))
 }
 
 /// A line of input.
@@ -102,11 +147,8 @@ impl Job {
         let grammar = bytes(field("grammar")?)?;
         let record = bytes(field("record")?)?;
         let main_table = number(field("main table length")?)?;
-        let surplus: isize = number(field("grammar table length")?)?;
+        let grammar_table = grammar_table(field("grammar table length")?)?;
         let result = number(field("result length")?)?;
-        let grammar_table = GRAMMAR_TABLE
-            .checked_add_signed(surplus)
-            .ok_or_else(|| format!("a grammar table of {surplus} more than {GRAMMAR_TABLE}"))?;
         Ok(Job {
             call,
             grammar,
@@ -189,6 +231,14 @@ fn filled(answer: Answer, room: usize) -> usize {
 
 fn number<T: std::str::FromStr>(text: &str) -> Result<T, String> {
     text.parse().map_err(|_| format!("{text:?} is no number"))
+}
+
+/// The numbers of a column, with commas between.
+fn numbers(text: &str) -> Result<Vec<u32>, String> {
+    match text {
+        "-" => Ok(Vec::new()),
+        _ => text.split(',').map(number).collect(),
+    }
 }
 
 /// The bytes of a hex column.

@@ -1,0 +1,5 @@
+pub mod Due
+pub mod Tracks
+pub mod Moves
+pub mod Ends
+pub mod Turns
