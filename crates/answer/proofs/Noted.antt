@@ -1,7 +1,7 @@
 -- The places of an answer: its number has one, and the computed one is it.
 use mathlib.Core.Bool.{Bool, true, false, not, _&&_}
 use mathlib.Core.Path.{_≡_, refl, sym, subst, ap, _∙_}
-use mathlib.Core.Logic.{_⊎_, inl, inr}
+use mathlib.Core.Logic.{_⊎_, inl, inr, ⊎-elim}
 use mathlib.Core.List.{List, [], _∷_}
 use Prim.Native.Nat.{ℕ}
 use native.Mathlib.Omega.{arith}
@@ -12,12 +12,22 @@ use Rattle.text.specs.Lists.{Text, all}
 use Rattle.text.specs.Utf8.{Utf8, unmarked, known}
 use Rattle.text.specs.Decode.{breakOf}
 use Rattle.text.specs.Faults.{every, Breaks, afterMark}
-use Rattle.text.proofs.Decode.{utf8-unique}
+use Rattle.text.proofs.Decode.{utf8-unique, decode-complete}
+use Rattle.text.proofs.Tests.{look, isT, T-false}
+use Rattle.tree.specs.Tree.{Grammar}
+use Rattle.derive.specs.Yield.{unproductive}
+use Rattle.derive.proofs.Productive.{unproductive-is}
+use Rattle.viable.specs.Fault.{FaultAt}
+use Rattle.viable.specs.Compute.{faultOf}
+use Rattle.viable.proofs.Fault.{fault-unique, fault-of, root-produces}
 use Rattle.text.proofs.Faults.{scalars, passing, one-break, Whole, break-there}
 use Rattle.text.proofs.Marks.{marked-text}
 use Rattle.answer.specs.Answer.{Line, Topmost, Note, Noted, Notes, Placed, Places, grammarLines, recordLines, grammarNotes, inputNotes, checkNotes, jobNotes, Job}
-use Rattle.answer.specs.Compute.{Value, valueAt, Values, placesAt, grammarValues, inputValues, checkValues, jobValues}
-use Rattle.answer.proofs.Lines.{numbers, distinct, given}
+use Rattle.answer.specs.Answer.{GrammarTree, ofJob, inputLines, readingLines}
+use Rattle.answer.specs.Demands.{Admitted}
+use Rattle.answer.specs.Compute.{faultIn, Value, valueAt, Values, placesAt, grammarValues, inputValues, checkValues, jobValues}
+use Rattle.answer.proofs.Lines.{numbers, distinct, given, unapplied}
+use Rattle.answer.proofs.Agree.{tree-complete, one-grammar, one-record}
 
 -- 1. Where each note says one place, a number has one.
 abbrev pub Single : List Note → Type 0
@@ -94,6 +104,18 @@ outside bs from cs one h =
     no-not true t e = t
     no-not false t e = subst T (sym e) tt
 
+-- the computed place is that of the job's grammar and record
+pub fault-in : (j : Job) (g : Grammar) (r : Text) → GrammarTree (j .grammar) g → Utf8 (j .input) r → faultIn j ≡ faultOf g r
+fault-in j g r x y = rw (tree-complete (j .grammar) g x, decode-complete (j .input) r y)
+
+-- where none of 1 to 15 applies, nor 24, the grammar's rules have texts, and the record's characters are known
+pub admitted-fault : (j : Job) → Admitted j → {g : Grammar} {r : Text} → GrammarTree (j .grammar) g × Utf8 (j .input) r → FaultAt g r (faultOf g r)
+admitted-fault j u {g} {r} x =
+    let lively = u .1 .1 .1 .1 .1 .1 .1 .1 .1 .1 .1 .0 in
+    let spelt = u .1 .1 .1 .1 .1 .1 .1 .1 .1 .1 .1 .1 .1 .0 in
+    let held : T (all known r) = ⊎-elim (λ q. isT q) (λ q. absurd (spelt (r, x .1, rw q tt))) (look (all known r)) in
+    fault-of g r held (root-produces g (T-false (unproductive g) (λ q. lively (g, x .0, unproductive-is g .0 q))))
+
 -- 4. The notes of the calls.
 module _ (bs : List ℕ) (ls : List Line) (d : T (distinct (numbers (grammarLines bs ls)))) (n : ℕ) (t : Topmost (grammarLines bs ls) n) where
   at-2 : n ≡ 2 → Breaks every bs (afterMark bs) (breakOf every bs (afterMark bs))
@@ -124,12 +146,26 @@ module _ (j : Job) (ls : List Line) (d : T (distinct (numbers (grammarLines (j .
       let x = given (grammarLines (j .grammar) (recordLines j ls)) 13 d (λ z. omega arith) (subst (Topmost (grammarLines (j .grammar) (recordLines j ls))) e t) in
       outside (j .input) 0 (x .0) (λ cs u. utf8-unique (j .input) cs (x .0) u (x .1)) (x .2)
 
+  at-16 : n ≡ 16 → ofJob j (λ g r. FaultAt g r (faultIn j))
+  at-16 e =
+      let s = subst (Topmost (grammarLines (j .grammar) (recordLines j ls))) e t in
+      let x = given (grammarLines (j .grammar) (recordLines j ls)) 16 d (λ z. omega arith) s in
+      let u = unapplied (grammarLines (j .grammar) (inputLines j [])) (readingLines j ls) 16 tt s in
+      (x .0, x .1, x .2, subst (FaultAt (x .0) (x .1)) (sym (fault-in j (x .0) (x .1) (x .2 .0) (x .2 .1))) (admitted-fault j u (x .2)))
+
   pub keeps-job : Keeps n (jobNotes j) (jobValues j)
   keeps-job = record {
     bytes = kept-grammar (j .grammar) (recordLines j ls) d n t (inputNotes (j .input) []) (inputValues (j .input) []) (refl, at-12, (refl, at-13, tt));
-    faults = tt;
+    faults = (refl, at-16, tt);
     grammars = tt;
   }
+
+-- a job has one place of the fault
+pub one-fault : (j : Job) (p q : ℕ) → ofJob j (λ g r. FaultAt g r p) → ofJob j (λ g r. FaultAt g r q) → p ≡ q
+one-fault j p q x y =
+    let e = one-grammar j (x .2 .0) (y .2 .0) in
+    let f = one-record j (x .2 .1) (y .2 .1) in
+    fault-unique p q (subst (λ (r : Text). FaultAt (y .0) r p) f (subst (λ (g : Grammar). FaultAt g (x .1) p) e (x .3))) (y .3)
 
 pub sole-check : (bs : List ℕ) → Sole (checkNotes bs)
 sole-check bs = record { bytes = (one-break every bs (afterMark bs), (one-break known bs (afterMark bs), tt)); faults = tt; grammars = tt }
@@ -143,6 +179,6 @@ sole-job j = record {
       (one-break every (j .input) 0, (one-break known (j .input) 0, tt)),
     ),
   );
-  faults = tt;
+  faults = (one-fault j, tt);
   grammars = tt;
 }

@@ -18,6 +18,7 @@ use Rattle.plain.specs.Plain.{size}
 use Rattle.derive.specs.Derive.{Row, Derivation, root}
 use Rattle.derive.specs.Chosen.{Reading, Second}
 use Rattle.derive.specs.Productive.{Unproductive}
+use Rattle.viable.specs.Fault.{FaultAt}
 use Rattle.xml.specs.Document.{document, markOf, twice, misnamed, unwritable, isAttribute, notOne, namespaced}
 use Rattle.xml.specs.Bytes.{bytes}
 
@@ -169,8 +170,12 @@ inputNotes bs xs = note 12 (Breaks every bs 0) ∷ note 13 (Breaks known bs 0) �
 abbrev pub checkNotes : List ℕ → Notes
 checkNotes bs = record { bytes = grammarNotes bs []; faults = []; grammars = [] }
 
+-- "With 16, answer the greatest number k …"
+abbrev pub readingNotes : Job → List Note → List Note
+readingNotes j xs = note 16 (λ k. ofJob j (λ g r. FaultAt g r k)) ∷ xs
+
 abbrev pub jobNotes : Job → Notes
-jobNotes j = record { bytes = grammarNotes (j .grammar) (inputNotes (j .input) []); faults = []; grammars = [] }
+jobNotes j = record { bytes = grammarNotes (j .grammar) (inputNotes (j .input) []); faults = readingNotes j []; grammars = [] }
 
 -- "An answer holds the number, a length, an ambiguous mark and a version mark", and the places
 pub record Answer : Type 0 where

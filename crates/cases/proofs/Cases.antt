@@ -10,6 +10,7 @@ use Rattle.text.specs.Lists.{Text, chars, all, same}
 use Rattle.text.proofs.Tests.{and-left, and-right, same-is}
 use Rattle.text.specs.Ranks as ranks
 use Rattle.derive.specs.Yield as yield
+use Rattle.viable.specs.Compute as viable
 use Rattle.answer.specs.Answer.{Places, Job, Answer, Checks, Reads, Converts}
 use Rattle.answer.specs.Compute.{Outcome, checkOf, readOf, convertOf}
 use Rattle.text.specs.Utf8 as utf8
@@ -23,7 +24,7 @@ use Rattle.xml.specs.Document as document
 use Rattle.xml.specs.Bytes as bytes
 use Rattle.answer.specs.Compute as compute
 use Rattle.answer.proofs.Settled.{check-answers, read-answers, convert-answers}
-use Rattle.cases.specs.Table.{Case, answered, refused, checked, table, buffer, job, answer, filled, Holds, Every, every-none, every-more}
+use Rattle.cases.specs.Table.{Case, answered, failed, checked, table, buffer, job, answer, fault, filled, Holds, Every, every-none, every-more}
 
 same-bool : Bool → Bool → Bool
 same-bool true b = b
@@ -83,7 +84,7 @@ leaves o a new = same-answer (o .answer) a && same (o .buffer) new
 
 passes : Case → Bool
 passes (answered g r p m x) = leaves (readOf (job g r) buffer) (answer 0 (length p) m) (filled p) && leaves (convertOf (job g r) buffer) (answer 0 (length (chars x)) m) (filled (chars x))
-passes (refused g r n) = leaves (readOf (job g r) buffer) (answer n 0 false) buffer && leaves (convertOf (job g r) buffer) (answer n 0 false) buffer
+passes (failed g r k) = leaves (readOf (job g r) buffer) (fault k) buffer && leaves (convertOf (job g r) buffer) (fault k) buffer
 passes (checked g n) = same-answer (checkOf (chars g)) (answer n 0 false)
 
 both : (P : Answer → List ℕ → Type 0) (o : Outcome) (a : Answer) (new : List ℕ) → P (o .answer) (o .buffer) → T (leaves o a new) → P a new
@@ -99,11 +100,11 @@ holds (answered g r p m x) t =
       both (Reads (job g r) buffer) (readOf (job g r) buffer) (answer 0 (length p) m) (filled p) (read-answers (job g r) buffer) (and-left a b t),
       both (Converts (job g r) buffer) (convertOf (job g r) buffer) (answer 0 (length (chars x)) m) (filled (chars x)) (convert-answers (job g r) buffer) (and-right a b t),
     )
-holds (refused g r n) t =
-    let a = leaves (readOf (job g r) buffer) (answer n 0 false) buffer in
-    let b = leaves (convertOf (job g r) buffer) (answer n 0 false) buffer in (
-      both (Reads (job g r) buffer) (readOf (job g r) buffer) (answer n 0 false) buffer (read-answers (job g r) buffer) (and-left a b t),
-      both (Converts (job g r) buffer) (convertOf (job g r) buffer) (answer n 0 false) buffer (convert-answers (job g r) buffer) (and-right a b t),
+holds (failed g r k) t =
+    let a = leaves (readOf (job g r) buffer) (fault k) buffer in
+    let b = leaves (convertOf (job g r) buffer) (fault k) buffer in (
+      both (Reads (job g r) buffer) (readOf (job g r) buffer) (fault k) buffer (read-answers (job g r) buffer) (and-left a b t),
+      both (Converts (job g r) buffer) (convertOf (job g r) buffer) (fault k) buffer (convert-answers (job g r) buffer) (and-right a b t),
     )
 holds (checked g n) t = subst (Checks (chars g)) (answer-is (checkOf (chars g)) (answer n 0 false) t) (check-answers (chars g))
 
@@ -112,10 +113,10 @@ every [] t = every-none
 every (c ∷ cs) t = every-more (holds c (and-left (passes c) (all passes cs) t)) (every cs (and-right (passes c) (all passes cs) t))
 
 pub cases-hold : Every Holds table
-unfolding table buffer job answer filled passes leaves same-answer same-places same-bool computing
+unfolding table buffer job answer fault filled passes leaves same-answer same-places same-bool computing
     utf8.utf8 utf8.utf8s utf8.unmarked utf8.alphabet utf8.known decoding.secondLow decoding.secondHigh decoding.restOf decoding.charOf decoding.decodeIn
     decoding.decode decoding.breakIn decoding.breakOf category.categories category.classes category.isClass
     static.undefined static.duplicate static.beyond static.unassignable static.banned static.codeOf static.runsBack static.backwards static.noClass static.unclassed plain.size
     names.xmlChar names.nameStart names.nameChar names.xmlName document.twice document.misnamed document.unwritable document.isAttribute document.notOne document.namespaced bytes.escape bytes.bytes
-    static.mismatched utf8.width ranks.total ranks.codeAt ranks.rankIn ranks.someKnown yield.unproductive compute.treeOf checkOf readOf convertOf
+    static.mismatched utf8.width ranks.total ranks.codeAt ranks.rankIn ranks.someKnown yield.unproductive viable.faultOf compute.treeOf checkOf readOf convertOf
 cases-hold = every table tt
