@@ -1,0 +1,5 @@
+pub mod Keys
+pub mod Alike
+pub mod Ranges
+pub mod WantLaws
+pub mod Places
