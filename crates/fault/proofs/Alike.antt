@@ -117,6 +117,10 @@ module _ {Tb : List ℕ} {at : ℕ} {x : Terminal} (w : TerminalAt Tb at x) (t :
   unfolding begunOf
   begun-none h = sym (rw (first-at Tb at, le-ltb (getD Tb at 0) 8 (omega arith), le-ltb (getD Tb at 0) 12 h)) ∙ whole
 
+-- two terminals with the same tokens are begun alike
+pub begun-same : {Tb : List ℕ} {at : ℕ} {x y : Terminal} → TerminalAt Tb at x → TerminalAt Tb at y → (t : Text) → begunBy x t ≡ begunBy y t
+begun-same v w t = sym (whole v t) ∙ whole w t
+
 -- one character
 module _ {Tb : List ℕ} {at n : ℕ} {R : Text} {i k : ℕ} where
   pub agrees-end : n ≤ k → Agrees Tb at n R i k false

@@ -20,7 +20,7 @@ use Rattle.reach.specs.Lists as lists
 use Rattle.reach.proofs.Keys.{use-none, use-some, key-use, members}
 use Rattle.sparse.specs.Cells.{Shape}
 use Rattle.stands.specs.Viable.{Begins}
-use Rattle.fault.specs.Firsts.{Tokened, Finishing, at-end, at-terminal, at-other, Tells, KeyPut, First, Keyed, Firsts}
+use Rattle.fault.specs.Firsts.{AllLive, SomeLive, Tokened, Finishing, at-end, at-terminal, at-other, Tells, KeyPut, First, Keyed, Firsts}
 
 module _ {Tb c : List ℕ} {p : ℕ} where
   pub tells-end : nextKind c p ≡ 0 → Tells Tb c p true
@@ -29,23 +29,22 @@ module _ {Tb c : List ℕ} {p : ℕ} where
   pub tells-other : {after : Bool} → (nextKind c p ≡ 0 → ⊥) → (nextKind c p ≡ 1 → ⊥) → Tells Tb c (p + 1) after → Tells Tb c p after
   tells-other {after} a b t = record { yes = λ e. at-other a b (t .yes e); no = go }
     where
-      go : Finishing Tb c p → after ≡ true
+      go : Finishing (SomeLive Tb) c p → after ≡ true
       go (at-end z) = absurd (a z)
       go (at-terminal z l f) = absurd (b z)
       go (at-other x y f) = t .no f
 
-  -- a terminal is there
-  pub tells-terminal : {after alive r : Bool} (x : Terminal) → nextKind c p ≡ 1 → Token Tb p x → ((y : Terminal) → Token Tb p y → alive ≡ live y) → r ≡ (after && alive)
+  pub tells-terminal : {after alive r : Bool} → nextKind c p ≡ 1 → ((y : Terminal) → Token Tb p y → alive ≡ live y) → r ≡ (after && alive)
       → Tells Tb c (p + 1) after → Tells Tb c p r
-  tells-terminal {after} {alive} {r} x z w f e t = record {
+  tells-terminal {after} {alive} {r} z f e t = record {
     yes = λ q. (let both : T (after && alive) = isT (sym e ∙ q) in
         at-terminal z (λ y v. subst T (f y v) (and-right after alive both)) (t .yes (T-true after (and-left after alive both))));
     no = λ q. e ∙ T-true (after && alive) (go q);
   }
     where
-      go : Finishing Tb c p → T (after && alive)
+      go : Finishing (SomeLive Tb) c p → T (after && alive)
       go (at-end y) = absurd (omega arith)
-      go (at-terminal y l q) = both-and after alive (isT (t .no q)) (subst T (sym (f x w)) (l x w))
+      go (at-terminal y l q) = both-and after alive (isT (t .no q)) (subst T (sym (f (l .0) (l .1))) (l .2))
       go (at-other a b q) = absurd (b z)
 
 module _ {c K : List ℕ} {p : ℕ} where
@@ -101,27 +100,27 @@ keying-next {Tb} {c} {K₀} {K} {K'} {size} {p} {b} {alive} {alive'} k h e t u =
     later : (q : ℕ) → b ≤ q → (q ≡ b → ⊥) → (nextKind K' q ≡ nextKind K q) × (ruleAt K' q ≡ ruleAt K q)
     later q a n = (u .kept (4 * q) (inr (omega arith)), u .kept (4 * q + 2) (inr (omega arith)))
 
-    is : (q d : ℕ) → b ≤ q → q < size → First Tb c q d → (nextKind K' q ≡ 2) × (ruleAt K' q ≡ d)
+    is : (q d : ℕ) → b ≤ q → q < size → First (SomeLive Tb) c q d → (nextKind K' q ≡ 2) × (ruleAt K' q ≡ d)
     is q d a l f = elim (ℕ-discrete q b) as (λ _. (nextKind K' q ≡ 2) × (ruleAt K' q ≡ d)) [
       | yes z ↦ subst (λ (v : ℕ). (nextKind K' v ≡ 2) × (ruleAt K' v ≡ d)) (sym z)
-          (u .some d (ap (ownerAt c) (sym z) ∙ f .owner) (t .no (subst (Finishing Tb c) z (f .finishing))))
+          (u .some d (ap (ownerAt c) (sym z) ∙ f .owner) (t .no (subst (Finishing (SomeLive Tb) c) z (f .finishing))))
       | no z ↦ (let y = k .keyed .is q d (omega arith) l f in let w = later q a z in (w .0 ∙ y .0, w .1 ∙ y .1))
     ]
 
-    here : nextKind K' b ≡ 2 → First Tb c b (ruleAt K' b)
-    here z = elim (ℕ-discrete (ownerAt c b) 0) as (λ _. First Tb c b (ruleAt K' b)) [
+    here : nextKind K' b ≡ 2 → First (AllLive Tb) c b (ruleAt K' b)
+    here z = elim (ℕ-discrete (ownerAt c b) 0) as (λ _. First (AllLive Tb) c b (ruleAt K' b)) [
       | yes o ↦ absurd (omega (arith, u .none (inl o), k .before (4 * b) (omega arith)))
       | no o ↦ go o alive' refl
     ]
       where
-        go : (ownerAt c b ≡ 0 → ⊥) → (v : Bool) → alive' ≡ v → First Tb c b (ruleAt K' b)
+        go : (ownerAt c b ≡ 0 → ⊥) → (v : Bool) → alive' ≡ v → First (AllLive Tb) c b (ruleAt K' b)
         go o true y = let w = u .some (ownerAt c b - 1) (omega arith) y in record { owner = omega (arith, w .1); finishing = t .yes y }
         go o false y = absurd (omega (arith, u .none (inr (λ q. clash y q)), k .before (4 * b) (omega arith)))
 
-    only : (q : ℕ) → b ≤ q → q < size → nextKind K' q ≡ 2 → First Tb c q (ruleAt K' q)
-    only q a l y = elim (ℕ-discrete q b) as (λ _. First Tb c q (ruleAt K' q)) [
-      | yes z ↦ subst (λ (v : ℕ). First Tb c v (ruleAt K' v)) (sym z) (here (subst (λ (v : ℕ). nextKind K' v ≡ 2) z y))
-      | no z ↦ (let w = later q a z in subst (First Tb c q) (sym (w .1)) (k .keyed .only q (omega arith) l (sym (w .0) ∙ y)))
+    only : (q : ℕ) → b ≤ q → q < size → nextKind K' q ≡ 2 → First (AllLive Tb) c q (ruleAt K' q)
+    only q a l y = elim (ℕ-discrete q b) as (λ _. First (AllLive Tb) c q (ruleAt K' q)) [
+      | yes z ↦ subst (λ (v : ℕ). First (AllLive Tb) c v (ruleAt K' v)) (sym z) (here (subst (λ (v : ℕ). nextKind K' v ≡ 2) z y))
+      | no z ↦ (let w = later q a z in subst (First (AllLive Tb) c q) (sym (w .1)) (k .keyed .only q (omega arith) l (sym (w .0) ∙ y)))
     ]
 
 -- what is said of the dot before p
@@ -163,7 +162,7 @@ module _ {Tb c K L : List ℕ} {size : ℕ} (s : Tokened Tb c size) (k : Keyed T
     linked = m .linked;
     all = λ q e h f. (let i = k .is q e (omega arith) h f in
         m .all q e h (key-use K q 3 (λ y. omega arith) (λ y. omega arith) (λ y. omega arith) ∙ use-some K q (i .0) ∙ ap (λ (y : ℕ). y + 1) (i .1)));
-    only = λ q e h l. (let w = listed-is (omega arith) (u .last e h) l in subst (First Tb c q) (w .2) (k .only q (omega arith) (w .0) (w .1)));
+    only = λ q e h l. (let w = listed-is (omega arith) (u .last e h) l in subst (First (AllLive Tb) c q) (w .2) (k .only q (omega arith) (w .0) (w .1)));
   }
     where
       m : lists.Members K 3 size L

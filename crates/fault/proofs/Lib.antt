@@ -3,3 +3,5 @@ pub mod Alike
 pub mod Ranges
 pub mod WantLaws
 pub mod Places
+pub mod Model
+pub mod Found

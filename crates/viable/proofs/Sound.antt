@@ -31,6 +31,25 @@ begins-less {g} p q h b = record {
   derives = subst (λ (z : Text). Derivation g z (b .tree)) (append-assoc p q (b .rest)) (b .derives);
 }
 
+-- a symbol of which some characters may have been begun is a literal
+pub data First (s : Symbol) : Type 0 where
+  is-literal : (m : Mark) (c : Chars) → s ≡ terminal (literal m c) → First s
+  no-literal : ((ss : List Symbol) (t : Text) → begun (s ∷ ss) t ≡ 0) → First s
+
+pub first-of : (s : Symbol) → First s
+first-of (terminal (literal m c)) = is-literal m c refl
+first-of (terminal (inclusion m ms)) = no-literal (λ ss t. refl)
+first-of (terminal (exclusion m ms)) = no-literal (λ ss t. refl)
+first-of (terminal (insertion k)) = no-literal (λ ss t. refl)
+first-of (nonterminal m n) = no-literal (λ ss t. refl)
+first-of (group b) = no-literal (λ ss t. refl)
+first-of (option f) = no-literal (λ ss t. refl)
+first-of (repeat0 f) = no-literal (λ ss t. refl)
+first-of (repeat1 f) = no-literal (λ ss t. refl)
+first-of (repeat0sep f e) = no-literal (λ ss t. refl)
+first-of (repeat1sep f e) = no-literal (λ ss t. refl)
+first-of (rest f e) = no-literal (λ ss t. refl)
+
 module _ (g : Grammar) (r : Text) (held : T (all known r)) where
   -- what stands at i can be finished, and a text that has the record's first i characters, the rest of which it derives, begins a text of the grammar
   pub record Stood (ss : List Symbol) (i : ℕ) : Type 0 where
@@ -134,25 +153,6 @@ module _ (g : Grammar) (r : Text) (held : T (all known r)) where
       let k = alike (codes c) (drop i r) in
       let s : take k u ≡ take k (drop i r) = take-append-le k (codes c) v (alike-right (codes c) (drop i r)) ∙ alike-take (codes c) (drop i r) in
       cut i k u ku s (follow o u ku (leaf (i + length (codes c)) t) (d-leaf fit y3))
-
-  -- a symbol of which some characters may have been begun is a literal
-  pub data First (s : Symbol) : Type 0 where
-    is-literal : (m : Mark) (c : Chars) → s ≡ terminal (literal m c) → First s
-    no-literal : ((ss : List Symbol) (t : Text) → begun (s ∷ ss) t ≡ 0) → First s
-
-  pub first-of : (s : Symbol) → First s
-  first-of (terminal (literal m c)) = is-literal m c refl
-  first-of (terminal (inclusion m ms)) = no-literal (λ ss t. refl)
-  first-of (terminal (exclusion m ms)) = no-literal (λ ss t. refl)
-  first-of (terminal (insertion k)) = no-literal (λ ss t. refl)
-  first-of (nonterminal m n) = no-literal (λ ss t. refl)
-  first-of (group b) = no-literal (λ ss t. refl)
-  first-of (option f) = no-literal (λ ss t. refl)
-  first-of (repeat0 f) = no-literal (λ ss t. refl)
-  first-of (repeat1 f) = no-literal (λ ss t. refl)
-  first-of (repeat0sep f e) = no-literal (λ ss t. refl)
-  first-of (repeat1sep f e) = no-literal (λ ss t. refl)
-  first-of (rest f e) = no-literal (λ ss t. refl)
 
   plus-none : (i : ℕ) {b : ℕ} → b ≡ 0 → i ≡ i + b
   plus-none i e = omega arith

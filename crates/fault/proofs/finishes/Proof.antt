@@ -1,6 +1,6 @@
+use borrow.Author.Needs.{needs}
 use native.Mathlib.Omega.{arith}
 use Rattle.fault.proofs.Keys.{tells-end, tells-other, tells-terminal}
-use borrow.Author.Needs.{needs}
 use Rattle.fault.proofs.finishes.Statement.{statement}
 use Rattle.fault.proofs.finishes.Tie as tie
 
@@ -41,10 +41,7 @@ both-requires : tie.Need-both-requires
 both-requires c κs = search needs
 
 returns-3 : tie.Need-returns-3
-returns-3 c =
-    let here = c .before .before .before .before .before .before .before .before .before .pre .0 .here (c .before .before .before .before .before .before .before .before .before .args .p) (c .before .before .before .before .before .before .before .before .before .pre .1) (c .before .before .before .before .if2 .left) in
-    tells-terminal (here .terminal) (c .before .before .before .before .if2 .left) (c .before .before .before .before .before .before .before .before .before .pre .0 .is (c .before .before .before .before .before .before .before .before .before .args .p) (here .terminal) (c .before .before .before .before .before .before .before .before .before .pre .1) (c .before .before .before .before .if2 .left) (here .is))
-    (λ y v. c .before .is-live .ensures y (rw (c .before .before .wide .ensures) (v .1))) (c .both .ensures) (c .before .before .before .before .before .before .before .before .before .pre .2 (c .before .before .before .before .before .if1 .left))
+returns-3 c = tells-terminal (c .before .before .before .before .if2 .left) (λ y v. c .before .is-live .ensures y (rw (c .before .before .wide .ensures) (v .1))) (c .both .ensures) (c .before .before .before .before .before .before .before .before .before .pre .2 (c .before .before .before .before .before .if1 .left))
 
 pub finishes-spec : {M : Type 1} → statement M
 finishes-spec =
