@@ -9,7 +9,8 @@ macro_rules! errors {
         /// judged: the first that applies is given. `byte` is the place of the
         /// first byte at fault and `quote` what stands there, as far as it is
         /// known; `version_mismatch` says that the grammar's prolog names another
-        /// version than 1.0.
+        /// version than 1.0; `place` is how many of the record's first characters
+        /// begin some text that the grammar accepts.
         ///
         /// ```
         /// let error = ixml::check(b"a: ['b'-'a'].").ok().unwrap_err();
@@ -80,7 +81,7 @@ errors! {
     RecordCharacter { byte: usize = byte, quote: Quote = unquoted } = 13, "the record holds a character outside the alphabet (U+0000 to U+017F, U+0300 to U+036F, U+203F, U+2040)";
     RecordTooLong = 14, "the record has over 200 characters";
     TableTooShort = 15, "the main table or the grammar table is too short";
-    NoReading { version_mismatch: bool = version } = 16, "the grammar does not derive the record";
+    NoReading { version_mismatch: bool = version, place: usize = fault } = 16, "the grammar does not derive the record";
     ReadingTooLong = 29, "the chosen reading has over 4,096 numbers";
     RepeatedAttribute = 17, "the XML would have an attribute twice on one element";
     NotXmlName = 18, "the XML would have a name that is no XML name";
@@ -145,6 +146,10 @@ fn byte(answer: Answer) -> usize {
     answer.places.byte
 }
 
+fn fault(answer: Answer) -> usize {
+    answer.places.fault
+}
+
 fn version(answer: Answer) -> bool {
     answer.version
 }
@@ -185,6 +190,9 @@ impl fmt::Display for Error {
         write!(formatter, "refused {}: {}", self.number(), self.sentence())?;
         if let Some(byte) = self.byte() {
             write!(formatter, ", at byte {byte}")?;
+        }
+        if let Error::NoReading { place, .. } = self {
+            write!(formatter, ", after {place} characters")?;
         }
         match self.quote().bytes() {
             [] => Ok(()),

@@ -157,7 +157,7 @@ fn derive(
             return Err(Refusal::TableTooShort);
         }
         version = accepted.version;
-        let forest = engine::parse(&plain, &record).ok_or(Refusal::NoReading)?;
+        let forest = engine::parse(&plain, &record).map_err(Refusal::NoReading)?;
         let reading = reading::choose(&forest)?;
         ambiguous = reading.ambiguous;
         let state = State {
@@ -174,9 +174,9 @@ fn derive(
             version,
             ..Answer::default()
         },
-        Err(Refusal::NoReading) => Answer {
+        Err(Refusal::NoReading(place)) => Answer {
             version,
-            ..Refusal::NoReading.into()
+            ..Refusal::NoReading(place).into()
         },
         Err(refusal) => refusal.into(),
     }

@@ -34,7 +34,8 @@ pub enum Refusal {
     RecordAlphabet(usize),
     RecordTooLong,
     TableTooShort,
-    NoReading,
+    /// With how many of the record's first characters begin some text.
+    NoReading(usize),
     ReadingTooLong,
     RepeatedAttribute,
     NotXmlName,
@@ -69,7 +70,7 @@ impl Refusal {
             Refusal::RecordAlphabet(_) => 13,
             Refusal::RecordTooLong => 14,
             Refusal::TableTooShort => 15,
-            Refusal::NoReading => 16,
+            Refusal::NoReading(_) => 16,
             Refusal::ReadingTooLong => 29,
             Refusal::RepeatedAttribute => 17,
             Refusal::NotXmlName => 18,
@@ -94,9 +95,13 @@ impl Refusal {
             | Refusal::RecordAlphabet(place) => place,
             _ => 0,
         };
+        let fault = match self {
+            Refusal::NoReading(place) => place,
+            _ => 0,
+        };
         Places {
             byte,
-            fault: 0,
+            fault,
             grammar: 0,
         }
     }

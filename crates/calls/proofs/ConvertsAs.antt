@@ -18,7 +18,7 @@ use Rattle.xml.specs.Document.{Xml as Document, document, markOf, twice, misnam
 use Rattle.xml.specs.Bytes.{bytes}
 use Rattle.plain.specs.Static.{mismatched}
 use Rattle.answer.specs.Answer.{Job, Converts, asXml}
-use Rattle.answer.specs.Compute.{value, placesAt, jobValues, Outcome, Test, firstOf, documentTests, mismatch, longTest, convertOf}
+use Rattle.answer.specs.Compute.{faultIn, value, placesAt, jobValues, Outcome, Test, firstOf, documentTests, mismatch, longTest, convertOf}
 use Rattle.answer.proofs.Settled.{convert-answers}
 use Rattle.job.specs.declared.LeftParse.{LeftParse}
 use Rattle.job.specs.declared.Refusal.{Refusal}
@@ -164,7 +164,8 @@ module _ (j : Job) (old : List ℕ) where
         let thirteen = value 13 (λ _. breakOf known (j .input) 0) in
         let e = value-skip two (three ∷ twelve ∷ thirteen ∷ []) k (λ q. omega arith) ∙ value-skip three (twelve ∷ thirteen ∷ []) k (λ q. omega arith)
         ∙ value-skip twelve (thirteen ∷ []) k (λ q. omega arith) ∙ value-skip thirteen [] k (λ q. omega arith) in
-        λ ι. record { byte = sym e ι; fault = 0; grammar = 0 }
+        let f = value-skip (value 16 (λ _. faultIn j)) [] k (λ q. omega arith) in
+        λ ι. record { byte = sym e ι; fault = sym f ι; grammar = 0 }
 
     pub convert-refused : (k n : ℕ) (d : Diagnostic) (a : Answer) → v ≡ Not-converted k → n ≡ convertedNumber v → d ≡ plainly n
         → a ≡ refusalOf (record { why = d; mismatch = f .mismatch }) → ConvertedAs j old a new′

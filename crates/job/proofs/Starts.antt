@@ -17,7 +17,7 @@ use Rattle.text.specs.declared.Diagnostic.{Diagnostic}
 use Rattle.text.specs.declared.CharPlace.{CharPlace}
 use Rattle.plain.specs.Plain.{size}
 use Rattle.answer.specs.Answer.{Job, tableNeed}
-use Rattle.answer.specs.Compute.{firstOf, grammarTests, recordTests, Value, value, valueAt, placesAt, checkValues, jobValues}
+use Rattle.answer.specs.Compute.{faultIn, firstOf, grammarTests, recordTests, Value, value, valueAt, placesAt, checkValues, jobValues}
 use Rattle.answer.proofs.Noted.{value-skip}
 use Rattle.answer.proofs.Stages.{stage-15}
 use Rattle.load.specs.Loaded.{Turned}
@@ -40,8 +40,8 @@ value-cong v vs ws n h = go (eqb n (v .number))
 
 module _ (j : Job) (T new : List ℕ) where
   -- the places of a grammar's refusal are the job's
-  same-places : (n : ℕ) → (n ≡ 12 → ⊥) → (n ≡ 13 → ⊥) → placesAt (checkValues (j .grammar)) n ≡ placesAt (jobValues j) n
-  same-places n a b =
+  same-places : (n : ℕ) → (n ≡ 12 → ⊥) → (n ≡ 13 → ⊥) → (n ≡ 16 → ⊥) → placesAt (checkValues (j .grammar)) n ≡ placesAt (jobValues j) n
+  same-places n a b d =
       let two = value 2 (λ _. breakOf every (j .grammar) (afterMark (j .grammar))) in
       let three = value 3 (λ _. breakOf known (j .grammar) (afterMark (j .grammar))) in
       let twelve = value 12 (λ _. breakOf every (j .input) 0) in
@@ -49,7 +49,8 @@ module _ (j : Job) (T new : List ℕ) where
       let none = value-skip twelve (thirteen ∷ []) n a ∙ value-skip thirteen [] n b in
       let rest = value-cong three [] (twelve ∷ thirteen ∷ []) n (sym none) in
       let e = value-cong two (three ∷ []) (three ∷ twelve ∷ thirteen ∷ []) n rest in
-      λ ι. record { byte = e ι; fault = 0; grammar = 0 }
+      let f = value-skip (value 16 (λ _. faultIn j)) [] n d in
+      λ ι. record { byte = e ι; fault = sym f ι; grammar = 0 }
 
   pub ends-grammar : (d : Accepted) (k n : Diagnostic) → d ≡ Turned-down k → n ≡ diagnosticOf (stageOf d) → Accepts (j .grammar) T d → Begins j T new (Ended n)
   ends-grammar d k n q e l =
@@ -59,7 +60,8 @@ module _ (j : Job) (T new : List ℕ) where
         some = t .some;
         early = ⊎-elim (λ l. inl (omega arith)) inr (t .early);
         is = λ ts. t .first (recordTests j ts);
-        places = t .places ∙ same-places (k .number) (λ e. ⊎-elim (λ l. omega arith) (λ l. omega arith) (t .early)) (λ e. ⊎-elim (λ l. omega arith) (λ l. omega arith) (t .early));
+        places = t .places ∙ same-places (k .number) (λ e. ⊎-elim (λ l. omega arith) (λ l. omega arith) (t .early)) (λ e. ⊎-elim (λ l. omega arith) (λ l. omega arith) (t .early))
+            (λ e. ⊎-elim (λ l. omega arith) (λ l. omega arith) (t .early));
       })
 
   module _ (d : Accepted) (p : Rules) (q : d ≡ A-grammar p) (l : Accepts (j .grammar) T d) where
