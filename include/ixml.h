@@ -78,7 +78,11 @@ typedef struct {
      * a byte order mark included.
      */
     size_t byte;
-    /* 0 so far. */
+    /*
+     * With 16: how many of the record's first characters begin some text that
+     * the grammar accepts, however long that text is. 0 for a wrong first
+     * character; all of them for a record that ends too soon.
+     */
     size_t fault;
     /*
      * With 5 to 10: the first name, hex number (its #), range (the quote or #

@@ -25,7 +25,8 @@ pub struct Places {
     /// With 2, 3, 12 and 13: the first byte of what is not UTF-8, or outside the
     /// alphabet, from the first byte of the grammar or of the record on.
     pub byte: usize,
-    /// 0 so far.
+    /// With 16: how many of the record's first characters begin some text that
+    /// the grammar accepts.
     pub fault: usize,
     /// With 5 to 10: the first name, hex number (its `#`), range or class of the
     /// grammar at fault, in characters after a byte order mark; with 6 the first

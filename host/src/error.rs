@@ -9,8 +9,9 @@ macro_rules! errors {
         /// judged: the first that applies is given. `byte` is the place of the
         /// first byte at fault and `quote` what stands there, as far as it is
         /// known; `place` is that of the first character of the grammar at fault,
-        /// after a byte order mark; `version_mismatch` says that the grammar's prolog names another
-        /// version than 1.0.
+        /// after a byte order mark, or with 16 how many of the record's first
+        /// characters begin some text that the grammar accepts; `version_mismatch`
+        /// says that the grammar's prolog names another version than 1.0.
         ///
         /// ```
         /// let error = ixml::check(b"a: ['b'-'a'].").ok().unwrap_err();
@@ -81,7 +82,7 @@ errors! {
     RecordCharacter { byte: usize = byte, quote: Quote = unquoted } = 13, "the record holds a character outside the alphabet (U+0000 to U+017F, U+0300 to U+036F, U+203F, U+2040)";
     RecordTooLong = 14, "the record has over 200 characters";
     TableTooShort = 15, "the main table, the scratch or the grammar table is too short";
-    NoReading { version_mismatch: bool = version } = 16, "the grammar does not derive the record";
+    NoReading { version_mismatch: bool = version, place: usize = fault } = 16, "the grammar does not derive the record";
     NoDerivation = 25, "the list of numbers is no derivation of the record by the grammar";
     ReadingTooLong = 29, "the chosen reading has over 4,096 numbers";
     RepeatedAttribute = 17, "the XML would have an attribute twice on one element";
@@ -185,6 +186,10 @@ fn place(answer: Answer) -> usize {
     answer.places.grammar
 }
 
+fn fault(answer: Answer) -> usize {
+    answer.places.fault
+}
+
 fn version(answer: Answer) -> bool {
     answer.version
 }
@@ -228,6 +233,9 @@ impl fmt::Display for Error {
         }
         if let Some(place) = self.place() {
             write!(formatter, ", at character {place}")?;
+        }
+        if let Error::NoReading { place, .. } = self {
+            write!(formatter, ", after {place} characters")?;
         }
         match self.quote().bytes() {
             [] => Ok(()),

@@ -21,6 +21,8 @@ fn every_refusal_has_its_number_and_a_sentence_of_its_own() {
         assert_eq!(byte.is_some(), [2, 3, 12, 13].contains(&number));
         let place = error.place().map(|place| format!(", at character {place}"));
         assert_eq!(place.is_some(), (5..=10).contains(&number));
+        let fault = (number == 16).then(|| String::from(", after 0 characters"));
+        let place = place.or(fault);
         assert_eq!(
             error.to_string(),
             format!(
@@ -43,7 +45,14 @@ fn no_reading_tells_of_another_version() {
             ..Answer::default()
         };
         let version_mismatch = version;
-        assert_eq!(answer.ok(), Err(Error::NoReading { version_mismatch }));
+        let place = 0;
+        assert_eq!(
+            answer.ok(),
+            Err(Error::NoReading {
+                version_mismatch,
+                place
+            })
+        );
     }
 }
 
@@ -100,7 +109,14 @@ fn a_reader_reads_jobs_of_all_lengths() {
     assert!(outside.to_string().ends_with(", at byte 1 (C6 80)"));
     let no_reading = reader.read("ixml version '2'. a: 'x'.", "y");
     let version_mismatch = true;
-    assert_eq!(no_reading, Err(Error::NoReading { version_mismatch }));
+    let place = 0;
+    assert_eq!(
+        no_reading,
+        Err(Error::NoReading {
+            version_mismatch,
+            place
+        })
+    );
     let reading = reader.read("a: 'x'; 'x'.", "x").expect("a reading");
     assert!(reading.ambiguous);
     let long = jobs::doublings("", 12);

@@ -123,7 +123,7 @@ pub fn judge(
 pub fn second(grammar: &[u8], record: &[u8]) -> Option<Vec<u32>> {
     let accepted = accept(grammar).ok()?;
     let record = text::record(record).ok()?;
-    crate::second::second(&engine::parse(&accepted.plain, &record)?)
+    crate::second::second(&engine::parse(&accepted.plain, &record).ok()?)
 }
 
 /// Tidies a grammar: 0 to 11, 24, 28 and 23. The bytes of the tidy text fill
@@ -201,7 +201,7 @@ fn derive(
             return Err(Refusal::TableTooShort);
         }
         version = accepted.version;
-        let forest = engine::parse(&plain, &record).ok_or(Refusal::NoReading)?;
+        let forest = engine::parse(&plain, &record).map_err(Refusal::NoReading)?;
         let reading = reading::choose(&forest)?;
         ambiguous = reading.ambiguous;
         let state = State {
@@ -218,9 +218,9 @@ fn derive(
             version,
             ..Answer::default()
         },
-        Err(Refusal::NoReading) => Answer {
+        Err(Refusal::NoReading(place)) => Answer {
             version,
-            ..Refusal::NoReading.into()
+            ..Refusal::NoReading(place).into()
         },
         Err(refusal) => refusal.into(),
     }

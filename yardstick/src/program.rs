@@ -25,13 +25,15 @@ pub fn program(grammar: Option<&[u8]>, record: Option<&[u8]>) -> Vec<u8> {
             &mut result,
         )
     };
-    let no_reading = Refusal::NoReading.number();
+    let no_reading = Refusal::NoReading(0).number();
     let mut output = match answer.number {
         0 => {
             result.truncate(answer.length);
             result
         }
-        number if number == no_reading => xml::fail(answer.version).into_bytes(),
+        number if number == no_reading => {
+            xml::fail(answer.version, answer.places.fault).into_bytes()
+        }
         number => format!("refused {number}").into_bytes(),
     };
     output.push(b'\n');

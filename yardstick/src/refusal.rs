@@ -36,7 +36,8 @@ pub enum Refusal {
     RecordAlphabet(usize),
     RecordTooLong,
     TableTooShort,
-    NoReading,
+    /// With how many of the record's first characters begin some text.
+    NoReading(usize),
     NoDerivation,
     ReadingTooLong,
     RepeatedAttribute,
@@ -72,7 +73,7 @@ impl Refusal {
             Refusal::RecordAlphabet(_) => 13,
             Refusal::RecordTooLong => 14,
             Refusal::TableTooShort => 15,
-            Refusal::NoReading => 16,
+            Refusal::NoReading(_) => 16,
             Refusal::NoDerivation => 25,
             Refusal::ReadingTooLong => 29,
             Refusal::RepeatedAttribute => 17,
@@ -107,9 +108,13 @@ impl Refusal {
             | Refusal::UnknownClass(place) => place,
             _ => 0,
         };
+        let fault = match self {
+            Refusal::NoReading(place) => place,
+            _ => 0,
+        };
         Places {
             byte,
-            fault: 0,
+            fault,
             grammar,
         }
     }

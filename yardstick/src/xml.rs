@@ -28,13 +28,13 @@ pub fn convert(
 }
 
 /// The document that takes the place of the XML when there is no reading.
-pub fn fail(version_mismatch: bool) -> String {
+pub fn fail(version_mismatch: bool, place: usize) -> String {
     let words = if version_mismatch {
         "failed version-mismatch"
     } else {
         "failed"
     };
-    format!("<fail{}/>", state_attributes(words))
+    format!("<fail{} place='{place}'/>", state_attributes(words))
 }
 
 fn state_attributes(words: &str) -> String {

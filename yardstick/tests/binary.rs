@@ -45,7 +45,7 @@ fn files_and_arguments() {
         (&["good", "x"], "<a>x</a>\n"),
         (
             &["good", "y"],
-            "<fail xmlns:ixml='http://invisiblexml.org/NS' ixml:state='failed'/>\n",
+            "<fail xmlns:ixml='http://invisiblexml.org/NS' ixml:state='failed' place='0'/>\n",
         ),
         (&["bad", "x"], "refused 5\n"),
         (&["bad", "long"], "refused 14\n"),

@@ -139,7 +139,7 @@ fn a11_the_library_writes_no_fail_document() {
     let answer = convert(b"a: \"x\".", b"y", ample(), GRAMMAR_TABLE, &mut buffer);
     assert_eq!((answer.number, answer.length), (16, 0));
     assert_eq!(buffer, [7; 100]);
-    let expected = format!("<fail{STATE}'failed'/>\n");
+    let expected = format!("<fail{STATE}'failed' place='0'/>\n");
     assert_eq!(program(Some(b"a: \"x\"."), Some(b"y")), expected.as_bytes());
 }
 
@@ -564,7 +564,7 @@ fn a34_what_the_program_reads() {
         b"refused 14\n"
     );
     assert_eq!(program(Some(b"a: \"x\"."), Some(b"x")), b"<a>x</a>\n");
-    let expected = format!("<fail{STATE}'failed version-mismatch'/>\n");
+    let expected = format!("<fail{STATE}'failed version-mismatch' place='0'/>\n");
     let grammar = b"ixml version \"2\". a: \"x\".";
     assert_eq!(program(Some(grammar), Some(b"y")), expected.as_bytes());
 }

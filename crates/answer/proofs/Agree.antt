@@ -158,6 +158,13 @@ grammar-agrees bs ls ts a = (
   ),
 )
 
+-- a job has one grammar and one record
+pub one-grammar : (j : Job) {g h : Grammar} → GrammarTree (j .grammar) g → GrammarTree (j .grammar) h → g ≡ h
+one-grammar j {g} {h} x y = let e : parsed g ≡ parsed h = sym (tree-complete (j .grammar) g x) ∙ tree-complete (j .grammar) h y in cc
+
+pub one-record : (j : Job) {r s : Text} → Utf8 (j .input) r → Utf8 (j .input) s → r ≡ s
+one-record j {r} {s} x y = let e : text r ≡ text s = sym (decode-complete (j .input) r x) ∙ decode-complete (j .input) s y in cc
+
 -- a job's grammar and record, and its chosen reading
 pub job-known : (j : Job) (f : Grammar → Text → Bool) (P : Grammar → Text → Type 0) → ((g : Grammar) (r : Text) → Tests (f g r) (P g r)) → Tests (onJob j f) (ofJob j P)
 job-known j f P h =

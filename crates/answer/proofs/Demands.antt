@@ -20,21 +20,19 @@ use Rattle.derive.specs.Chosen.{Reading, Second}
 use Rattle.derive.specs.Pick.{found, chosenOf}
 use Rattle.derive.proofs.Choose.{chosen-found}
 use Rattle.derive.proofs.Chosen.{chosen-derives, chosen-least}
+use Rattle.viable.specs.Fault.{FaultAt}
+use Rattle.viable.specs.Compute.{faultOf}
+use Rattle.viable.proofs.Fault.{fault-unique}
 use Rattle.answer.specs.Answer.{jobNotes, Line, line, Topmost, GrammarTree, Job, ofReading, Shown, asNumbers, asXml, ResultOf, Answer, Answers, Checks, Reads, Converts}
 use Rattle.answer.specs.Answer.{grammarLines, inputLines, readingLines, recordLines, documentLines, tooLong}
-use Rattle.answer.specs.Demands.{None, Admitted, Underivable, ShortReading, Given, ofGrammar, AsChecked, OfChecking, OfReading, OfConverting, OneReading, Demands}
+use Rattle.answer.specs.Demands.{None, Admitted, Underivable, Faulted, ShortReading, Given, ofGrammar, AsChecked, OfChecking, OfReading, OfConverting, OneReading, Demands}
 use Rattle.answer.proofs.Lines.{numbers, listed, other, head-given, none-given, passed, begun}
-use Rattle.answer.proofs.Agree.{tree-complete}
+use Rattle.answer.proofs.Agree.{one-grammar, one-record}
+use Rattle.answer.proofs.Noted.{admitted-fault}
 use Rattle.answer.proofs.Settled.{same-mark}
 use Rattle.answer.proofs.Sizes.{size-of-literal, size-of-repetition}
 
 -- 1. A job has one grammar, one record and one chosen derivation.
-pub one-grammar : (j : Job) {g h : Grammar} → GrammarTree (j .grammar) g → GrammarTree (j .grammar) h → g ≡ h
-one-grammar j {g} {h} x y = let e : parsed g ≡ parsed h = sym (tree-complete (j .grammar) g x) ∙ tree-complete (j .grammar) h y in cc
-
-one-record : (j : Job) {r s : Text} → Utf8 (j .input) r → Utf8 (j .input) s → r ≡ s
-one-record j {r} {s} x y = let e : text r ≡ text s = sym (decode-complete (j .input) r x) ∙ decode-complete (j .input) s y in cc
-
 one-row : {g h : Grammar} {r s : Text} {t u : Row} {p q : List ℕ} → g ≡ h → r ≡ s → Reading g r t p → Reading h s u q → t ≡ u
 one-row {g} {h} {r} {s} {t} {u} e f x y =
     let c : chosenOf g r ≡ found t = chosen-found g r (x .chosen) in
@@ -85,6 +83,9 @@ module _ (j : Job) (F : Shown) (ls : List Line) (old new : List ℕ) (a : Answer
   answers-exactly h u =
       let k = none-given (readingLines j ls) (a .number) h (later u) in
       (λ e. (short (k .0 e) e, k .0 e .1 .1), λ x. k .1 (derived (x .0), (not-long (x .0), x .1)))
+
+  faulted : Faulted j a
+  faulted = ⊎-elim (λ x. (λ _. x .1, λ z. absurd (z (x .0)))) (λ x. (λ z. absurd (x .0 z), λ _. x .1)) (w .places .fault)
 
   -- the numbers from checking
   as-checked : T (all (λ n. not (ofGrammar n)) (numbers (recordLines j ls))) → AsChecked (j .grammar) (a .number)
@@ -156,6 +157,7 @@ module _ (j : Job) (old new : List ℕ) (a : Answer) where
         none = none-exactly j asNumbers reading-end old new a w tt;
         answers = λ u. (λ e. fits (k u .0 e .1) e w (k u .0 e .0), λ x. k u .1 ((x .0, x .1, x .2, (x .3 .0, x .3 .1, x .3 .2, (x .3 .3 .0, tt))), fitting x));
         chosen = reading-chosen w;
+        fault = faulted j asNumbers reading-end old new a w;
         numbers = listed (λ n. leb n 16 || among n (24 ∷ 29 ∷ 23 ∷ [])) (grammarLines (j .grammar) (recordLines j reading-end)) (a .number) tt tt (w .number);
         checked = as-checked j asNumbers reading-end old new a w tt;
       }
@@ -165,6 +167,7 @@ module _ (j : Job) (old new : List ℕ) (a : Answer) where
     none = none-exactly j asXml converting-end old new a w tt;
     answers = answers-exactly j asXml converting-end old new a w tt;
     chosen = converting-chosen w;
+    fault = faulted j asXml converting-end old new a w;
     numbers = listed (λ n. leb n 24 || among n (29 ∷ [])) (grammarLines (j .grammar) (recordLines j converting-end)) (a .number) tt tt (w .number);
     checked = as-checked j asXml converting-end old new a w tt;
   }
@@ -181,6 +184,10 @@ one-mark j old old′ new new′ a b v e w f =
     (subst (λ (z : Grammar). T (a .ambiguous) ↔ Second z (x .1) (x .3 .1)) (o .grammar) (x .3 .3 .0))) in
     same-mark (a .ambiguous) (b .ambiguous) (Second (y .0) (y .1) (y .3 .1)) m (y .3 .3 .0)
 
+-- 5. The place of the fault.
+some-fault : (j : Job) → Admitted j → {g : Grammar} {r : Text} → GrammarTree (j .grammar) g × Utf8 (j .input) r → (k : ℕ) × FaultAt g r k
+some-fault j u {g} {r} x = (faultOf g r, admitted-fault j u x)
+
 pub demands-hold : Demands
 demands-hold = record {
   checking = of-checking;
@@ -189,6 +196,8 @@ demands-hold = record {
   one = one-reading;
   marks = one-mark;
   least = λ {g} {r} x d. chosen-least g r (x .chosen) d;
+  fault = some-fault;
+  one-fault = fault-unique;
   need = refl;
   sizes = (size-of-literal, size-of-repetition);
 }

@@ -19,10 +19,11 @@ use Rattle.syntax.proofs.Complete.{complete}
 use Rattle.plain.specs.Static.{undefined, duplicate, beyond, banned, backwards, unclassed, mismatched}
 use Rattle.plain.specs.Plain.{size}
 use Rattle.derive.specs.Yield.{unproductive}
+use Rattle.viable.specs.Compute.{faultOf}
 use Rattle.places.proofs.Fronted.{same-tree}
 use Rattle.answer.specs.Answer.{GrammarText, Job, job, Shown, asNumbers, asXml, Answer, Checks, Reads, Converts}
 use Rattle.answer.specs.Compute.{Test, test, firstOf, onText, onTree, isText, isTree, afterMark as treeAfter, treeOf, grammarTests, recordTests, documentTests, longTest}
-use Rattle.answer.specs.Compute.{Value, value, valueAt, Values, grammarValues, inputValues, placeValues, jobValues}
+use Rattle.answer.specs.Compute.{Value, value, valueAt, Values, grammarValues, inputValues, readingValues, placeValues, placeTree, placeText}
 use Rattle.answer.specs.Compute.{Result, result, resultOf, resultBy, Outcome, outcome, mismatch, checkOf, readOf, convertOf}
 use Rattle.answer.specs.Fronted.{Fronts, Past, Alike, FrontedLaws}
 use Rattle.answer.proofs.Noted.{value-skip}
@@ -124,7 +125,7 @@ no-bytes bs vs n z =
     value-skip at-2 (at-3 ∷ vs) n (z .two) ∙ value-skip at-3 vs n (z .three)
 
 module _ (bs bs' : List ℕ) (f : Fronts bs bs') (old : List ℕ) (vs fs fs' : List Value) (ts ts' : List Test) (x x' : Result)
-    (after : OneTree bs bs' → (firstOf ts ≡ firstOf ts') × (x ≡ x') × ((n : ℕ) → valueAt fs n ≡ valueAt fs' n)) where
+    (after : OneTree bs bs' → (firstOf ts ≡ firstOf ts') × (x ≡ x') × (fs ≡ fs')) where
   pub call-alike : Past (firstOf (grammarTests bs ts)) → Past (firstOf (grammarTests bs' ts'))
       → Same (outcome old (mismatch bs) (valuesOf bs vs fs) (firstOf (grammarTests bs ts)) x) (outcome old (mismatch bs') (valuesOf bs' vs fs') (firstOf (grammarTests bs' ts')) x')
   call-alike z z' =
@@ -139,7 +140,8 @@ module _ (bs bs' : List ℕ) (f : Fronts bs bs') (old : List ℕ) (vs fs fs' : L
       subst (λ (o : Outcome). Same (outcome old (mismatch bs) (valuesOf bs vs fs) (firstOf (grammarTests bs ts)) x) o)
       (λ ι. outcome old (m ι) (valuesOf bs' vs fs') (n ι) (a .1 ι))
       (same-outcome old (mismatch bs) (valuesOf bs vs fs) (valuesOf bs' vs fs') (firstOf (grammarTests bs ts)) x
-      (no-bytes bs vs (firstOf (grammarTests bs ts)) z ∙ sym (no-bytes bs' vs (firstOf (grammarTests bs ts)) z)) (a .2 (firstOf (grammarTests bs ts))))
+      (no-bytes bs vs (firstOf (grammarTests bs ts)) z ∙ sym (no-bytes bs' vs (firstOf (grammarTests bs ts)) z))
+      (ap (λ (us : List Value). valueAt us (firstOf (grammarTests bs ts))) (a .2)))
 
 -- 4. The calls.
 past-of : (a : Answer) (o : Outcome) (n : ℕ) → a ≡ o .answer → o .answer .number ≡ n → Past (a .number) → Past n
@@ -157,8 +159,7 @@ checks-fronted gs gs' f a a' c c' z z' =
     let o = outcome [] (mismatch gs) (valuesOf gs [] []) (firstOf (grammarTests gs [])) x in
     let o' = outcome [] (mismatch gs') (valuesOf gs' [] []) (firstOf (grammarTests gs' [])) x in
     alike-by a a' o o' e e'
-    (call-alike gs gs' f [] [] [] [] [] [] x x (λ t. (refl, refl, λ n. refl)) (past-of a o (firstOf (grammarTests gs [])) e
-    (number-of [] (mismatch gs) (valuesOf gs [] []) (firstOf (grammarTests gs [])) x) z)
+    (call-alike gs gs' f [] [] [] [] [] [] x x (λ t. (refl, refl, refl)) (past-of a o (firstOf (grammarTests gs [])) e (number-of [] (mismatch gs) (valuesOf gs [] []) (firstOf (grammarTests gs [])) x) z)
     (past-of a' o' (firstOf (grammarTests gs' [])) e' (number-of [] (mismatch gs') (valuesOf gs' [] []) (firstOf (grammarTests gs' [])) x) z'))
 
 module _ (gs gs' rs : List ℕ) (main second : ℕ) (f : Fronts gs gs') (old new new' : List ℕ) (a a' : Answer) (ts : Job → List Test) (F : Shown) where
@@ -169,12 +170,7 @@ module _ (gs gs' rs : List ℕ) (main second : ℕ) (f : Fronts gs gs') (old new
   next = job gs' rs main second
 
   abbrev madeOf : Job → Outcome
-  madeOf j = outcome old (mismatch (j .grammar)) (valuesOf (j .grammar) (inputValues rs []) (jobValues j .faults))
-      (firstOf (grammarTests (j .grammar) (recordTests j (ts j)))) (resultOf j (resultBy F))
-
-  -- places in the record depend on the tree and the record alone
-  same-faults : OneTree gs gs' → (n : ℕ) → valueAt (jobValues first .faults) n ≡ valueAt (jobValues next .faults) n
-  same-faults t n = refl
+  madeOf j = outcome old (mismatch (j .grammar)) (valuesOf (j .grammar) (inputValues rs []) (readingValues j [])) (firstOf (grammarTests (j .grammar) (recordTests j (ts j)))) (resultOf j (resultBy F))
 
   -- by what the call's answers are, and that its tests depend on the tree alone
   by-calls : ((t : OneTree gs gs') → firstOf (recordTests first (ts first)) ≡ firstOf (recordTests next (ts next)))
@@ -184,11 +180,10 @@ module _ (gs gs' rs : List ℕ) (main second : ℕ) (f : Fronts gs gs') (old new
       let v = inputValues rs [] in
       let n = firstOf (grammarTests gs (recordTests first (ts first))) in
       let n' = firstOf (grammarTests gs' (recordTests next (ts next))) in
-      let s = call-alike gs gs' f old v (jobValues first .faults) (jobValues next .faults)
-      (recordTests first (ts first)) (recordTests next (ts next)) (resultOf first (resultBy F)) (resultOf next (resultBy F))
-      (λ t. (h t, rw (t .first, t .second), same-faults t))
-      (past-of a (madeOf first) n (e .0) (number-of old (mismatch gs) (valuesOf gs v (jobValues first .faults)) n (resultOf first (resultBy F))) z)
-      (past-of a' (madeOf next) n' (e' .0) (number-of old (mismatch gs') (valuesOf gs' v (jobValues next .faults)) n' (resultOf next (resultBy F))) z') in
+      let s = call-alike gs gs' f old v (readingValues first []) (readingValues next []) (recordTests first (ts first)) (recordTests next (ts next)) (resultOf first (resultBy F)) (resultOf next (resultBy F))
+      (λ t. (h t, rw (t .first, t .second), ap (λ (p : Parsed). value 16 (λ _. placeTree p (λ g. placeText (decode rs) (faultOf g))) ∷ []) (t .first ∙ sym (t .second))))
+      (past-of a (madeOf first) n (e .0) (number-of old (mismatch gs) (valuesOf gs v (readingValues first [])) n (resultOf first (resultBy F))) z)
+      (past-of a' (madeOf next) n' (e' .0) (number-of old (mismatch gs') (valuesOf gs' v (readingValues next [])) n' (resultOf next (resultBy F))) z') in
       (alike-by a a' (madeOf first) (madeOf next) (e .0) (e' .0) s, e .1 ∙ s .buffer ∙ sym (e' .1))
 
 pub fronted-laws : FrontedLaws

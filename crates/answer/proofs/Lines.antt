@@ -76,6 +76,12 @@ passed [] ms n u t = t
 passed (l ∷ ls) ms n u (inl x) = absurd (u .0 (x .0))
 passed (l ∷ ls) ms n u (inr x) = passed ls ms n (u .1) (x .1)
 
+-- lines before that of the number which is given do not apply
+pub unapplied : (ls ms : List Line) (n : ℕ) → T (all (λ m. not (eqb n m)) (numbers ls)) → Topmost (ls ++ ms) n → None ls
+unapplied [] ms n h t = tt
+unapplied (l ∷ ls) ms n h (inl x) = absurd (not-not (eqb n (l .number)) (and-left (not (eqb n (l .number))) (all (λ m. not (eqb n m)) (numbers ls)) h) (isT (eq-eqb n (l .number) (x .1))))
+unapplied (l ∷ ls) ms n h (inr x) = (x .0, unapplied ls ms n (and-right (not (eqb n (l .number))) (all (λ m. not (eqb n m)) (numbers ls)) h) (x .1))
+
 -- the number that the first lines give is that of all, or 0
 pub begun : (ls ms : List Line) (m n : ℕ) → Topmost ls m → Topmost (ls ++ ms) n → (m ≡ 0) ⊎ (n ≡ m)
 begun [] ms m n t u = inl t

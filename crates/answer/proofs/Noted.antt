@@ -13,6 +13,12 @@ use Rattle.text.specs.Utf8.{Utf8, unmarked, known}
 use Rattle.text.specs.Decode.{Decoded, decode, breakOf}
 use Rattle.text.specs.Faults.{every, Breaks, afterMark}
 use Rattle.text.proofs.Decode.{utf8-unique, decode-complete}
+use Rattle.text.proofs.Tests.{look, isT, T-false}
+use Rattle.derive.specs.Yield.{unproductive}
+use Rattle.derive.proofs.Productive.{unproductive-is}
+use Rattle.viable.specs.Fault.{FaultAt}
+use Rattle.viable.specs.Compute.{faultOf}
+use Rattle.viable.proofs.Fault.{fault-unique, fault-of, root-produces}
 use Rattle.text.proofs.Faults.{scalars, passing, one-break, Whole, break-there}
 use Rattle.text.proofs.Tests.{and-left, and-right}
 use Rattle.text.proofs.Marks.{marked-text}
@@ -25,9 +31,12 @@ use Rattle.places.proofs.Unique.{place-is, one-place}
 use Rattle.places.proofs.Exists.{by-rule, place-5, place-6, place-7, place-8, place-9, place-10}
 use Rattle.answer.specs.Answer.{GrammarText, ofTree, placeNote, placeNotes}
 use Rattle.answer.specs.Compute.{placeIn, placeValue, placeValues}
-use Rattle.answer.specs.Answer.{Line, Topmost, Note, Noted, Notes, Placed, Places, grammarLines, Need, needLines, grammarNotes, inputNotes, checkNotes, jobNotes, Job}
-use Rattle.answer.specs.Compute.{Value, valueAt, Values, placesAt, grammarValues, inputValues, checkValues, jobValues}
-use Rattle.answer.proofs.Lines.{numbers, distinct, given}
+use Rattle.answer.specs.Answer.{Line, Topmost, Note, Noted, Notes, Placed, Places, grammarLines, Need, needLines, recordLines, grammarNotes, inputNotes, checkNotes, jobNotes, Job}
+use Rattle.answer.specs.Compute.{faultIn, Value, valueAt, Values, placesAt, grammarValues, inputValues, checkValues, jobValues}
+use Rattle.answer.proofs.Lines.{numbers, distinct, given, unapplied}
+use Rattle.answer.specs.Answer.{GrammarTree, ofJob, inputLines, readingLines}
+use Rattle.answer.specs.Demands.{Admitted}
+use Rattle.answer.proofs.Agree.{tree-complete, one-grammar, one-record}
 
 -- 1. Where each note says one place, a number has one.
 abbrev pub Single : List Note → Type 0
@@ -154,7 +163,20 @@ none-kept bs n h = (refl, out 5 tt, (refl, out 6 tt, (refl, out 7 tt, (refl, out
         let b = leb→le k 10 (and-right (leb 5 k) (leb k 10) c) in
         absurd (⊎-elim (λ l. omega arith) (λ l. omega arith) h)
 
--- 5. The notes of the calls.
+-- 5. The place of the fault in a record.
+-- the computed place is that of the job's grammar and record
+pub fault-in : (j : Job) (g : Grammar) (r : Text) → GrammarTree (j .grammar) g → Utf8 (j .input) r → faultIn j ≡ faultOf g r
+fault-in j g r x y = rw (tree-complete (j .grammar) g x, decode-complete (j .input) r y)
+
+-- where none of 1 to 15 applies, nor 24, the grammar's rules have texts, and the record's characters are known
+pub admitted-fault : (j : Job) → Admitted j → {g : Grammar} {r : Text} → GrammarTree (j .grammar) g × Utf8 (j .input) r → FaultAt g r (faultOf g r)
+admitted-fault j u {g} {r} x =
+    let lively = u .1 .1 .1 .1 .1 .1 .1 .1 .1 .1 .1 .0 in
+    let spelt = u .1 .1 .1 .1 .1 .1 .1 .1 .1 .1 .1 .1 .1 .0 in
+    let held : T (all known r) = ⊎-elim (λ q. isT q) (λ q. absurd (spelt (r, x .1, rw q tt))) (look (all known r)) in
+    fault-of g r held (root-produces g (T-false (unproductive g) (λ q. lively (g, x .0, unproductive-is g .0 q))))
+
+-- 6. The notes of the calls.
 module _ (bs : List ℕ) (ls : List Line) (d : T (distinct (numbers (grammarLines bs ls)))) (n : ℕ) (t : Topmost (grammarLines bs ls) n) where
   at-2 : n ≡ 2 → Breaks every bs (afterMark bs) (breakOf every bs (afterMark bs))
   at-2 e =
@@ -212,12 +234,28 @@ module _ (need : Need) (j : Job) (ls : List Line) (d : T (distinct (numbers (gra
       let x = given (grammarLines (j .grammar) (needLines need j ls)) 13 d (λ z. omega arith) (subst (Topmost (grammarLines (j .grammar) (needLines need j ls))) e t) in
       outside (j .input) 0 (x .0) (λ cs u. utf8-unique (j .input) cs (x .0) u (x .1)) (x .2)
 
-  pub keeps-job : Keeps n (jobNotes j) (jobValues j)
-  keeps-job = record {
+  pub keeps-job : (n ≡ 16 → ofJob j (λ g r. FaultAt g r (faultIn j))) → Keeps n (jobNotes j) (jobValues j)
+  keeps-job fault = record {
     bytes = kept-grammar (j .grammar) (needLines need j ls) d n t (inputNotes (j .input) []) (inputValues (j .input) []) (refl, at-12, (refl, at-13, tt));
-    faults = tt;
+    faults = (refl, fault, tt);
     grammars = kept-places (j .grammar) (needLines need j ls) d n t;
   }
+
+-- with 16 the grammar and the record are there, and what is computed is the place of their fault
+pub reading-fault : (j : Job) (ls : List Line) → T (distinct (numbers (grammarLines (j .grammar) (recordLines j ls)))) → (n : ℕ)
+    → Topmost (grammarLines (j .grammar) (recordLines j ls)) n → n ≡ 16 → ofJob j (λ g r. FaultAt g r (faultIn j))
+reading-fault j ls d n t e =
+    let s = subst (Topmost (grammarLines (j .grammar) (recordLines j ls))) e t in
+    let x = given (grammarLines (j .grammar) (recordLines j ls)) 16 d (λ z. omega arith) s in
+    let u = unapplied (grammarLines (j .grammar) (inputLines j [])) (readingLines j ls) 16 tt s in
+    (x .0, x .1, x .2, subst (FaultAt (x .0) (x .1)) (sym (fault-in j (x .0) (x .1) (x .2 .0) (x .2 .1))) (admitted-fault j u (x .2)))
+
+-- a job has one place of the fault
+pub one-fault : (j : Job) (p q : ℕ) → ofJob j (λ g r. FaultAt g r p) → ofJob j (λ g r. FaultAt g r q) → p ≡ q
+one-fault j p q x y =
+    let e = one-grammar j (x .2 .0) (y .2 .0) in
+    let f = one-record j (x .2 .1) (y .2 .1) in
+    fault-unique p q (subst (λ (r : Text). FaultAt (y .0) r p) f (subst (λ (g : Grammar). FaultAt g (x .1) p) e (x .3))) (y .3)
 
 pub sole-check : (bs : List ℕ) → Sole (checkNotes bs)
 sole-check bs = record { bytes = (one-break every bs (afterMark bs), (one-break known bs (afterMark bs), tt)); faults = tt; grammars = single-places bs }
@@ -231,6 +269,6 @@ sole-job j = record {
       (one-break every (j .input) 0, (one-break known (j .input) 0, tt)),
     ),
   );
-  faults = tt;
+  faults = (one-fault j, tt);
   grammars = single-places (j .grammar);
 }

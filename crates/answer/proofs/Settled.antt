@@ -22,15 +22,16 @@ use Rattle.derive.specs.Pick.{Choice, found, no-choice}
 use Rattle.derive.specs.Pick.{chosenOf}
 use Rattle.derive.specs.Another.{ambiguousOf}
 use Rattle.plain.specs.Static.{mismatched}
+use Rattle.viable.specs.Fault.{FaultAt}
 use Rattle.answer.specs.Answer.{Line, line, Topmost, ofTree, grammarLines, readingLines, documentLines, listLines, documentLinesOf, needLines, Need, mainNeed, scratchNeed}
-use Rattle.answer.specs.Answer.{Job, GrammarTree, Source, chosen, given}
+use Rattle.answer.specs.Answer.{Job, GrammarTree, ofJob, Source, chosen, given}
 use Rattle.answer.specs.Answer.{Shown, asNumbers, asXml, ResultBy, tooLong, tooLongBy, Notes, Placed, checkNotes, jobNotes, Answer, Answers, Checks, Reads, Converts, Judges}
 use Rattle.answer.specs.Compute.{Test, test, firstOf, onReading, onFound, grammarTests, needTests, noneTest, documentTests, documentTestsOf, isText, isTree, isFound}
 use Rattle.answer.specs.Compute.{onText, onJob, treeOf, afterMark, Result, result, Finder, Marker, never, foundResult, resultWith, Outcome, outcome, mismatch}
-use Rattle.answer.specs.Compute.{Values, checkValues, jobValues, checkOf, longTest, longTestBy, readOf, convertOf, judgeOf}
+use Rattle.answer.specs.Compute.{faultIn, Values, checkValues, jobValues, checkOf, longTest, longTestBy, readOf, convertOf, judgeOf}
 use Rattle.answer.specs.Named.{namedOf}
-use Rattle.answer.proofs.Lines.{one-topmost, Agree, first-topmost, numbers, distinct}
-use Rattle.answer.proofs.Noted.{Sole, one-placed, Keeps, keeps-placed, keeps-check, keeps-job, sole-check, sole-job}
+use Rattle.answer.proofs.Lines.{one-topmost, Agree, first-topmost, numbers, distinct, given as applied}
+use Rattle.answer.proofs.Noted.{Sole, one-placed, Keeps, keeps-placed, keeps-check, keeps-job, reading-fault, sole-check, sole-job}
 use Rattle.answer.proofs.Agree.{Tests, grammar-agrees, need-agrees, reading-agrees, list-agrees, document-agrees, tree-known, source-known, same-test, less, tree-sound, tree-complete}
 pub use Rattle.answer.proofs.Agree.{same-mark}
 use Rattle.answer.proofs.Agree.{Finds, chosen-finds, given-finds}
@@ -225,7 +226,8 @@ module _ {s : Source} {c : Finder} {k : Marker} (w : Finds s c k) (j : Job) (F :
         there-result (p .0) (e .0) (o .0) (p .1) (e .1) (o .1)
 
     -- the lines of a call, and its tests
-    module _ (old : List ℕ) (ls : List Line) (h : T (numbered tests)) (d : T (distinct (numbers (grammarLines (j .grammar) (needLines need j ls))))) (a : Agree ls (noneTest number c j ∷ ts)) where
+    module _ (old : List ℕ) (ls : List Line) (h : T (numbered tests)) (d : T (distinct (numbers (grammarLines (j .grammar) (needLines need j ls))))) (a : Agree ls (noneTest number c j ∷ ts))
+        (fault : (n : ℕ) → Topmost (grammarLines (j .grammar) (needLines need j ls)) n → n ≡ 16 → ofJob j (λ g r. FaultAt g r (faultIn j))) where
       lines : List Line
       lines = grammarLines (j .grammar) (needLines need j ls)
 
@@ -238,7 +240,7 @@ module _ {s : Source} {c : Finder} {k : Marker} (w : Finds s c k) (j : Job) (F :
           computed (grammarLines (j .grammar) (needLines need j ls)) (grammarTests (j .grammar) (needTests need j (noneTest number c j ∷ ts))) (jobNotes j) (jobValues j)
           (ResultBy s j F) (j .grammar) old (foundResult c j (resultWith k F)) (mismatch (j .grammar))
           (grammar-agrees (j .grammar) (needLines need j ls) (needTests need j (noneTest number c j ∷ ts)) (need-agrees need j ls (noneTest number c j ∷ ts) a))
-          (mismatch-known (j .grammar)) (keeps-job need j ls d)
+          (mismatch-known (j .grammar)) (λ n t. keeps-job need j ls d n t (fault n t))
           (λ z. there (none-pass (grammarTests (j .grammar) (needTests need j (noneTest number c j ∷ ts))) h z))
 
       call-settled : (b : Answer) (new : List ℕ) → Answers lines (jobNotes j) (ResultBy s j F) (j .grammar) old b new → (b ≡ made .answer) × (new ≡ made .buffer)
@@ -255,11 +257,11 @@ module _ (j : Job) (old : List ℕ) where
 
   pub read-answers : Reads j old (readOf j old .answer) (readOf j old .buffer)
   unfolding readOf lines made longest tests
-  read-answers = call-answers chosen-finds j asNumbers mainNeed 16 (longest ∷ longTest asNumbers j old ∷ []) old (readingLines j (tooLong j asNumbers old ∷ [])) tt tt read-lines
+  read-answers = call-answers chosen-finds j asNumbers mainNeed 16 (longest ∷ longTest asNumbers j old ∷ []) old (readingLines j (tooLong j asNumbers old ∷ [])) tt tt read-lines (reading-fault j (tooLong j asNumbers old ∷ []) tt)
 
   pub read-settled : (a : Answer) (new : List ℕ) → Reads j old a new → (a ≡ readOf j old .answer) × (new ≡ readOf j old .buffer)
   unfolding readOf lines made longest tests
-  read-settled a new p = call-settled chosen-finds j asNumbers mainNeed 16 (longest ∷ longTest asNumbers j old ∷ []) old (readingLines j (tooLong j asNumbers old ∷ [])) tt tt read-lines a new p
+  read-settled a new p = call-settled chosen-finds j asNumbers mainNeed 16 (longest ∷ longTest asNumbers j old ∷ []) old (readingLines j (tooLong j asNumbers old ∷ [])) tt tt read-lines (reading-fault j (tooLong j asNumbers old ∷ []) tt) a new p
 
   abbrev convertLines : List Line
   convertLines = readingLines j (documentLines j (tooLong j asXml old ∷ []))
@@ -271,11 +273,11 @@ module _ (j : Job) (old : List ℕ) where
 
   pub convert-answers : Converts j old (convertOf j old .answer) (convertOf j old .buffer)
   unfolding convertOf lines made longest tests
-  convert-answers = call-answers chosen-finds j asXml mainNeed 16 (longest ∷ documentTests j (longTest asXml j old ∷ [])) old convertLines tt tt convert-lines
+  convert-answers = call-answers chosen-finds j asXml mainNeed 16 (longest ∷ documentTests j (longTest asXml j old ∷ [])) old convertLines tt tt convert-lines (reading-fault j (documentLines j (tooLong j asXml old ∷ [])) tt)
 
   pub convert-settled : (a : Answer) (new : List ℕ) → Converts j old a new → (a ≡ convertOf j old .answer) × (new ≡ convertOf j old .buffer)
   unfolding convertOf lines made longest tests
-  convert-settled a new p = call-settled chosen-finds j asXml mainNeed 16 (longest ∷ documentTests j (longTest asXml j old ∷ [])) old convertLines tt tt convert-lines a new p
+  convert-settled a new p = call-settled chosen-finds j asXml mainNeed 16 (longest ∷ documentTests j (longTest asXml j old ∷ [])) old convertLines tt tt convert-lines (reading-fault j (documentLines j (tooLong j asXml old ∷ [])) tt) a new p
 
   module _ (q : List ℕ) where
     abbrev judgeLines : List Line
@@ -288,10 +290,15 @@ module _ (j : Job) (old : List ℕ) where
     judge-lines = list-agrees q j (documentLinesOf (given q) j (tooLongBy (given q) j asXml old ∷ [])) judgeTests
         (document-agrees (given-finds q) j (tooLongBy (given q) j asXml old ∷ []) (longTestBy (namedOf q) never asXml j old ∷ []) (refl, long-known (given-finds q) j asXml old, tt))
 
+    -- judging gives no 16
+    no-fault : (n : ℕ) → Topmost (grammarLines (j .grammar) (needLines (scratchNeed q) j judgeLines)) n → n ≡ 16 → ofJob j (λ g r. FaultAt g r (faultIn j))
+    no-fault n t e = absurd (applied (grammarLines (j .grammar) (needLines (scratchNeed q) j judgeLines)) 16 tt (λ z. omega arith)
+        (subst (Topmost (grammarLines (j .grammar) (needLines (scratchNeed q) j judgeLines))) e t))
+
     pub judge-answers : Judges q j old (judgeOf q j old .answer) (judgeOf q j old .buffer)
     unfolding judgeOf lines made tests
-    judge-answers = call-answers (given-finds q) j asXml (scratchNeed q) 25 judgeTests old judgeLines tt tt judge-lines
+    judge-answers = call-answers (given-finds q) j asXml (scratchNeed q) 25 judgeTests old judgeLines tt tt judge-lines no-fault
 
     pub judge-settled : (a : Answer) (new : List ℕ) → Judges q j old a new → (a ≡ judgeOf q j old .answer) × (new ≡ judgeOf q j old .buffer)
     unfolding judgeOf lines made tests
-    judge-settled a new p = call-settled (given-finds q) j asXml (scratchNeed q) 25 judgeTests old judgeLines tt tt judge-lines a new p
+    judge-settled a new p = call-settled (given-finds q) j asXml (scratchNeed q) 25 judgeTests old judgeLines tt tt judge-lines no-fault a new p

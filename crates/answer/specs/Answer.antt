@@ -19,6 +19,7 @@ use Rattle.places.specs.Place.{Place}
 use Rattle.derive.specs.Derive.{Row, Derivation, root, leftParse}
 use Rattle.derive.specs.Chosen.{Reading, Second}
 use Rattle.derive.specs.Productive.{Unproductive}
+use Rattle.viable.specs.Fault.{FaultAt}
 use Rattle.xml.specs.Document.{document, markOf, twice, misnamed, unwritable, isAttribute, notOne, namespaced}
 use Rattle.xml.specs.Bytes.{bytes}
 
@@ -224,8 +225,12 @@ placeNotes bs = placeNote bs 5 ∷ placeNote bs 6 ∷ placeNote bs 7 ∷ placeNo
 abbrev pub checkNotes : List ℕ → Notes
 checkNotes bs = record { bytes = grammarNotes bs []; faults = []; grammars = placeNotes bs }
 
+-- "With 16, answer the greatest number k …"
+abbrev pub readingNotes : Job → List Note → List Note
+readingNotes j xs = note 16 (λ k. ofJob j (λ g r. FaultAt g r k)) ∷ xs
+
 abbrev pub jobNotes : Job → Notes
-jobNotes j = record { bytes = grammarNotes (j .grammar) (inputNotes (j .input) []); faults = []; grammars = placeNotes (j .grammar) }
+jobNotes j = record { bytes = grammarNotes (j .grammar) (inputNotes (j .input) []); faults = readingNotes j []; grammars = placeNotes (j .grammar) }
 
 -- "An answer holds the number, a length, an ambiguous mark and a version mark", and the places
 pub record Answer : Type 0 where

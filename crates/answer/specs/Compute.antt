@@ -18,6 +18,7 @@ use Rattle.derive.specs.Derive.{Row, root, leftParse}
 use Rattle.derive.specs.Pick.{Choice, found, no-choice, chosenOf}
 use Rattle.derive.specs.Another.{ambiguousOf}
 use Rattle.derive.specs.Yield.{unproductive}
+use Rattle.viable.specs.Compute.{faultOf}
 use Rattle.xml.specs.Document.{document, markOf, twice, misnamed, unwritable, isAttribute, notOne, namespaced}
 use Rattle.answer.specs.Answer.{Job, Need, mainNeed, scratchNeed, Shown, asNumbers, asXml, Places, Answer}
 use Rattle.answer.specs.Named.{namedOf}
@@ -205,8 +206,23 @@ placeValues bs = placeValue bs 5 ∷ placeValue bs 6 ∷ placeValue bs 7 ∷ pla
 abbrev pub checkValues : List ℕ → Values
 checkValues bs = record { bytes = grammarValues bs []; faults = []; grammars = placeValues bs }
 
+-- the place of the fault in the job's record
+abbrev pub placeTree : Parsed → (Grammar → ℕ) → ℕ
+placeTree (parsed g) f = f g
+placeTree no-parse f = 0
+
+abbrev pub placeText : Decoded → (Text → ℕ) → ℕ
+placeText (text cs) f = f cs
+placeText not-utf8 f = 0
+
+abbrev pub faultIn : Job → ℕ
+faultIn j = placeTree (treeOf (j .grammar)) (λ g. placeText (decode (j .input)) (faultOf g))
+
+abbrev pub readingValues : Job → List Value → List Value
+readingValues j vs = value 16 (λ _. faultIn j) ∷ vs
+
 abbrev pub jobValues : Job → Values
-jobValues j = record { bytes = grammarValues (j .grammar) (inputValues (j .input) []); faults = []; grammars = placeValues (j .grammar) }
+jobValues j = record { bytes = grammarValues (j .grammar) (inputValues (j .input) []); faults = readingValues j []; grammars = placeValues (j .grammar) }
 
 -- an answer and its buffer, from the number, the result and the places
 pub record Outcome : Type 0 where

@@ -14,6 +14,7 @@ use Rattle.tree.specs.Tree.{Grammar}
 use Rattle.plain.specs.Plain.{size}
 use Rattle.derive.specs.Derive.{Row, Derivation, height}
 use Rattle.derive.specs.Chosen.{Reading, Second}
+use Rattle.viable.specs.Fault.{FaultAt}
 use Rattle.answer.specs.Answer.{Line, grammarLines, inputLines, documentLines, tooLong, GrammarTree, Job, ofJob, ofReading, tableNeed}
 use Rattle.answer.specs.Answer.{asXml, Answer, Checks, Reads, Converts}
 
@@ -32,6 +33,10 @@ Underivable j = ofJob j (λ g r. ((t : Row) × Derivation g r t) → ⊥)
 -- there is a chosen reading, it has at most 4,096 numbers, and P holds of them
 abbrev pub ShortReading : Job → (List ℕ → Type 0) → Type 0
 ShortReading j P = ofReading j (λ g r t p. (length p ≤ readingNumbers) × P p)
+
+-- with 16 the place of the fault is answered, and 0 there with any other number
+abbrev pub Faulted : Job → Answer → Type 0
+Faulted j a = (a .number ≡ 16 → ofJob j (λ g r. FaultAt g r (a .places .fault))) × ((a .number ≡ 16 → ⊥) → a .places .fault ≡ 0)
 
 -- with 0: the mark is set exactly when there is a second derivation; the result xs of the chosen reading, counted, begins the buffer
 abbrev pub Given : (old new : List ℕ) → Answer → (Row → List ℕ → List ℕ) → Grammar → Text → Row → List ℕ → Type 0
@@ -54,6 +59,7 @@ pub record OfReading (j : Job) (old : List ℕ) (a : Answer) (new : List ℕ) : 
   pub none : Admitted j → (a .number ≡ 16) ↔ Underivable j
   pub answers : Admitted j → (a .number ≡ 0) ↔ ShortReading j (λ p. length p ≤ length old)
   pub chosen : a .number ≡ 0 → ofReading j (λ g r. Given old new a (λ t p. p) g r)
+  pub fault : Faulted j a
   pub numbers : T (leb (a .number) 16 || among (a .number) (24 ∷ 29 ∷ 23 ∷ []))
   pub checked : AsChecked (j .grammar) (a .number)
 
@@ -61,6 +67,7 @@ pub record OfConverting (j : Job) (old : List ℕ) (a : Answer) (new : List ℕ)
   pub none : Admitted j → (a .number ≡ 16) ↔ Underivable j
   pub answers : Admitted j → (a .number ≡ 0) ↔ (ShortReading j (λ p. Unit {0}) × None (documentLines j (tooLong j asXml old ∷ [])))
   pub chosen : a .number ≡ 0 → ofReading j (λ g r. Given old new a (asXml (a .ambiguous) g r) g r)
+  pub fault : Faulted j a
   pub numbers : T (leb (a .number) 24 || among (a .number) (29 ∷ []))
   pub checked : AsChecked (j .grammar) (a .number)
 
@@ -82,6 +89,9 @@ pub record Demands : Type 0 where
   pub marks : (j : Job) (old old′ new new′ : List ℕ) (a b : Answer) → Reads j old a new → a .number ≡ 0 → Converts j old′ b new′ → b .number ≡ 0 → a .ambiguous ≡ b .ambiguous
   -- no derivation of the record is lower than the reading's
   pub least : {g : Grammar} {r : Text} {t u : Row} {p : List ℕ} → Reading g r t p → Derivation g r u → height t ≤ height u
+  -- "Every grammar that passes T-06 accepts some text, so k always exists", and there is one
+  pub fault : (j : Job) → Admitted j → {g : Grammar} {r : Text} → GrammarTree (j .grammar) g × Utf8 (j .input) r → (k : ℕ) × FaultAt g r k
+  pub one-fault : {g : Grammar} {r : Text} (k m : ℕ) → FaultAt g r k → FaultAt g r m → k ≡ m
   -- "The table formula stays; at the limits it gives 10,394,112 numbers."
   pub need : tableNeed mostSize recordChars ≡ 10394112
   -- "`a: "x".` has size 2; `a: "x"*.` has size 6."

@@ -7,7 +7,7 @@ use lib.Dec.{ltb, eqb}
 use lib.ListN.{length, take, replicate}
 use Rattle.text.specs.Limits.{grammarTable, programTable, programBytes, fileBytes}
 use Rattle.text.specs.Lists.{Text, chars, pick}
-use Rattle.xml.specs.Bytes.{failDocument}
+use Rattle.xml.specs.Bytes.{stateWith}
 use Rattle.answer.specs.Answer.{Job, Answer, Converts}
 use Rattle.answer.specs.Answer as calls
 
@@ -15,15 +15,24 @@ pub data File : Type 0 where
   unreadable : File
   bytes : List ℕ → File
 
--- a refusal's number in decimal
+-- a number below 1,000 in decimal
 abbrev pub decimal : ℕ → Text
-decimal n = pick (ltb n 10) ((0x30 + n) ∷ []) ((0x30 + n / 10) ∷ (0x30 + n % 10) ∷ [])
+decimal n = pick (ltb n 10) ((0x30 + n) ∷ []) (pick (ltb n 100) ((0x30 + n / 10) ∷ (0x30 + n % 10) ∷ []) ((0x30 + n / 100) ∷ (0x30 + n / 10 % 10) ∷ (0x30 + n % 10) ∷ []))
+
+-- "For 16 it writes `<fail …/>`, with `failed version-mismatch` if due"; "The fail document gets the attribute `place='k'` as a decimal
+-- number after the state"
+abbrev pub failState : Bool → Text
+failState false = stateWith (chars "failed")
+failState true = stateWith (chars "failed version-mismatch")
+
+unfoldable pub failDocument : Bool → ℕ → Text
+failDocument version k = chars "<fail" ++ failState version ++ chars " place='" ++ decimal k ++ chars "'/>"
 
 -- "The program ends what it writes with LF. For 16 it writes `<fail …/>` … For other refusals it writes `refused 9` with the number."
 abbrev pub shows : Answer → List ℕ → Text
 shows a new =
     pick (eqb (a .number) 0) (take (a .length) new)
-    (pick (eqb (a .number) 16) (failDocument (a .version)) (chars "refused " ++ decimal (a .number))) ++ chars "\n"
+    (pick (eqb (a .number) 16) (failDocument (a .version) (a .places .fault)) (chars "refused " ++ decimal (a .number))) ++ chars "\n"
 
 -- "It lends a main table of 16,384 numbers and 65,536 bytes for the result"
 abbrev pub programJob : List ℕ → List ℕ → Job

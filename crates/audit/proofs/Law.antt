@@ -23,7 +23,8 @@ use Rattle.answer.specs.Answer.{Line, Job, Answer, Converts, Judges, GrammarTre
 use Rattle.answer.specs.Answer.{needLines, scratchNeed, listLines, documentLinesOf, given, tooLongBy}
 use Rattle.answer.specs.Demands.{None}
 use Rattle.answer.proofs.Lines.{none-given}
-use Rattle.answer.proofs.Demands.{demands-hold, one-grammar}
+use Rattle.answer.proofs.Agree.{one-grammar}
+use Rattle.answer.proofs.Demands.{demands-hold}
 use Rattle.audit.specs.Audit.{Between, b-end, exposes, changes, noAttributes, allKept, Audits, Audited}
 use Rattle.audit.proofs.Once.{one-text}
 use Rattle.audit.proofs.Fair.{fair, fairs, fair-alternative}

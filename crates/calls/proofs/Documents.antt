@@ -21,8 +21,8 @@ use Rattle.derive.specs.Pick.{found}
 use Rattle.xml.specs.Document.{Xml as Document, document, markOf, twice, misnamed, unwritable, isAttribute, notOne, namespaced}
 use Rattle.xml.specs.Bytes.{bytes}
 use Rattle.answer.specs.Answer.{Job, Shown, asXml}
-use Rattle.answer.specs.Compute.{value, placesAt, jobValues, Outcome, outcome, Test, firstOf, Finder, Marker, documentTestsOf, longTestBy, foundResult, resultWith, treeOf, mismatch}
-use Rattle.answer.proofs.Noted.{value-skip}
+use Rattle.answer.specs.Compute.{faultIn, value, placesAt, jobValues, Outcome, outcome, Test, firstOf, Finder, Marker, documentTestsOf, longTestBy, foundResult, resultWith, treeOf, mismatch}
+use Rattle.answer.proofs.Noted.{value-skip, placeless}
 use Rattle.job.specs.declared.Refusal.{Refusal}
 use Rattle.dynamic_errors.specs.Judgment.{topmost, judgmentOf}
 use Rattle.convert.specs.declared.Converted.{Converted}
@@ -41,7 +41,9 @@ nowhere j k l =
     let thirteen = value 13 (λ _. breakOf known (j .input) 0) in
     let e = value-skip two (three ∷ twelve ∷ thirteen ∷ []) k (λ q. omega arith) ∙ value-skip three (twelve ∷ thirteen ∷ []) k (λ q. omega arith)
     ∙ value-skip twelve (thirteen ∷ []) k (λ q. omega arith) ∙ value-skip thirteen [] k (λ q. omega arith) in
-    λ ι. record { byte = sym e ι; fault = 0; grammar = 0 }
+    let f = value-skip (value 16 (λ _. faultIn j)) [] k (λ q. omega arith) in
+    let g = placeless (j .grammar) k (inr (omega arith)) in
+    λ ι. record { byte = sym e ι; fault = sym f ι; grammar = sym g ι }
 
 -- the derivation that is found of a job's grammar and record
 pub record Spoken (c : Finder) (j : Job) (g : Grammar) (r : Text) (row : Row) : Type 0 where

@@ -13,6 +13,7 @@ use Rattle.derive.specs.Yield as yield
 use Rattle.places.specs.Place as place
 use Rattle.places.specs.Scan as scan
 use Rattle.places.specs.Tokens as places
+use Rattle.viable.specs.Compute as viable
 use Rattle.answer.specs.Answer.{Places, Job, Answer, Checks, Reads, Converts}
 use Rattle.answer.specs.Compute.{Outcome, checkOf, readOf, convertOf}
 use Rattle.text.specs.Utf8 as utf8
@@ -26,7 +27,7 @@ use Rattle.xml.specs.Document as document
 use Rattle.xml.specs.Bytes as bytes
 use Rattle.answer.specs.Compute as compute
 use Rattle.answer.proofs.Settled.{check-answers, read-answers, convert-answers}
-use Rattle.cases.specs.Table.{Case, answered, refused, checked, table, buffer, job, answer, placed, filled, Holds, Every, every-none, every-more}
+use Rattle.cases.specs.Table.{Case, answered, failed, checked, table, buffer, job, answer, placed, fault, filled, Holds, Every, every-none, every-more}
 
 same-bool : Bool → Bool → Bool
 same-bool true b = b
@@ -86,7 +87,7 @@ leaves o a new = same-answer (o .answer) a && same (o .buffer) new
 
 passes : Case → Bool
 passes (answered g r p m x) = leaves (readOf (job g r) buffer) (answer 0 (length p) m) (filled p) && leaves (convertOf (job g r) buffer) (answer 0 (length (chars x)) m) (filled (chars x))
-passes (refused g r n) = leaves (readOf (job g r) buffer) (answer n 0 false) buffer && leaves (convertOf (job g r) buffer) (answer n 0 false) buffer
+passes (failed g r k) = leaves (readOf (job g r) buffer) (fault k) buffer && leaves (convertOf (job g r) buffer) (fault k) buffer
 passes (checked g n p) = same-answer (checkOf (chars g)) (placed n p)
 
 both : (P : Answer → List ℕ → Type 0) (o : Outcome) (a : Answer) (new : List ℕ) → P (o .answer) (o .buffer) → T (leaves o a new) → P a new
@@ -102,11 +103,11 @@ holds (answered g r p m x) t =
       both (Reads (job g r) buffer) (readOf (job g r) buffer) (answer 0 (length p) m) (filled p) (read-answers (job g r) buffer) (and-left a b t),
       both (Converts (job g r) buffer) (convertOf (job g r) buffer) (answer 0 (length (chars x)) m) (filled (chars x)) (convert-answers (job g r) buffer) (and-right a b t),
     )
-holds (refused g r n) t =
-    let a = leaves (readOf (job g r) buffer) (answer n 0 false) buffer in
-    let b = leaves (convertOf (job g r) buffer) (answer n 0 false) buffer in (
-      both (Reads (job g r) buffer) (readOf (job g r) buffer) (answer n 0 false) buffer (read-answers (job g r) buffer) (and-left a b t),
-      both (Converts (job g r) buffer) (convertOf (job g r) buffer) (answer n 0 false) buffer (convert-answers (job g r) buffer) (and-right a b t),
+holds (failed g r k) t =
+    let a = leaves (readOf (job g r) buffer) (fault k) buffer in
+    let b = leaves (convertOf (job g r) buffer) (fault k) buffer in (
+      both (Reads (job g r) buffer) (readOf (job g r) buffer) (fault k) buffer (read-answers (job g r) buffer) (and-left a b t),
+      both (Converts (job g r) buffer) (convertOf (job g r) buffer) (fault k) buffer (convert-answers (job g r) buffer) (and-right a b t),
     )
 holds (checked g n p) t = subst (Checks (chars g)) (answer-is (checkOf (chars g)) (placed n p) t) (check-answers (chars g))
 
@@ -115,11 +116,11 @@ every [] t = every-none
 every (c ∷ cs) t = every-more (holds c (and-left (passes c) (all passes cs) t)) (every cs (and-right (passes c) (all passes cs) t))
 
 pub cases-hold : Every Holds table
-unfolding table buffer job answer placed filled passes leaves same-answer same-places same-bool computing
+unfolding table buffer job answer placed fault filled passes leaves same-answer same-places same-bool computing
     utf8.utf8 utf8.utf8s utf8.unmarked utf8.alphabet utf8.known decoding.secondLow decoding.secondHigh decoding.restOf decoding.charOf decoding.decodeIn
     decoding.decode decoding.breakIn decoding.breakOf category.categories category.classes category.isClass
     static.undefined static.duplicate static.beyond static.unassignable static.banned static.codeOf static.runsBack static.backwards static.noClass static.unclassed plain.size
     names.xmlChar names.nameStart names.nameChar names.xmlName document.twice document.misnamed document.unwritable document.isAttribute document.notOne document.namespaced bytes.escape bytes.bytes
-    static.mismatched utf8.width ranks.total ranks.codeAt ranks.rankIn ranks.someKnown yield.unproductive
+    static.mismatched utf8.width ranks.total ranks.codeAt ranks.rankIn ranks.someKnown yield.unproductive viable.faultOf
     scan.sign scan.opens scan.onward scan.lefts place.atFault places.placeOf compute.treeOf checkOf readOf convertOf
 cases-hold = every table tt

@@ -1,4 +1,4 @@
--- The starred cases of document 01, in one table.
+-- The starred cases of document 01, in one table, and some of the place of a fault.
 use mathlib.Core.Bool.{Bool, true, false}
 use mathlib.Core.Path.{_≡_}
 use mathlib.Core.List.{List, [], _∷_, _++_}
@@ -9,17 +9,21 @@ use Rattle.text.specs.Lists.{chars}
 use Rattle.answer.specs.Answer.{Job, Answer, Checks, Reads, Converts}
 use Rattle.answer.specs.Program.{programJob}
 
--- a grammar and a record that are answered: the reading, whether it is ambiguous, and the XML; or refused by reading and
--- converting; or a grammar's number from checking, and its place
+-- a grammar and a record that are answered: the reading, whether it is ambiguous, and the XML; or that have no reading, and the place
+-- of the fault; or a grammar's number from checking, and its place
 pub data Case : Type 0 where
   answered : String → String → List ℕ → Bool → String → Case
-  refused : String → String → ℕ → Case
+  failed : String → String → ℕ → Case
   checked : String → ℕ → ℕ → Case
 
 unfoldable pub table : List Case
 table =
     answered "a: \"x\"." "x" (0 ∷ []) false "<a>x</a>"
-    ∷ refused "a: \"x\"." "" 16
+    ∷ failed "a: \"x\"." "" 0
+    ∷ failed "a: \"x\"; \"xyz\"." "xyq" 2
+    ∷ failed "a: \"x\"; \"y\", []." "y" 0
+    ∷ failed "a: b, \";\". b: \"x\"+." "xx" 2
+    ∷ failed "a: b, \";\". b: \"x\"+." "xx.;" 2
     ∷ answered "a: \"x\"*." "" (0 ∷ 1 ∷ []) false "<a/>"
     ∷ answered "a: \"x\"*." "xx" (0 ∷ 0 ∷ 0 ∷ 1 ∷ []) false "<a>xx</a>"
     ∷ answered "a: \"x\"; \"x\"." "x" (0 ∷ []) true "<a xmlns:ixml='http://invisiblexml.org/NS' ixml:state='ambiguous'>x</a>"
@@ -50,13 +54,16 @@ answer n k m = record { number = n; length = k; ambiguous = m; version = false; 
 unfoldable pub placed : ℕ → ℕ → Answer
 placed n p = record { number = n; length = 0; ambiguous = false; version = false; places = record { byte = 0; fault = 0; grammar = p } }
 
+unfoldable pub fault : ℕ → Answer
+fault k = record { number = 16; length = 0; ambiguous = false; version = false; places = record { byte = 0; fault = k; grammar = 0 } }
+
 unfoldable pub filled : List ℕ → List ℕ
 filled xs = xs ++ drop (length xs) buffer
 
 -- what the table says, against the definitions of the calls
 abbrev pub Holds : Case → Type 0
 Holds (answered g r p m x) = Reads (job g r) buffer (answer 0 (length p) m) (filled p) × Converts (job g r) buffer (answer 0 (length (chars x)) m) (filled (chars x))
-Holds (refused g r n) = Reads (job g r) buffer (answer n 0 false) buffer × Converts (job g r) buffer (answer n 0 false) buffer
+Holds (failed g r k) = Reads (job g r) buffer (fault k) buffer × Converts (job g r) buffer (fault k) buffer
 Holds (checked g n p) = Checks (chars g) (placed n p)
 
 pub data Every (P : Case → Type 0) : List Case → Type 0 where

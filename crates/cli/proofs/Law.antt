@@ -9,10 +9,12 @@ use lib.Dec.{T, leb, leb→le}
 use lib.ListN.{length, take, replicate, length-take}
 use lib.Seq.{take-all}
 use borrow.Author.Tests.{lt-ltb, le-ltb}
-use Rattle.text.specs.Limits.{grammarBytes, grammarTable, fileBytes, programBytes, programTable}
+use Rattle.text.specs.Limits.{recordChars, grammarBytes, grammarTable, fileBytes, programBytes, programTable}
 use Rattle.text.specs.Lists.{Text, all}
 use Rattle.text.proofs.Tests.{split, and-left, and-right, clash}
-use Rattle.answer.specs.Answer.{Note, Noted, Places, placeNotes, jobNotes, Line, Topmost, Job, Answer, Converts, grammarLines, recordLines, documentLines, tooLong, asXml}
+use Rattle.viable.specs.Fault.{FaultAt}
+use Rattle.answer.proofs.Lines.{unapplied}
+use Rattle.answer.specs.Answer.{ofJob, inputLines, readingLines, Note, Noted, Places, placeNotes, jobNotes, Line, Topmost, Job, Answer, Converts, grammarLines, recordLines, documentLines, tooLong, asXml}
 use Rattle.answer.specs.Compute.{convertOf}
 use Rattle.answer.specs.Program.{File, bytes, shows, programJob, Writes, no-grammar, no-record, long-record, job}
 use Rattle.answer.proofs.Settled.{convert-settled, convert-answers}
@@ -31,6 +33,18 @@ topmost-below m n (l ∷ ls) h t =
 pub two-places : (j : Job) (old : List ℕ) (a : Answer) (new : List ℕ) → Converts j old a new → a .number < 100
 two-places j old a new c =
     let k = topmost-below 29 (a .number) (grammarLines (j .grammar) (recordLines j (documentLines j (tooLong j asXml old ∷ [])))) tt (c .number) in omega arith
+
+-- the place of the fault has at most three digits: it is in a record that is not too long
+pub three-places : (j : Job) (old : List ℕ) (a : Answer) (new : List ℕ) → Converts j old a new → a .places .fault < 1000
+three-places j old a new c = ⊎-elim short (λ z. omega (arith, z .1)) (c .places .fault)
+  where
+    short : (a .number ≡ 16) × ofJob j (λ g r. FaultAt g r (a .places .fault)) → a .places .fault < 1000
+    short x =
+        let ls = documentLines j (tooLong j asXml old ∷ []) in
+        let t = subst (Topmost (grammarLines (j .grammar) (recordLines j ls))) (x .0) (c .number) in
+        let u = unapplied (grammarLines (j .grammar) (inputLines j [])) (readingLines j ls) 16 tt t in
+        let f = x .1 in
+        ⊎-elim (λ l. absurd (u .1 .1 .1 .1 .1 .1 .1 .1 .1 .1 .1 .1 .1 .1 .0 (f .1, f .2 .1, l))) (λ l. omega (arith, f .3 .inside)) (split recordChars (length (f .1)))
 
 -- a number without a note has the place 0
 abbrev Apart : ℕ → List Note → Type 0
@@ -59,7 +73,7 @@ long-grammar g h r old a new k l c =
       );
       places = record {
         byte = no-place (jobNotes (programJob g r) .bytes) (jobNotes (programJob h r) .bytes) (a .number) (a .places .byte) (apart e) (apart e) (c .places .byte);
-        fault = c .places .fault;
+        fault = no-place (jobNotes (programJob g r) .faults) (jobNotes (programJob h r) .faults) (a .number) (a .places .fault) (λ z. omega (arith, e, z), tt) (λ z. omega (arith, e, z), tt) (c .places .fault);
         grammar = no-place (placeNotes g) (placeNotes h) (a .number) (a .places .grammar) (unplaced g e) (unplaced h e) (c .places .grammar);
       };
     }
@@ -132,15 +146,15 @@ one-text (job {g = g} {r = r} {new = m} {a = a} k c) (job {new = n} {a = b} l d)
 module _ {g r old xml new : List ℕ} {s t n l k : ℕ} {m v : Bool} {p : Places} where
   pub job-shown : s ≡ programTable → t ≡ grammarTable → old ≡ replicate programBytes 0
       → Converts (record { grammar = g; input = r; mainTable = s; secondTable = t }) old
-      (record { number = n; length = l; ambiguous = m; version = v; places = p }) xml → Shows n l v xml new k
+      (record { number = n; length = l; ambiguous = m; version = v; places = p }) xml → Shows n l v (p .fault) xml new k
       → Holds (jobText g r) new k
   job-shown es et eo c w =
       let d : Converts (programJob g r) (replicate programBytes 0) (record { number = n; length = l; ambiguous = m; version = v; places = p }) xml = rw (es, et, eo) at c in
       let u = convert-settled (programJob g r) (replicate programBytes 0) (record { number = n; length = l; ambiguous = m; version = v; places = p }) xml d in
       record {
         fits = w .fits;
-        holds = w .holds (two-places (programJob g r) (replicate programBytes 0)
-            (record { number = n; length = l; ambiguous = m; version = v; places = p }) xml d) ∙ (λ ι. shows (u .0 ι) (u .1 ι));
+        holds = w .holds (two-places (programJob g r) (replicate programBytes 0) (record { number = n; length = l; ambiguous = m; version = v; places = p }) xml d)
+            (three-places (programJob g r) (replicate programBytes 0) (record { number = n; length = l; ambiguous = m; version = v; places = p }) xml d) ∙ (λ ι. shows (u .0 ι) (u .1 ι));
       }
 
 -- a negated test

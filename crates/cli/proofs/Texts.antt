@@ -10,8 +10,7 @@ use lib.ListN.{length, take, length-append}
 use lib.Seq.{take-at, take-all, take-length, length-take-le}
 use borrow.Author.Tests.{ne-eqb, lt-ltb, le-ltb}
 use Rattle.text.proofs.Tests.{split}
-use Rattle.xml.specs.Bytes.{failDocument}
-use Rattle.answer.specs.Program.{decimal}
+use Rattle.answer.specs.Program.{decimal, failDocument}
 use Rattle.cli.specs.Output.{Put, refusal, bodyOf}
 
 -- a text that was copied after the first `at` bytes
@@ -34,7 +33,15 @@ pub two-digits : {n d e at r : ℕ} {old new : List ℕ} → 10 ≤ n → n < 10
 two-digits {n} {d} {e} {at} {r} {old} h l f g p =
     let x : d ≡ 48 + n / 10 = f (omega arith) in
     let y : e ≡ 48 + n % 10 = g (omega arith) in
-    p .holds ∙ ap (λ (ds : List ℕ). take at old ++ ds) (rw (le-ltb n 10 h, x, y))
+    p .holds ∙ ap (λ (ds : List ℕ). take at old ++ ds) (rw (le-ltb n 10 h, lt-ltb n 100 l, x, y))
+
+pub three-digits : {n d e f at r : ℕ} {old new : List ℕ} → 100 ≤ n → n < 1000 → (n / 100 < 10 → d ≡ 48 + n / 100) → (n / 10 % 10 < 10 → e ≡ 48 + n / 10 % 10)
+    → (n % 10 < 10 → f ≡ 48 + n % 10) → Put (d ∷ e ∷ f ∷ []) at old new r → take r new ≡ take at old ++ decimal n
+three-digits {n} {d} {e} {f} {at} {r} {old} h l a b c p =
+    let x : d ≡ 48 + n / 100 = a (omega arith) in
+    let y : e ≡ 48 + n / 10 % 10 = b (omega arith) in
+    let z : f ≡ 48 + n % 10 = c (omega arith) in
+    p .holds ∙ ap (λ (ds : List ℕ). take at old ++ ds) (rw (le-ltb n 10 (omega arith), le-ltb n 100 h, x, y, z))
 
 -- a count of bytes that is cut to those that there are
 cut : (l : ℕ) (xs : List ℕ) → take (min l (length xs)) xs ≡ take l xs
@@ -43,12 +50,14 @@ cut l xs =
     (λ p. ap (λ k. take k xs) (min-eq-right {n = length xs} {m = l} p) ∙ take-length xs ∙ sym (take-all l xs p)) (split l (length xs))
 
 -- the three kinds of answer
-module _ (n l : ℕ) (v : Bool) (xml : List ℕ) where
-  pub body-0 : {k r : ℕ} {old new : List ℕ} → n ≡ 0 → k ≡ min l (length xml) → Put (take k xml) 0 old new r → take r new ≡ bodyOf n l v xml
-  body-0 {k} z e p = p .holds ∙ ap (λ j. take j xml) e ∙ cut l xml ∙ rw z
+module _ (n l : ℕ) (v : Bool) (k : ℕ) (xml : List ℕ) where
+  pub body-0 : {i r : ℕ} {old new : List ℕ} → n ≡ 0 → i ≡ min l (length xml) → Put (take i xml) 0 old new r → take r new ≡ bodyOf n l v k xml
+  body-0 {i} z e p = p .holds ∙ ap (λ j. take j xml) e ∙ cut l xml ∙ rw z
 
-  pub body-16 : {text : List ℕ} → n ≡ 16 → text ≡ failDocument v → text ≡ bodyOf n l v xml
-  body-16 z e = e ∙ rw z
+  pub body-16 : {text : List ℕ} {i : ℕ} → n ≡ 16 → i ≡ min k 999 → k < 1000 → (i < 1000 → text ≡ failDocument v i) → text ≡ bodyOf n l v k xml
+  body-16 {i = i} z e h f =
+      let s : i ≡ k = e ∙ min-eq-left {n = k} {m = 999} (omega arith) in
+      f (omega arith) ∙ ap (failDocument v) s ∙ rw z
 
-  pub body-other : {text : List ℕ} → (n ≡ 0 → ⊥) → (n ≡ 16 → ⊥) → text ≡ refusal n → text ≡ bodyOf n l v xml
+  pub body-other : {text : List ℕ} → (n ≡ 0 → ⊥) → (n ≡ 16 → ⊥) → text ≡ refusal n → text ≡ bodyOf n l v k xml
   body-other a b e = e ∙ rw (ne-eqb n 0 a, ne-eqb n 16 b)

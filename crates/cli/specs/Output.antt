@@ -7,10 +7,9 @@ use lib.Dec.{eqb}
 use lib.ListN.{length, take, replicate}
 use Rattle.text.specs.Limits.{fileBytes, programBytes}
 use Rattle.text.specs.Lists.{Text, chars, pick}
-use Rattle.xml.specs.Bytes.{failDocument}
 use Rattle.answer.specs.Answer.{Answer}
 use Rattle.answer.specs.Compute.{Outcome, convertOf}
-use Rattle.answer.specs.Program.{File, unreadable, bytes, decimal, Writes, shows, programJob}
+use Rattle.answer.specs.Program.{File, unreadable, bytes, decimal, failState, failDocument, Writes, shows, programJob}
 use Rattle.cli.specs.declared.files.Chunk.{Chunk}
 use Rattle.cli.specs.declared.files.Chunk.the-variants.{More, End, Failed}
 
@@ -45,18 +44,22 @@ noFile = chars "unreadable\n"
 abbrev pub longFile : Text
 longFile = chars "refused 14\n"
 
+-- the fail document up to the digits of the place
+abbrev pub failHead : Bool → Text
+failHead v = chars "<fail" ++ failState v ++ chars " place='"
+
 -- what is shown of an answer, up to its line end
-abbrev pub bodyOf : ℕ → ℕ → Bool → List ℕ → Text
-bodyOf n l v new = pick (eqb n 0) (take l new) (pick (eqb n 16) (failDocument v) (refusal n))
+abbrev pub bodyOf : ℕ → ℕ → Bool → ℕ → List ℕ → Text
+bodyOf n l v k new = pick (eqb n 0) (take l new) (pick (eqb n 16) (failDocument v k) (refusal n))
 
--- the answer with these parts; the ambiguous mark and the places play no part in what is written of it
-abbrev pub answerOf : ℕ → ℕ → Bool → Answer
-answerOf n l v = record { number = n; length = l; ambiguous = false; version = v; places = record { byte = 0; fault = 0; grammar = 0 } }
+-- the answer with these parts; the ambiguous mark and the other places play no part in what is written of it
+abbrev pub answerOf : ℕ → ℕ → Bool → ℕ → Answer
+answerOf n l v k = record { number = n; length = l; ambiguous = false; version = v; places = record { byte = 0; fault = k; grammar = 0 } }
 
--- the first r bytes are what is written for an answer, whose number has at most two digits
-pub record Shows (n l : ℕ) (v : Bool) (xml new : List ℕ) (r : ℕ) : Type 0 where
+-- the first r bytes are what is written for an answer, whose number has at most two digits, and the place of the fault at most three
+pub record Shows (n l : ℕ) (v : Bool) (k : ℕ) (xml new : List ℕ) (r : ℕ) : Type 0 where
   pub fits : r ≤ length new
-  pub holds : n < 100 → take r new ≡ shows (answerOf n l v) xml
+  pub holds : n < 100 → k < 1000 → take r new ≡ shows (answerOf n l v k) xml
 
 -- one byte more than a file may have: enough to see that it is longer
 abbrev pub askedBytes : ℕ

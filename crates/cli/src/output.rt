@@ -3,11 +3,10 @@ ghost use mathlib.Core.Path.{_≡_};
 ghost use Prim.Native.Nat.{_+_, _≤_, _<_, min};
 ghost use lib.ListN.{length, take};
 ghost use mathlib.Core.List.{_++_};
-ghost use Rattle.xml.specs.Bytes.{failDocument};
-ghost use Rattle.answer.specs.Program.{decimal};
+ghost use Rattle.answer.specs.Program.{decimal, failDocument};
 use text::limits;
 use text::refusals;
-ghost use Rattle.cli.specs.Output.{Put, Holds, Shows, bodyOf, refusal, noFile, longFile};
+ghost use Rattle.cli.specs.Output.{Put, Holds, Shows, failHead, bodyOf, refusal, noFile, longFile};
 
 // The XML and a line end.
 const WRITTEN_BYTES: usize = limits::PROGRAM_BYTES + 1;
@@ -27,20 +26,20 @@ fn least(a: usize, b: usize) -> usize
     if a < b { a } else { b }
 }
 
-// The document that says that a record does not fit.
-fn put_fail(version: bool, out: &mut [u8]) -> usize
+// The document that says that a record does not fit, up to the digits of the place.
+fn put_head(version: bool, out: &mut [u8]) -> usize
     requires { ⌜ 128 ≤ length (now out) ⌝ }
-    ensures { λ r. ⌜ (r ≤ 128) × (take r (now (out .exit)) ≡ failDocument version) ⌝ }
+    ensures { λ r. ⌜ (r ≤ 100) × (take r (now (out .exit)) ≡ failHead version) ⌝ }
 {
     if version {
         return put(
-            b"<fail xmlns:ixml='http://invisiblexml.org/NS' ixml:state='failed version-mismatch'/>",
+            b"<fail xmlns:ixml='http://invisiblexml.org/NS' ixml:state='failed version-mismatch' place='",
             out,
             0,
         );
     }
     put(
-        b"<fail xmlns:ixml='http://invisiblexml.org/NS' ixml:state='failed'/>",
+        b"<fail xmlns:ixml='http://invisiblexml.org/NS' ixml:state='failed' place='",
         out,
         0,
     )
@@ -56,15 +55,32 @@ fn digit(d: u32) -> u8
     b'?'
 }
 
-// A number below 100 in decimal.
+// A number below 1,000 in decimal.
 fn put_decimal(n: u32, out: &mut [u8], at: usize) -> usize
-    requires { ⌜ at + 2 ≤ length (now out) ⌝ }
-    ensures { λ r. ⌜ (r ≤ at + 2) × (n < 100 → take r (now (out .exit)) ≡ take at (now (out .entry)) ++ decimal n) ⌝ }
+    requires { ⌜ at + 3 ≤ length (now out) ⌝ }
+    ensures { λ r. ⌜ (r ≤ at + 3) × (n < 1000 → take r (now (out .exit)) ≡ take at (now (out .entry)) ++ decimal n) ⌝ }
 {
     if n < 10 {
         return put(&[digit(n)], out, at);
     }
-    put(&[digit(n / 10), digit(n % 10)], out, at)
+    if n < 100 {
+        return put(&[digit(n / 10), digit(n % 10)], out, at);
+    }
+    put(
+        &[digit(n / 100), digit(n / 10 % 10), digit(n % 10)],
+        out,
+        at,
+    )
+}
+
+// The whole document, with a place below 1,000.
+fn put_fail(version: bool, place: u32, out: &mut [u8]) -> usize
+    requires { ⌜ 128 ≤ length (now out) ⌝ }
+    ensures { λ r. ⌜ (r ≤ 128) × (place < 1000 → take r (now (out .exit)) ≡ failDocument version place) ⌝ }
+{
+    let at = put_head(version, out);
+    let end = put_decimal(place, out, at);
+    put(b"'/>", out, end)
 }
 
 // `refused` and a number below 100.
@@ -77,33 +93,42 @@ fn put_refused(n: u32, out: &mut [u8]) -> usize
 }
 
 // What is written for an answer, up to the line end.
-fn put_answer(number: u32, size: usize, version: bool, xml: &[u8], out: &mut [u8]) -> usize
+fn put_answer(
+    number: u32,
+    size: usize,
+    version: bool,
+    place: usize,
+    xml: &[u8],
+    out: &mut [u8],
+) -> usize
     requires { ⌜ (length (now xml) ≤ 65536) × (65537 ≤ length (now out)) ⌝ }
-    ensures { λ r. ⌜ (r ≤ 65536) × (number < 100 → take r (now (out .exit)) ≡ bodyOf number size version (now (xml .entry))) ⌝ }
+    ensures { λ r. ⌜ (r ≤ 65536) × (number < 100 → place < 1000 → take r (now (out .exit)) ≡ bodyOf number size version place (now (xml .entry))) ⌝ }
 {
     if number == refusals::ANSWERED {
         let n = least(size, xml.len());
         return put(&xml[..n], out, 0);
     }
     if number == refusals::NO_READING {
-        return put_fail(version, out);
+        let shown = least(place, 999) as u32;
+        return put_fail(version, shown, out);
     }
     put_refused(number, out)
 }
 
 // What is written for an answer: the first `size` bytes of the XML, the document of a record
-// that does not fit, or the refusal's number; and a line end.
+// that does not fit, with the place of the fault, or the refusal's number; and a line end.
 pub fn show(
     number: u32,
     size: usize,
     version: bool,
+    place: usize,
     xml: &[u8],
     out: &mut [u8; WRITTEN_BYTES],
 ) -> usize
     requires { ⌜ length (now xml) ≤ 65536 ⌝ }
-    ensures { λ r. ⌜ Shows number size version (now (xml .entry)) (now (out .exit)) r ⌝ }
+    ensures { λ r. ⌜ Shows number size version place (now (xml .entry)) (now (out .exit)) r ⌝ }
 {
-    let at = put_answer(number, size, version, xml, out);
+    let at = put_answer(number, size, version, place, xml, out);
     put(b"\n", out, at)
 }
 

@@ -72,7 +72,7 @@ module _ {A : Type 0} where
   count-same p q h (y ∷ ys) l (in-head e) t = subst (λ (z : A). T (p z)) (sym e) (num-same (p y) (q y) (omega (arith, count-mono p q h ys)) (subst (λ (z : A). T (q z)) e t))
   count-same p q h (y ∷ ys) l (in-tail m) t = count-same p q h ys (omega (arith, num-mono (p y) (q y) (h y))) m t
 
-in-ending : (i j n : ℕ) → i ≤ n → In (i, j) (endingAt j n)
+pub in-ending : (i j n : ℕ) → i ≤ n → In (i, j) (endingAt j n)
 in-ending i j zero h = let e : i ≡ 0 = omega arith in in-head (λ ι. (e ι, j))
 in-ending i j (suc n) h = elim (ℕ-discrete i (suc n)) as (λ _. In (i, j) (endingAt j (suc n))) [
   | yes e ↦ in-head (λ ι. (e ι, j))
@@ -96,13 +96,13 @@ stretches-count zero = refl
 stretches-count (suc n) = omega (arith, length-append (endingAt (suc n) (suc n)) (stretches n), ending-count (suc n) (suc n), stretches-count n)
 
 -- a symbol on a stretch
-abbrev Cell : Type 0
+abbrev pub Cell : Type 0
 Cell = Symbol × (ℕ × ℕ)
 
-abbrev cellsOf : List (ℕ × ℕ) → Symbol → List Cell
+abbrev pub cellsOf : List (ℕ × ℕ) → Symbol → List Cell
 cellsOf ps s = map (λ p. (s, p)) ps
 
-cells-length : (ps : List (ℕ × ℕ)) (ss : List Symbol) → length (concatMap (cellsOf ps) ss) ≡ length ss * length ps
+pub cells-length : (ps : List (ℕ × ℕ)) (ss : List Symbol) → length (concatMap (cellsOf ps) ss) ≡ length ss * length ps
 cells-length ps [] = omega arith
 cells-length ps (s ∷ ss) = omega (
   arith,

@@ -60,7 +60,7 @@ module _ {A : Type 0} where
   numbered (y ∷ ys) d (in-head e) = record { a = 0; below = omega arith; is = sym e }
   numbered (y ∷ ys) d (in-tail m) = let w = numbered ys d m in record { a = suc (w .a); below = omega (arith, w .below); is = w .is }
 
-  all-append : (f : A → Bool) (xs ys : List A) → T (all f xs) → T (all f ys) → T (all f (xs ++ ys))
+  pub all-append : (f : A → Bool) (xs ys : List A) → T (all f xs) → T (all f ys) → T (all f (xs ++ ys))
   all-append f [] ys h k = k
   all-append f (x ∷ xs) ys h k = both-and (f x) (all f (xs ++ ys)) (and-left (f x) (all f xs) h) (all-append f xs ys (and-right (f x) (all f xs) h) k)
 
@@ -68,7 +68,7 @@ module _ {A : Type 0} where
   all-more f h w [] t = tt
   all-more f h w (x ∷ xs) t = both-and (h x) (all h xs) (w x (and-left (f x) (all f xs) t)) (all-more f h w xs (and-right (f x) (all f xs) t))
 
-  all-drop : (f : A → Bool) (i : ℕ) (xs : List A) → T (all f xs) → T (all f (drop i xs))
+  pub all-drop : (f : A → Bool) (i : ℕ) (xs : List A) → T (all f xs) → T (all f (drop i xs))
   all-drop f zero xs h = h
   all-drop f (suc i) [] h = h
   all-drop f (suc i) (x ∷ xs) h = all-drop f i xs (and-right (f x) (all f xs) h)
@@ -138,6 +138,11 @@ module _ (g : Grammar) where
     | no e ↦ yields-more n s (rise k n s (omega arith) t)
   ]
 
+  -- so the symbols of a row that derives a text of known characters are productive
+  pub derived-productive : {r : Text} → T (all known r) → {t : Row} {ss : List Symbol} {i j : ℕ} → Inside g ss → Derives g r t ss i j → T (all (productive g) ss)
+  derived-productive v {ss = ss} h d =
+      all-more (yields g (last .k)) (productive g) (λ s. rise (last .k) (suc (length (symbolsOf g))) s (omega (arith, last .early))) ss (settles (last .k) (last .settled) v h d)
+
   complete-by : {s : Symbol} {r : Text} {t : Row} {i j : ℕ} → T (all known r) → In s (ruled g) → Derives g r t (s ∷ []) i j → T (productive g s)
   complete-by {r = r} v h (d-leaf {x} {i = i} b d-end) = leaf-yields (suc (length (symbolsOf g))) x (fits-live x (drop i r) (all-drop known i r v) b)
   complete-by v h (d-node {s} {a = a} la c d-end) =
@@ -147,11 +152,11 @@ module _ (g : Grammar) where
   complete h w = complete-by (w .held) h (w .derives)
 
   -- a text of the symbols, wherever it stands
-  record Spelling (ss : List Symbol) : Type 0 where
-    text : Text
-    held : T (all known text)
-    tree : Text → Text → Row
-    derives : (p u : Text) → Derives g (p ++ (text ++ u)) (tree p u) ss (length p) (length p + length text)
+  pub record Spelling (ss : List Symbol) : Type 0 where
+    pub text : Text
+    pub held : T (all known text)
+    pub tree : Text → Text → Row
+    pub derives : (p u : Text) → Derives g (p ++ (text ++ u)) (tree p u) ss (length p) (length p + length text)
 
   spell-none : Spelling []
   spell-none = record {
@@ -215,6 +220,9 @@ module _ (g : Grammar) where
         let a = numbered (alts g s) [] (w .is) in
         spell-node s (a .a) (a .below) (spell-all k (spell k) (alternative g s (a .a)) (subst (λ (ss : List Symbol). T (all (yields g k) ss)) (sym (a .is)) (w .passes))))
   ]
+
+  pub spelled : (ss : List Symbol) → T (all (productive g) ss) → Spelling ss
+  spelled = spell-all (suc (length (symbolsOf g))) (spell (suc (length (symbolsOf g))))
 
   pub sound : (k : ℕ) {s : Symbol} → T (yields g k s) → Produces g s
   sound k {s} t =

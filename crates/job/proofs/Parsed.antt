@@ -11,7 +11,7 @@ use Rattle.text.specs.Limits.{readingNumbers}
 use Rattle.derive.specs.Derive.{leftParse}
 use Rattle.derive.specs.Pick.{chosenOf}
 use borrow.Author.Tests.{ne-eqb}
-use Rattle.text.specs.Stages.{numberOf, diagnosticOf, plainly}
+use Rattle.text.specs.Stages.{diagnosticOf}
 use Rattle.text.specs.declared.Diagnostic.{Diagnostic}
 use Rattle.answer.specs.Answer.{Job}
 use Rattle.answer.specs.Compute.{mismatch, test, noneTest, onReading}
@@ -43,16 +43,16 @@ module _ (j : Job) (T new : List ℕ) where
 
   module _ (s : Start) (w : Started j T new s) (P : List ℕ) (r : Read) where
     -- there is no reading, or it is too long
-    pub not-chosen : (k n : ℕ) (d : Diagnostic) → r ≡ Not-read k → n ≡ numberOf (foundOf r) → d ≡ plainly n → Ends j T new s w P r
+    pub not-chosen : (k d : Diagnostic) → r ≡ Not-read k → d ≡ diagnosticOf (foundOf r) → Ends j T new s w P r
         → NotChosen j (record { why = d; mismatch = s .rules .mismatch })
-    not-chosen k n d q e p x =
+    not-chosen k d q e x =
         let y = subst (Ends j T new s w P) q x in
-        let h : n ≡ k = e ∙ ap (λ (x : Read). numberOf (foundOf x)) q in
-        rw (p, h) (record {
+        let h : d ≡ k = e ∙ ap (λ (x : Read). diagnosticOf (foundOf x)) q in
+        rw h (record {
           some = λ z. ⊎-elim (λ u. omega arith) (λ u. omega arith) (y .late);
           is = y .is;
-          version = ap (λ (b : Bool). eqb k 16 && b) (w .grammar .version);
-          places = ⊎-elim (λ u. rw u) (λ u. rw u) (y .late);
+          version = ap (λ (b : Bool). eqb (k .number) 16 && b) (w .grammar .version);
+          places = y .places;
         })
 
     pub chosen : (f : Found) → r ≡ Reading f → Ends j T new s w P r

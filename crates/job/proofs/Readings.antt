@@ -12,7 +12,10 @@ use denote.Enum.Declared.{tagOf}
 use types.Run.{OneOf}
 use Rattle.text.specs.Limits.{grammarTable, readingNumbers, recordChars}
 use Rattle.text.specs.Lists.{Text}
-use Rattle.text.specs.Stages.{numberOf}
+use Rattle.text.specs.Stages.{plainly}
+use Rattle.text.specs.declared.CharPlace.{CharPlace}
+use Rattle.text.specs.declared.Diagnostic.{Diagnostic}
+use Rattle.text.proofs.Tests.{isT}
 use Rattle.tree.specs.Tree.{Grammar}
 use Rattle.plain.specs.Plain.{size}
 use Rattle.derive.specs.Derive.{leftParse}
@@ -23,31 +26,23 @@ use Rattle.derive.proofs.Ambiguous.{ambiguous-second}
 use Rattle.chart.specs.Heights.{stretches}
 use Rattle.parser.specs.Choose.{Choosable}
 use Rattle.answer.specs.Answer.{Job, tableNeed}
-use Rattle.answer.specs.Compute.{Test, recordTests}
+use Rattle.answer.specs.Compute.{Test, recordTests, faultIn}
 use Rattle.answer.proofs.Stages.{stage-16, stage-29, stage-read}
 use Rattle.answer.proofs.Settled.{same-mark}
-use Rattle.reading.specs.declared.Walked.{Walked}
-use Rattle.reading.specs.declared.Walked.the-variants.{Reading as A-reading, TooLong, NoReading}
-use Rattle.reading.proofs.Walked.{the-type}
-use Rattle.reading.specs.Answer.{Answers, IsReading, NotRead as No-reading, no-reading, too-long, stageOf}
+use Rattle.parser.specs.declared.Chosen.{Chosen}
+use Rattle.parser.specs.declared.Chosen.the-variants.{Reading as A-reading, TooLong, NoReading}
+use Rattle.parser.proofs.Chosen.{the-type}
+use Rattle.parser.specs.Chosen.{Fails, Chooses}
+use Rattle.reading.specs.Answer.{IsReading, IsLong}
+use Rattle.viable.proofs.Fault.{root-produces, fault-settled}
 use Rattle.job.specs.declared.Start.{Start}
 use Rattle.job.specs.Stages.{Started}
 use Rattle.job.proofs.Texts.{got-part}
-use Rattle.job.specs.Found.{firstTest, IsRead, NotRead}
+use Rattle.job.specs.Found.{IsRead, NotRead, atFault, whyNot}
 
 or-false : (a b : Bool) → (a || b) ≡ false → a ≡ false
 or-false true b e = e
 or-false false b e = refl
-
--- an answer that is no reading is refused
-refuses : (g : Grammar) (r : Text) (P : List ℕ) (w : Walked) → OneOf (1 ∷ 2 ∷ []) (tagOf the-type w) → Answers g r P w → No-reading g r (numberOf (stageOf w))
-refuses g r P (A-reading n m) h a = absurd (⊎-elim (λ q. omega arith) (λ q. omega arith) h)
-refuses g r P TooLong h a = a
-refuses g r P NoReading h a = a
-
-late-refusal : {g : Grammar} {r : Text} {n : ℕ} → No-reading g r n → (n ≡ 16) ⊎ (n ≡ 29)
-late-refusal (no-reading a) = inl refl
-late-refusal (too-long a) = inr refl
 
 module _ (j : Job) (Tab new : List ℕ) (s : Start) (w : Started j Tab new s) where
   abbrev g : Grammar
@@ -67,25 +62,45 @@ module _ (j : Job) (Tab new : List ℕ) (s : Start) (w : Started j Tab new s) wh
       (w .input .stored) in
       record { grammar = g; ready = w .grammar .ready; long = l; small = omega (arith, w .grammar .sized, w .grammar .small); short = short; room = omega arith; numbers = p }
 
-  module _ (P : List ℕ) (k : Walked) (a : Answers g (take (s .chars .0) new) P k) where
-    answers : Answers g r P k
-    answers = subst (λ (x : Text). Answers g x P k) (w .input .stored) a
+  too-long : IsLong g r → NotRead j (plainly 29)
+  too-long a = record {
+    late = inr refl;
+    is = λ ts. (let c = chosen-found g r (a .reading .chosen) in
+        w .grammar .first (recordTests j ts)
+        ∙ stage-29 j ts r (w .input .decoded) (w .input .within) (w .input .short) g (w .grammar .is) (w .enough) (a .tree) c
+        (subst (λ (p : List ℕ). readingNumbers < length p) (a .reading .parse) (a .long)));
+    places = refl;
+  }
 
-    pub not-read : OneOf (1 ∷ 2 ∷ []) (tagOf the-type k) → (n : ℕ) → n ≡ numberOf (stageOf k) → NotRead j n
-    not-read h n e = rw e (let b = refuses g r P k h answers in record { late = late-refusal b; is = go b })
+  -- the fault is at the place that is computed
+  fails : (k : CharPlace) → Fails g r (k .0) → NotRead j (atFault 16 k)
+  fails k a = record {
+    late = inl refl;
+    is = λ ts. w .grammar .first (recordTests j ts)
+        ∙ stage-16 j ts r (w .input .decoded) (w .input .within) (w .input .short) g (w .grammar .is) (w .enough) (lacks-none g r (a .none));
+    places = λ ι. record { byte = 0; fault = same ι; grammar = 0 };
+  }
+    where
+      same : k .0 ≡ faultIn j
+      same =
+          let held = isT (w .input .within) in
+          let f = a .fault (w .grammar .productive) held in
+          fault-settled g r held (root-produces g (w .grammar .productive)) f ∙ sym (rw (w .grammar .is, w .input .decoded))
+
+  module _ (P : List ℕ) (k : Chosen) (a : Chooses g (take (s .chars .0) new) P k) where
+    answers : Chooses g r P k
+    answers = subst (λ (x : Text). Chooses g x P k) (w .input .stored) a
+
+    pub not-read : OneOf (1 ∷ 2 ∷ []) (tagOf the-type k) → (d : Diagnostic) → d ≡ whyNot k → NotRead j d
+    not-read h d e = subst (NotRead j) (sym e) (refuses k h answers)
       where
-        go : {n : ℕ} → No-reading g r n → (ts : List Test) → firstTest j ts ≡ n
-        go (too-long a) ts =
-            let c = chosen-found g r (a .reading .chosen) in
-            w .grammar .first (recordTests j ts)
-            ∙ stage-29 j ts r (w .input .decoded) (w .input .within) (w .input .short) g (w .grammar .is) (w .enough) (a .tree) c
-            (subst (λ (p : List ℕ). readingNumbers < length p) (a .reading .parse) (a .long))
-        go (no-reading a) ts =
-            w .grammar .first (recordTests j ts)
-            ∙ stage-16 j ts r (w .input .decoded) (w .input .within) (w .input .short) g (w .grammar .is) (w .enough) (lacks-none g r a)
+        refuses : (c : Chosen) → OneOf (1 ∷ 2 ∷ []) (tagOf the-type c) → Chooses g r P c → NotRead j (whyNot c)
+        refuses (A-reading n m) h a = absurd (⊎-elim (λ q. omega arith) (λ q. omega arith) h)
+        refuses TooLong h a = too-long a
+        refuses (NoReading k) h a = fails k a
 
     pub is-read : (count : ℕ) (mark : Bool) → k ≡ A-reading count mark → IsRead j Tab new s w P (record { count = count; ambiguous = mark })
-    is-read count mark e = go (subst (Answers g r P) e answers)
+    is-read count mark e = go (subst (Chooses g r P) e answers)
       where
         go : IsReading g r P count mark → IsRead j Tab new s w P (record { count = count; ambiguous = mark })
         go a =

@@ -16,7 +16,7 @@ use Rattle.text.specs.declared.Diagnostic.{Diagnostic}
 use Rattle.text.specs.declared.CharPlace.{CharPlace}
 use Rattle.plain.specs.Plain.{size}
 use Rattle.answer.specs.Answer.{Job, Need, mainNeed, tableNeed}
-use Rattle.answer.specs.Compute.{firstOf, grammarTests, needTests, Value, value, valueAt, placesAt, placeValues, checkValues, jobValues}
+use Rattle.answer.specs.Compute.{faultIn, firstOf, grammarTests, needTests, Value, value, valueAt, placesAt, placeValues, checkValues, jobValues}
 use Rattle.answer.proofs.Noted.{value-skip}
 use Rattle.answer.proofs.Stages.{stage-15}
 use Rattle.load.specs.Loaded.{Turned}
@@ -41,8 +41,8 @@ value-cong v vs ws n h = go (eqb n (v .number))
 
 module _ (j : Job) (T new : List ℕ) where
   -- the places of a grammar's refusal are the job's
-  same-places : (n : ℕ) → (n ≡ 12 → ⊥) → (n ≡ 13 → ⊥) → placesAt (checkValues (j .grammar)) n ≡ placesAt (jobValues j) n
-  same-places n a b =
+  same-places : (n : ℕ) → (n ≡ 12 → ⊥) → (n ≡ 13 → ⊥) → (n ≡ 16 → ⊥) → placesAt (checkValues (j .grammar)) n ≡ placesAt (jobValues j) n
+  same-places n a b d =
       let two = value 2 (λ _. breakOf every (j .grammar) (afterMark (j .grammar))) in
       let three = value 3 (λ _. breakOf known (j .grammar) (afterMark (j .grammar))) in
       let twelve = value 12 (λ _. breakOf every (j .input) 0) in
@@ -50,7 +50,8 @@ module _ (j : Job) (T new : List ℕ) where
       let none = value-skip twelve (thirteen ∷ []) n a ∙ value-skip thirteen [] n b in
       let rest = value-cong three [] (twelve ∷ thirteen ∷ []) n (sym none) in
       let e = value-cong two (three ∷ []) (three ∷ twelve ∷ thirteen ∷ []) n rest in
-      λ ι. record { byte = e ι; fault = 0; grammar = valueAt (placeValues (j .grammar)) n }
+      let f = value-skip (value 16 (λ _. faultIn j)) [] n d in
+      λ ι. record { byte = e ι; fault = sym f ι; grammar = valueAt (placeValues (j .grammar)) n }
 
   -- 1 to 11, and 24
   pub ends-grammar : (need : Need) (d : Accepted) (k n : Diagnostic) → d ≡ Turned-down k → n ≡ diagnosticOf (stageOf d) → Accepts (j .grammar) T d → NotBegun need j n
@@ -61,7 +62,8 @@ module _ (j : Job) (T new : List ℕ) where
         some = t .some;
         early = ⊎-elim (λ l. inl (omega arith)) inr (t .early);
         is = λ ts. t .first (needTests need j ts);
-        places = t .places ∙ same-places (k .number) (λ e. ⊎-elim (λ l. omega arith) (λ l. omega arith) (t .early)) (λ e. ⊎-elim (λ l. omega arith) (λ l. omega arith) (t .early));
+        places = t .places ∙ same-places (k .number) (λ e. ⊎-elim (λ l. omega arith) (λ l. omega arith) (t .early)) (λ e. ⊎-elim (λ l. omega arith) (λ l. omega arith) (t .early))
+            (λ e. ⊎-elim (λ l. omega arith) (λ l. omega arith) (t .early));
       })
 
   -- 12 to 14

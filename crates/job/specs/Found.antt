@@ -5,12 +5,17 @@ use mathlib.Core.List.{List}
 use Prim.Native.Nat.{ℕ, _≤_}
 use lib.ListN.{length, take}
 use Rattle.text.specs.Limits.{grammarTable, readingNumbers}
-use Rattle.text.specs.Stages.{StageAnswer, answered, refused, Settles}
+use Rattle.text.specs.Stages.{StageAnswer, answered, refused, Settles, plainly}
+use Rattle.text.specs.declared.CharPlace.{CharPlace}
+use Rattle.text.specs.declared.Diagnostic.{Diagnostic}
 use Rattle.derive.specs.Derive.{Row, leftParse}
 use Rattle.derive.specs.Pick.{found, chosenOf}
 use Rattle.derive.specs.Another.{ambiguousOf}
 use Rattle.answer.specs.Answer.{Job}
-use Rattle.answer.specs.Compute.{Test, firstOf, grammarTests, recordTests}
+use Rattle.answer.specs.Compute.{Test, firstOf, grammarTests, recordTests, placesAt, jobValues}
+use Rattle.load.specs.Loaded.{placesOf}
+use Rattle.parser.specs.declared.Chosen.{Chosen}
+use Rattle.parser.specs.declared.Chosen.the-variants.{Reading as A-reading, TooLong, NoReading}
 use Rattle.job.specs.declared.Start.{Start}
 use Rattle.job.specs.declared.Found.{Found}
 use Rattle.job.specs.declared.Read.{Read}
@@ -38,14 +43,24 @@ pub record IsRead (j : Job) (T new : List ℕ) (s : Start) (w : Started j T new 
   pub short : f .count ≤ readingNumbers
   pub list : take (f .count) P ≡ leftParse row
 
-pub record NotRead (j : Job) (n : ℕ) : Type 0 where
-  pub late : (n ≡ 16) ⊎ (n ≡ 29)
-  pub is : (ts : List Test) → firstTest j ts ≡ n
+pub record NotRead (j : Job) (d : Diagnostic) : Type 0 where
+  pub late : (d .number ≡ 16) ⊎ (d .number ≡ 29)
+  pub is : (ts : List Test) → firstTest j ts ≡ d .number
+  pub places : placesOf (d .places) ≡ placesAt (jobValues j) (d .number)
+
+-- 16 at the place of the fault, and 29
+abbrev pub atFault : ℕ → CharPlace → Diagnostic
+atFault n k = record { number = n; places = record { byte = record { 0 = 0 }; fault = k; grammar = record { 0 = 0 } } }
+
+abbrev pub whyNot : Chosen → Diagnostic
+whyNot (A-reading count mark) = plainly 0
+whyNot TooLong = plainly 29
+whyNot (NoReading k) = atFault 16 k
 
 -- document 01's number and values for each case
-abbrev pub foundOf : Read → StageAnswer Found ℕ
+abbrev pub foundOf : Read → StageAnswer Found Diagnostic
 foundOf (Reading f) = answered f
-foundOf (Refused n) = refused n
+foundOf (Refused d) = refused d
 
 abbrev pub Ends : (j : Job) (T new : List ℕ) (s : Start) → Started j T new s → List ℕ → Read → Type 0
 Ends j T new s w P r = Settles (IsRead j T new s w P) (NotRead j) (foundOf r)

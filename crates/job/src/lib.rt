@@ -7,17 +7,18 @@ ghost use lib.ListN.{length};
 ghost use Rattle.text.specs.Limits.{grammarTable, recordChars, mostSize};
 ghost use Rattle.answer.specs.Answer.{Job, tableNeed};
 ghost use Rattle.answer.specs.Answer.{job};
-ghost use Rattle.text.specs.Stages.{numberOf, diagnosticOf};
-ghost use Rattle.reading.specs.Answer.{stageOf as walkedOf};
+ghost use Rattle.text.specs.Stages.{diagnosticOf};
 ghost use Rattle.job.specs.Stages.{takenOf, begunOf, Takes, Started, Opens, lending, Begins, BeginsBy};
-ghost use Rattle.job.specs.Found.{foundOf, Readable, Ends};
+ghost use Rattle.job.specs.Found.{whyNot, foundOf, Readable, Ends};
 ghost use Rattle.job.specs.Parses.{whyRefused, Lent, Parses};
 use accept::Accepted;
 use accept::Rules;
 use decode::Decoding;
-use reading::Walked;
+use parser::Chosen;
+use text::BytePlace;
 use text::CharPlace;
 use text::Diagnostic;
+use text::Places;
 use text::limits;
 use text::refusals;
 
@@ -154,16 +155,24 @@ pub struct Found {
 
 pub enum Read {
     Reading(Found),
-    Refused(u32),
+    Refused(Diagnostic),
 }
 
-fn why_walked(walked: Walked) -> u32
-    ensures { λ r. ⌜ r ≡ numberOf (walkedOf walked) ⌝ }
+// 16 at the place of the fault, and 29.
+fn why_not(chosen: Chosen) -> Diagnostic
+    ensures { λ r. ⌜ r ≡ whyNot chosen ⌝ }
 {
-    match walked {
-        Walked::Reading(_, _) => refusals::ANSWERED,
-        Walked::TooLong => refusals::READING_TOO_LONG,
-        Walked::NoReading => refusals::NO_READING,
+    match chosen {
+        Chosen::Reading(_, _) => text::plain(refusals::ANSWERED),
+        Chosen::TooLong => text::plain(refusals::READING_TOO_LONG),
+        Chosen::NoReading(place) => Diagnostic {
+            number: refusals::NO_READING,
+            places: Places {
+                byte: BytePlace(0),
+                fault: place,
+                grammar: CharPlace(0),
+            },
+        },
     }
 }
 
@@ -182,7 +191,7 @@ fn read_record(
 {
     let rules = start.rules;
     let n = start.chars.0;
-    let walked = parser::choose_by(
+    let chosen = parser::choose_by(
         plain,
         table,
         rules.size,
@@ -191,8 +200,8 @@ fn read_record(
         main,
         parse,
     );
-    let Walked::Reading(count, ambiguous) = walked else {
-        return Read::Refused(why_walked(walked));
+    let Chosen::Reading(count, ambiguous) = chosen else {
+        return Read::Refused(why_not(chosen));
     };
     Read::Reading(Found { count, ambiguous })
 }
@@ -206,12 +215,12 @@ pub fn why_begun(begun: Begun) -> Diagnostic
     }
 }
 
-fn why_read(read: Read) -> u32
-    ensures { λ r. ⌜ r ≡ numberOf (foundOf read) ⌝ }
+fn why_read(read: Read) -> Diagnostic
+    ensures { λ r. ⌜ r ≡ diagnosticOf (foundOf read) ⌝ }
 {
     match read {
-        Read::Reading(_) => refusals::ANSWERED,
-        Read::Refused(number) => number,
+        Read::Reading(_) => text::plain(refusals::ANSWERED),
+        Read::Refused(diagnostic) => diagnostic,
     }
 }
 
@@ -281,7 +290,7 @@ pub fn parse_record(
     let read = read_record(lending.plain, table, start, text, main, parse);
     let Read::Reading(found) = read else {
         return Parse::Refused(Refusal {
-            why: text::plain(why_read(read)),
+            why: why_read(read),
             mismatch,
         });
     };

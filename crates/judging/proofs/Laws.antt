@@ -24,7 +24,8 @@ use Rattle.answer.specs.Answer.{Line, line, Topmost, Job, GrammarTree, ofJob, o
 use Rattle.answer.specs.Answer.{grammarLines, inputLines, needLines, readingLines, recordLines, listLines, documentLines, documentLinesOf, tooLong, tooLongBy, scratchNeed, ResultBy}
 use Rattle.answer.specs.Demands.{None}
 use Rattle.answer.proofs.Lines.{numbers, listed, other, head-given, none-given, passed, begun, given as given-only}
-use Rattle.answer.proofs.Demands.{one-grammar, demands-hold}
+use Rattle.answer.proofs.Agree.{one-grammar}
+use Rattle.answer.proofs.Demands.{demands-hold}
 use Rattle.judging.specs.Laws.{Admits, SameTexts, OwnReading, Laws}
 use Rattle.judging.proofs.Alike.{Alike, top-alike, none-alike, first-or, shorter}
 

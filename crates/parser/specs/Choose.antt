@@ -17,3 +17,12 @@ pub record Choosable (T : List ℕ) (size root : ℕ) (r : Text) (main parse : �
   pub short : length r ≤ recordChars
   pub room : size * stretches (length r) ≤ main
   pub numbers : readingNumbers ≤ parse
+
+-- what the search for the fault is given
+pub record Locatable (T : List ℕ) (size root : ℕ) (r : Text) (main : ℕ) : Type 0 where
+  pub grammar : Grammar
+  pub ready : Ready T grammar size root
+  pub long : length T ≡ grammarTable
+  pub small : size ≤ mostSize
+  pub short : length r ≤ recordChars
+  pub room : size * stretches (length r) ≤ main

@@ -22,7 +22,8 @@ fn convert(grammar: &[u8], input: &[u8], out: &mut [u8; WRITTEN_BYTES]) -> usize
     let grammar_table = [0u32; limits::GRAMMAR_TABLE];
     let mut xml = [0u8; limits::PROGRAM_BYTES];
     let a = ixml_convert(grammar, input, &mut main_table, &grammar_table, &mut xml);
-    cli::show(a.number, a.length, a.version, &xml, out)
+    let fault = a.places.fault;
+    cli::show(a.number, a.length, a.version, fault, &xml, out)
 }
 
 // What is written for two files, by what is seen of them: whether each can be read, and its first

@@ -11,7 +11,7 @@ use borrow.Author.Tests.{eqb-true}
 use Rattle.text.specs.Limits.{grammarBytes, mostSize}
 use Rattle.text.specs.Lists.{Text, pick, any, all, inside, span}
 use Rattle.text.specs.Utf8.{Scalar, utf8s, All, none, more, Utf8, unmarked, alphabet, known}
-use Rattle.text.specs.Decode.{breakOf}
+use Rattle.text.specs.Decode.{breakOf, decode}
 use Rattle.text.specs.Faults.{every, afterMark}
 use Rattle.text.proofs.Decode.{utf8-unique}
 use Rattle.text.proofs.Tests.{and-left, and-right, or-case}
@@ -22,7 +22,8 @@ use Rattle.plain.specs.Static.{undefined, duplicate, beyond, banned, backwards,
 use Rattle.plain.specs.Plain.{size}
 use Rattle.derive.specs.Productive.{Unproductive}
 use Rattle.answer.specs.Answer.{GrammarText, GrammarTree, ofText, ofTree, grammarLines, Job, job, asNumbers, asXml}
-use Rattle.answer.specs.Compute.{Test, firstOf, treeOf, grammarTests, recordTests, documentTests, longTest, Values, Value, value, grammarValues, placeValues, placesAt, inputValues}
+use Rattle.viable.specs.Compute.{faultOf}
+use Rattle.answer.specs.Compute.{Test, firstOf, treeOf, grammarTests, recordTests, documentTests, longTest, Values, Value, value, valueAt, grammarValues, placeValues, placesAt, inputValues, readingValues, placeTree, placeText}
 use Rattle.answer.specs.Compute.{Result, result, resultTree, resultOf, resultBy, Outcome, outcome, mismatch, checkOf, readOf, convertOf}
 use Rattle.answer.specs.Demands.{None}
 use Rattle.answer.proofs.Agree.{grammar-agrees, tree-complete}
@@ -99,26 +100,26 @@ none-first (s ∷ ss) ts h z = go (s .passes tt) z (none-first ss ts (and-right 
     go true e f = absurd (subst (λ (m : ℕ). T (other 0 m)) e (and-left (other 0 (s .number)) (all (λ t. other 0 (t .number)) ss) h))
     go false e f = f e
 
--- values of bytes alone
-abbrev byBytes : List Value → Values
-byBytes vs = record { bytes = vs; faults = []; grammars = [] }
+-- values of bytes, and of the record's characters
+abbrev byBytes : List Value → List Value → Values
+byBytes vs fs = record { bytes = vs; faults = fs; grammars = [] }
 
 -- with those of a grammar
-abbrev with : List ℕ → List Value → Values
-with bs vs = record { bytes = grammarValues bs vs; faults = []; grammars = placeValues bs }
+abbrev with : List ℕ → List Value → List Value → Values
+with bs vs fs = record { bytes = grammarValues bs vs; faults = fs; grammars = placeValues bs }
 
 -- the places of a grammar that is not refused
-module _ (bs : List ℕ) (vs : List Value) (n : ℕ) (h : T (late n)) where
+module _ (bs : List ℕ) (vs fs : List Value) (n : ℕ) (h : T (late n)) where
   far : (n < 5) ⊎ (10 < n)
   far = ⊎-elim (λ l. let k = ltb→lt n 1 l in inl (omega arith)) (λ l. inr (ltb→lt 10 n l)) (or-case (ltb n 1) (ltb 10 n) h)
 
-  no-place : placesAt (with bs vs) n ≡ placesAt (byBytes vs) n
+  no-place : placesAt (with bs vs fs) n ≡ placesAt (byBytes vs fs) n
   no-place =
       let at-3 = value 3 (λ _. breakOf known bs (afterMark bs)) in
       let at-2 = value 2 (λ _. breakOf every bs (afterMark bs)) in
       let e = value-skip at-2 (at-3 ∷ vs) n (λ e. subst (λ (m : ℕ). T (late m)) e h) ∙ value-skip at-3 vs n (λ e. subst (λ (m : ℕ). T (late m)) e h) in
       let g = placeless bs n far in
-      λ ι. record { byte = e ι; fault = 0; grammar = g ι }
+      λ ι. record { byte = e ι; fault = valueAt fs n; grammar = g ι }
 
 -- bytes of the tree g that no line refuses
 module _ (bs : List ℕ) (g : Grammar) (tree : GrammarTree bs g) (accepted : None (grammarLines bs [])) where
@@ -135,12 +136,12 @@ module _ (bs : List ℕ) (g : Grammar) (tree : GrammarTree bs g) (accepted : Non
       none-first (grammarTests bs []) ts tt (none-given (grammarLines bs []) (firstOf (grammarTests bs [])) tt first .1 accepted)
 
   -- what a call answers, by the tree, the tests after the grammar's and the places that are not the grammar's
-  pub outcome-is : (old : List ℕ) (ts : List Test) (vs : List Value) (x : Result) → T (all (λ t. late (t .number)) ts)
-      → outcome old (mismatch bs) (with bs vs) (firstOf (grammarTests bs ts)) x ≡ outcome old (mismatched g) (byBytes vs) (firstOf ts) x
-  outcome-is old ts vs x h =
+  pub outcome-is : (old : List ℕ) (ts : List Test) (vs fs : List Value) (x : Result) → T (all (λ t. late (t .number)) ts)
+      → outcome old (mismatch bs) (with bs vs fs) (firstOf (grammarTests bs ts)) x ≡ outcome old (mismatched g) (byBytes vs fs) (firstOf ts) x
+  outcome-is old ts vs fs x h =
       rw (none-passes ts, tree-complete bs g tree)
-      (same-outcome old (mismatched g) (with bs vs) (byBytes vs) (firstOf ts) x
-      (no-place bs vs (firstOf ts) (first-passes late ts tt h)))
+      (same-outcome old (mismatched g) (with bs vs fs) (byBytes vs fs) (firstOf ts) x
+      (no-place bs vs fs (firstOf ts) (first-passes late ts tt h)))
 
 module _ (bs : List ℕ) (g : Grammar) (h : Tidiable bs g) where
   tidied-known : T (all known (tidyText g))
@@ -213,26 +214,26 @@ module _ (bs : List ℕ) (g : Grammar) (h : Tidiable bs g) where
   still-tidiable = record { tree = tidied-tree; accepted = tidied-accepted; short = h .short }
 
   -- the two calls' outcomes, both brought to the tree
-  both : (old : List ℕ) (ts us : List Test) (vs : List Value) (x y : Result) → T (all (λ t. late (t .number)) ts) → T (all (λ t. late (t .number)) us) → firstOf ts ≡ firstOf us → x ≡ y
-      → outcome old (mismatch (tidyBytes g)) (with (tidyBytes g) vs) (firstOf (grammarTests (tidyBytes g) ts)) x
-      ≡ outcome old (mismatch bs) (with bs vs) (firstOf (grammarTests bs us)) y
-  both old ts us vs x y a b e f =
-      outcome-is (tidyBytes g) g tidied-tree tidied-accepted old ts vs x a
-      ∙ (λ ι. outcome old (mismatched g) (byBytes vs) (e ι) (f ι))
-      ∙ sym (outcome-is bs g (h .tree) (h .accepted) old us vs y b)
+  both : (old : List ℕ) (ts us : List Test) (vs fs gs : List Value) (x y : Result) → T (all (λ t. late (t .number)) ts) → T (all (λ t. late (t .number)) us) → firstOf ts ≡ firstOf us → x ≡ y → fs ≡ gs
+      → outcome old (mismatch (tidyBytes g)) (with (tidyBytes g) vs fs) (firstOf (grammarTests (tidyBytes g) ts)) x
+      ≡ outcome old (mismatch bs) (with bs vs gs) (firstOf (grammarTests bs us)) y
+  both old ts us vs fs gs x y a b e f q =
+      outcome-is (tidyBytes g) g tidied-tree tidied-accepted old ts vs fs x a
+      ∙ (λ ι. outcome old (mismatched g) (byBytes vs (q ι)) (e ι) (f ι))
+      ∙ sym (outcome-is bs g (h .tree) (h .accepted) old us vs gs y b)
 
   trees : treeOf (tidyBytes g) ≡ treeOf bs
   trees = tree-complete (tidyBytes g) g tidied-tree ∙ sym (tree-complete bs g (h .tree))
 
   pub same-check : checkOf (tidyBytes g) ≡ checkOf bs
   unfolding checkOf
-  same-check = ap (λ (o : Outcome). o .answer) (both [] [] [] [] (result [] false) (result [] false) tt tt refl refl)
+  same-check = ap (λ (o : Outcome). o .answer) (both [] [] [] [] [] [] (result [] false) (result [] false) tt tt refl refl refl)
 
   pub same-tidy : (old : List ℕ) → tidyOf (tidyBytes g) old ≡ tidyOf bs old
   unfolding tidyOf
   same-tidy old =
       let made : Parsed → Result = λ p. resultTree p (λ k. result (tidyBytes k) false) in
-      both old (tidyTests (tidyBytes g) old) (tidyTests bs old) [] (made (treeOf (tidyBytes g))) (made (treeOf bs)) tt tt (rw trees) (ap made trees)
+      both old (tidyTests (tidyBytes g) old) (tidyTests bs old) [] [] [] (made (treeOf (tidyBytes g))) (made (treeOf bs)) tt tt (rw trees) (ap made trees) refl
 
   module _ (rs : List ℕ) (m s : ℕ) (old : List ℕ) where
     new : Job
@@ -241,14 +242,19 @@ module _ (bs : List ℕ) (g : Grammar) (h : Tidiable bs g) where
     was : Job
     was = job bs rs m s
 
+    -- the place of the fault is that of the tree and the record
+    same-fault : readingValues new [] ≡ readingValues was []
+    unfolding new was
+    same-fault = ap (λ (k : ℕ). value 16 (λ _. k) ∷ []) (ap (λ (p : Parsed). placeTree p (λ k. placeText (decode rs) (faultOf k))) trees)
+
     pub same-read : readOf (job (tidyBytes g) rs m s) old ≡ readOf (job bs rs m s) old
     unfolding readOf new was
     same-read =
         both old (recordTests new (longTest asNumbers new old ∷ [])) (recordTests was (longTest asNumbers was old ∷ [])) (inputValues rs [])
-        (resultOf new (resultBy asNumbers)) (resultOf was (resultBy asNumbers)) tt tt (rw trees) (rw trees)
+        (readingValues new []) (readingValues was []) (resultOf new (resultBy asNumbers)) (resultOf was (resultBy asNumbers)) tt tt (rw trees) (rw trees) same-fault
 
     pub same-convert : convertOf (job (tidyBytes g) rs m s) old ≡ convertOf (job bs rs m s) old
     unfolding convertOf new was
     same-convert =
         both old (recordTests new (documentTests new (longTest asXml new old ∷ []))) (recordTests was (documentTests was (longTest asXml was old ∷ []))) (inputValues rs [])
-        (resultOf new (resultBy asXml)) (resultOf was (resultBy asXml)) tt tt (rw trees) (rw trees)
+        (readingValues new []) (readingValues was []) (resultOf new (resultBy asXml)) (resultOf was (resultBy asXml)) tt tt (rw trees) (rw trees) same-fault

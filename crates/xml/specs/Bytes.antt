@@ -54,8 +54,3 @@ bytes ambiguous mismatch none = []
 bytes ambiguous mismatch (char c x) = []
 bytes ambiguous mismatch (attr n v x) = []
 bytes ambiguous mismatch (elem n i x) = utf8s (chars "<" ++ n ++ state ambiguous mismatch ++ attributes i ++ closed n (content i))
-
--- "For 16 it writes `<fail …/>`, with `failed version-mismatch` if due."
-unfoldable pub failDocument : Bool → Text
-failDocument false = chars "<fail" ++ stateWith (chars "failed") ++ chars "/>"
-failDocument true = chars "<fail" ++ stateWith (chars "failed version-mismatch") ++ chars "/>"

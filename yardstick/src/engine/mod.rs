@@ -7,6 +7,7 @@
 
 pub mod chart;
 pub mod dots;
+pub mod fault;
 pub mod heights;
 pub mod places;
 
@@ -23,16 +24,17 @@ pub struct Forest {
     pub length: usize,
 }
 
-/// The derivations of the record from the root, or `None` if there are none.
-pub fn parse(plain: &Plain, record: &[char]) -> Option<Forest> {
+/// The derivations of the record from the root; if there are none, the place
+/// of the fault.
+pub fn parse(plain: &Plain, record: &[char]) -> Result<Forest, usize> {
     let length = record.len();
     let dots = Dots::new(plain, record);
     let chart = chart::recognise(&dots, length + 1);
     if !chart.derived[(0, 0)].contains(length) {
-        return None;
+        return Err(fault::place(plain, record, &dots, &chart));
     }
     let useful = chart::prune(&dots, &chart, length + 1);
-    Some(Forest {
+    Ok(Forest {
         dots,
         useful,
         length,

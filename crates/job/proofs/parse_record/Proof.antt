@@ -56,17 +56,14 @@ same-length-5 c = search needs
 same-length-6 : tie.Need-same-length-6
 same-length-6 c = search needs
 
-plain-requires : tie.Need-plain-requires
-plain-requires c κs = search needs
-
 returns-2 : tie.Need-returns-2
 returns-2 c =
-    let d = c .before in
+    let d = c in
     let read-record = d .before .before .before .before .before .before .before .read-record in
     let begun = d .before .before .before .before .before .before .before .before .before .before .before .before .before .before .begun in
     let begin = d .before .before .before .before .before .before .before .before .before .before .before .before .before .before .before .before .before .before .before .before .begin in
     let w = begun-at _ _ _ _ _ (begun .given .1) (begin .ensures) in
-    not-chosen _ _ _ _ w _ _ _ _ _ (d .before .enum-told2 .given .1) (d .why-read .ensures) (c .plain .ensures) (read-record .ensures _ w)
+    not-chosen _ _ _ _ w _ _ _ _ (d .before .enum-told2 .given .1) (d .why-read .ensures) (read-record .ensures _ w)
 
 same-length-7 : tie.Need-same-length-7
 same-length-7 c = search needs
@@ -103,7 +100,6 @@ parse-record-spec =
     enum-known-read
     enum-told-2
     why-read-requires
-    plain-requires
     same-length-3
     same-length-4
     same-length-5

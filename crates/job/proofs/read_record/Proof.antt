@@ -12,11 +12,11 @@ choose-by-requires c κs =
     let pre = c .before .before .before .before .before .before .before .before .pre in
     choosable _ _ _ _ (pre .started) _ _ (pre .lent) (search needs) (pre .room)
 
-enum-known-walked : tie.Need-enum-known-walked
-enum-known-walked c = search needs
+enum-known-chosen : tie.Need-enum-known-chosen
+enum-known-chosen c = search needs
 
-why-walked-requires : tie.Need-why-walked-requires
-why-walked-requires c κs = search needs
+why-not-requires : tie.Need-why-not-requires
+why-not-requires c κs = search needs
 
 same-length : tie.Need-same-length
 same-length c = search needs
@@ -27,7 +27,7 @@ same-length-2 c = search needs
 returns : tie.Need-returns
 returns c =
     let choose = c .before .before .before .before .before .before .choose-by in
-    λ j w. not-read j _ _ _ w _ (choose .result) (choose .ensures (w .grammar .tree) (w .grammar .ready)) (c .before .match .keys2) _ (c .why-walked .ensures)
+    λ j w. not-read j _ _ _ w _ (choose .result) (choose .ensures (w .grammar .tree) (w .grammar .ready)) (c .before .match .keys2) _ (c .why-not .ensures)
 
 same-length-3 : tie.Need-same-length-3
 same-length-3 c = search needs
@@ -38,7 +38,7 @@ same-length-4 c = search needs
 returns-2 : tie.Need-returns-2
 returns-2 c =
     let choose = c .before .before .before .before .before .before .before .choose-by in
-    λ j w. is-read j _ _ _ w _ _ (choose .ensures (w .grammar .tree) (w .grammar .ready)) _ _ (c .before .walked .given .1)
+    λ j w. is-read j _ _ _ w _ _ (choose .ensures (w .grammar .tree) (w .grammar .ready)) _ _ (c .before .chosen .given .1)
 
 pub read-record-spec : {M : Type 1} → statement M
 read-record-spec =
@@ -46,8 +46,8 @@ read-record-spec =
     (tie.spec
     slice-aggregate-choose-by
     choose-by-requires
-    enum-known-walked
-    why-walked-requires
+    enum-known-chosen
+    why-not-requires
     same-length
     same-length-2
     returns

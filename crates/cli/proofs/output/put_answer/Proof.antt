@@ -41,9 +41,15 @@ returns c =
         min-le-right (start .args .size) (length (start .args .xml .now)),
         start .pre,
       ),
-      λ h. body-0 (start .args .number) (start .args .size) (start .args .version) (start .args .xml .now)
+      λ h _. body-0 (start .args .number) (start .args .size) (start .args .version) (start .args .place) (start .args .xml .now)
           (at-if1 .if1 .taken) (at-least .least .ensures) (at-put .put .ensures),
     )
+
+least-requires-2 : tie.Need-least-requires-2
+least-requires-2 c κs = search needs
+
+cast-shown : tie.Need-cast-shown
+cast-shown c = omega (arith, c .least2 .ensures, min-le-right (c .before .before .before .before .before .args .place) 999)
 
 put-fail-requires : tie.Need-put-fail-requires
 put-fail-requires c κs = search needs
@@ -54,11 +60,12 @@ same-length-2 c = search needs
 returns-2 : tie.Need-returns-2
 returns-2 c =
     let at-put-fail = c .before .before in
-    let at-if2 = at-put-fail .before .before in
+    let at-least2 = at-put-fail .before .before in
+    let at-if2 = at-least2 .before in
     let start = at-if2 .before .before .before .before in (
       omega (arith, at-put-fail .put-fail .ensures .0),
-      λ h. body-16 (start .args .number) (start .args .size) (start .args .version)
-          (start .args .xml .now) (at-if2 .if2 .taken) (at-put-fail .put-fail .ensures .1),
+      λ h l. body-16 (start .args .number) (start .args .size) (start .args .version) (start .args .place)
+          (start .args .xml .now) (at-if2 .if2 .taken) (at-least2 .least2 .ensures) l (at-put-fail .put-fail .ensures .1),
     )
 
 put-refused-requires : tie.Need-put-refused-requires
@@ -74,8 +81,8 @@ returns-3 c =
     let at-if1 = at-if2 .before in
     let start = at-if1 .before .before .before in (
       omega (arith, at-put-refused .put-refused .ensures .0),
-      λ h. body-other (start .args .number) (start .args .size)
-          (start .args .version) (start .args .xml .now) (at-if1 .if1 .left) (at-if2 .if2 .left) (at-put-refused .put-refused .ensures .1 h),
+      λ h _. body-other (start .args .number) (start .args .size)
+          (start .args .version) (start .args .place) (start .args .xml .now) (at-if1 .if1 .left) (at-if2 .if2 .left) (at-put-refused .put-refused .ensures .1 h),
     )
 
 pub put-answer-spec : {M : Type 1} → statement M
@@ -87,6 +94,8 @@ put-answer-spec =
     put-requires
     same-length
     returns
+    least-requires-2
+    cast-shown
     put-fail-requires
     same-length-2
     returns-2

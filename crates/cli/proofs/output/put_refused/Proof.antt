@@ -25,7 +25,7 @@ returns c =
     let at-put = at-put-decimal .before .before .before .before in
     let start = at-put .before .before .before .before in (
       omega (arith, at-put .put .ensures .ends, at-put-decimal .put-decimal .ensures .0),
-      λ h. at-put-decimal .put-decimal .ensures .1 h
+      λ h. at-put-decimal .put-decimal .ensures .1 (omega arith)
           ∙ ap (λ (x : List ℕ). x ++ decimal (start .args .n)) (at-put .put .ensures .holds),
     )
 

@@ -20,7 +20,7 @@ returns c =
     let at-put-answer = c .before .before .before in
     record {
       fits = omega (arith, c .put .ensures .ends, at-put-answer .put-answer .ensures .0);
-      holds = λ h. c .put .ensures .holds ∙ ap (λ (x : List ℕ). x ++ 10 ∷ []) (at-put-answer .put-answer .ensures .1 h);
+      holds = λ h k. c .put .ensures .holds ∙ ap (λ (x : List ℕ). x ++ 10 ∷ []) (at-put-answer .put-answer .ensures .1 h k);
     }
 
 pub show-spec : {M : Type 1} → statement M

@@ -1,0 +1,7 @@
+pub mod Keys
+pub mod Alike
+pub mod Ranges
+pub mod WantLaws
+pub mod Places
+pub mod Model
+pub mod Found

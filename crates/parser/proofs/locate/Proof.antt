@@ -1,0 +1,115 @@
+use borrow.Author.Needs.{needs}
+use native.Mathlib.Omega.{arith}
+use mathlib.Core.Path.{refl}
+use Prim.Native.Nat.{ℕ}
+use lib.ListN.{length-replicate}
+use Rattle.chart.proofs.Users.{all-zero}
+use Rattle.sparse.proofs.Coded.{shape-of}
+use Rattle.right_pass.proofs.Given.{given-of, lefting-of}
+use Rattle.parser.proofs.Located.{located, tables-for, placing, fault-there}
+use Rattle.parser.proofs.locate.Statement.{statement}
+use Rattle.parser.proofs.locate.Tie as tie
+
+slice-aggregate-code-rules : tie.Need-slice-aggregate-code-rules
+slice-aggregate-code-rules c = search needs
+
+code-rules-requires : tie.Need-code-rules-requires
+code-rules-requires c κs =
+    let pre = c .before .before .before .before .pre in
+    record { grammar = pre .grammar; ready = pre .ready; long = pre .long; small = pre .small; room = omega (arith, pre .small) }
+
+slice-aggregate-left : tie.Need-slice-aggregate-left
+slice-aggregate-left c = search needs
+
+slice-aggregate-left-2 : tie.Need-slice-aggregate-left-2
+slice-aggregate-left-2 c = search needs
+
+left-requires : tie.Need-left-requires
+left-requires c κs =
+    let pre = c .before .before .before .before .before .before .before .before .pre in
+    let code = c .before .before .before .code-rules .ensures (pre .grammar) (pre .ready) in
+    lefting-of code (given-of code (pre .long) (pre .small) (omega (arith, pre .small, c .before .before .before .code-rules .kept .1 .1 .1 .0)) (pre .short) (length-replicate {A = ℕ} 308736 0)) (all-zero 308736)
+
+slice-aggregate-want-all : tie.Need-slice-aggregate-want-all
+slice-aggregate-want-all c = search needs
+
+want-all-requires : tie.Need-want-all-requires
+want-all-requires c κs = (c .before .before .left .ensures .long, c .before .before .before .before .before .before .before .before .before .before .before .pre .small, c .before .before .before .before .before .before .before .before .before .before .before .pre .short)
+
+slice-aggregate-note-rules : tie.Need-slice-aggregate-note-rules
+slice-aggregate-note-rules c = search needs
+
+slice-aggregate-note-rules-2 : tie.Need-slice-aggregate-note-rules-2
+slice-aggregate-note-rules-2 c = search needs
+
+note-rules-requires : tie.Need-note-rules-requires
+note-rules-requires c κs =
+    let pre = c .before .before .before .before .before .before .before .before .before .before .before .before .before .before .before .pre in
+    let code = c .before .before .before .before .before .before .before .before .before .before .code-rules .ensures (pre .grammar) (pre .ready) in
+    (shape-of code (pre .small) (omega (arith, pre .small, c .before .before .before .before .before .before .before .before .before .before .code-rules .kept .1 .1 .1 .0)), length-replicate {A = ℕ} 2048 0, all-zero 2048)
+
+slice-aggregate-fill : tie.Need-slice-aggregate-fill
+slice-aggregate-fill c = search needs
+
+slice-aggregate-fill-2 : tie.Need-slice-aggregate-fill-2
+slice-aggregate-fill-2 c = search needs
+
+slice-aggregate-fill-3 : tie.Need-slice-aggregate-fill-3
+slice-aggregate-fill-3 c = search needs
+
+fill-requires : tie.Need-fill-requires
+fill-requires c κs =
+    let pre = c .before .before .before .before .before .before .before .before .before .before .before .before .before .before .before .before .before .before .before .before .before .pre in
+    let code = c .before .before .before .before .before .before .before .before .before .before .before .before .before .before .before .before .code-rules .ensures (pre .grammar) (pre .ready) in
+    let at = located pre (omega (arith, c .before .before .before .before .before .before .before .before .before .before .before .before .before .before .before .before .code-rules .kept .1 .1 .1 .0)) refl (c .before .before .before .before .before .before .before .before .before .before .before .before .left .ensures) (c .before .before .before .before .before .before .before .before .before .want-all .ensures) (c .before .before .before .before .before .note-rules .ensures) in
+    (tables-for code at, at .empties)
+
+slice-aggregate-place : tie.Need-slice-aggregate-place
+slice-aggregate-place c = search needs
+
+slice-aggregate-place-2 : tie.Need-slice-aggregate-place-2
+slice-aggregate-place-2 c = search needs
+
+slice-aggregate-place-3 : tie.Need-slice-aggregate-place-3
+slice-aggregate-place-3 c = search needs
+
+place-requires : tie.Need-place-requires
+place-requires c κs =
+    let pre = c .before .before .before .before .before .before .before .before .before .before .before .before .before .before .before .before .before .before .before .before .before .before .before .before .before .before .before .before .pre in
+    let code = c .before .before .before .before .before .before .before .before .before .before .before .before .before .before .before .before .before .before .before .before .before .before .before .code-rules .ensures (pre .grammar) (pre .ready) in
+    let at = located pre (omega (arith, c .before .before .before .before .before .before .before .before .before .before .before .before .before .before .before .before .before .before .before .before .before .before .before .code-rules .kept .1 .1 .1 .0)) (c .before .before .before .before .before .before .fill .kept .1 .1 .1 .1 .1 .0) (c .before .before .before .before .before .before .before .before .before .before .before .before .before .before .before .before .before .before .before .left .ensures) (c .before .before .before .before .before .before .before .before .before .before .before .before .before .before .before .before .want-all .ensures) (c .before .before .before .before .before .before .before .before .before .before .before .before .note-rules .ensures) in
+    placing code at
+
+same-length : tie.Need-same-length
+same-length c = c .before .before .before .before .before .before .before .fill .kept .1 .1 .1 .1 .1 .0
+
+returns : tie.Need-returns
+returns c =
+    let pre = c .before .before .before .before .before .before .before .before .before .before .before .before .before .before .before .before .before .before .before .before .before .before .before .before .before .before .before .before .before .pre in
+    let at = located pre (omega (arith, c .before .before .before .before .before .before .before .before .before .before .before .before .before .before .before .before .before .before .before .before .before .before .before .before .code-rules .kept .1 .1 .1 .0)) (c .before .before .before .before .before .before .before .fill .kept .1 .1 .1 .1 .1 .0) (c .before .before .before .before .before .before .before .before .before .before .before .before .before .before .before .before .before .before .before .before .left .ensures) (c .before .before .before .before .before .before .before .before .before .before .before .before .before .before .before .before .before .want-all .ensures) (c .before .before .before .before .before .before .before .before .before .before .before .before .before .note-rules .ensures) in
+    λ g ready. fault-there (c .before .before .before .before .before .before .before .before .before .before .before .before .before .before .before .before .before .before .before .before .before .before .before .before .code-rules .ensures g ready) at refl (c .before .before .before .before .before .before .before .fill .ensures) (c .place .ensures)
+
+pub locate-spec : {M : Type 1} → statement M
+locate-spec =
+    tie.close
+    (tie.spec
+    slice-aggregate-code-rules
+    code-rules-requires
+    slice-aggregate-left
+    slice-aggregate-left-2
+    left-requires
+    slice-aggregate-want-all
+    want-all-requires
+    slice-aggregate-note-rules
+    slice-aggregate-note-rules-2
+    note-rules-requires
+    slice-aggregate-fill
+    slice-aggregate-fill-2
+    slice-aggregate-fill-3
+    fill-requires
+    slice-aggregate-place
+    slice-aggregate-place-2
+    slice-aggregate-place-3
+    place-requires
+    same-length
+    returns)
