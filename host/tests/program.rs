@@ -143,7 +143,7 @@ fn demos() {
         assert!(readme.contains(expected), "the README shows {title}");
         count += 1;
     }
-    assert_eq!(count, 5);
+    assert_eq!(count, 6);
 }
 
 /// Every pair of some files, of which some cannot be read.
