@@ -46,7 +46,7 @@ impl Answer {
     pub fn ok(self) -> Result<Answer, Error> {
         match self.number {
             0 => Ok(self),
-            _ => Err(Error::from(self)),
+            _ => Err(Error::try_from(self).expect("the library gives no other number")),
         }
     }
 }

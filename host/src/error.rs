@@ -2,6 +2,21 @@ use std::fmt;
 
 use crate::{Answer, Spot};
 
+/// An answer's number that is that of no refusal.
+#[derive(Clone, Copy, Debug, PartialEq, Eq, Hash)]
+pub struct NotRefused {
+    /// The number: 0 if the job was done.
+    pub number: u32,
+}
+
+impl fmt::Display for NotRefused {
+    fn fmt(&self, formatter: &mut fmt::Formatter<'_>) -> fmt::Result {
+        write!(formatter, "{} is the number of no refusal", self.number)
+    }
+}
+
+impl std::error::Error for NotRefused {}
+
 /// Declares the refusals, each with its number and its sentence.
 macro_rules! errors {
     ($($(#[$attribute:meta])* $name:ident $({ $($field:ident: $type:ty = $from:expr),+ })? = $number:literal, $sentence:literal;)*) => {
@@ -48,17 +63,22 @@ macro_rules! errors {
             }
         }
 
-        impl From<Answer> for Error {
-            /// The refusal of an answer whose number is not 0.
+        impl TryFrom<Answer> for Error {
+            type Error = NotRefused;
+
+            /// The refusal of an answer. The calls give no number but 0 and
+            /// those of the refusals.
             ///
-            /// # Panics
+            /// ```
+            /// use ixml::{Error, NotRefused};
             ///
-            /// If the number is that of no refusal. The calls give no such
-            /// answer, 0 apart.
-            fn from(answer: Answer) -> Error {
+            /// let accepted = ixml::check(b"a: 'x'.");
+            /// assert_eq!(Error::try_from(accepted), Err(NotRefused { number: 0 }));
+            /// ```
+            fn try_from(answer: Answer) -> Result<Error, NotRefused> {
                 match answer.number {
-                    $($number => Error::$name $({ $($field: $from(answer)),+ })?,)*
-                    number => panic!("{number} is the number of no refusal"),
+                    $($number => Ok(Error::$name $({ $($field: $from(answer)),+ })?),)*
+                    number => Err(NotRefused { number }),
                 }
             }
         }

@@ -37,7 +37,7 @@ mod spot;
 pub use answer::{Answer, Places};
 pub use calls::{check, convert, judge, read, read_plain, tidy, tidy_text};
 pub use category::{category, Category};
-pub use error::{Error, Quote};
+pub use error::{Error, NotRefused, Quote};
 pub use fault::Fault;
 pub use gate::{number, Gate, GateError, Latitude, Longitude, Verdict};
 pub use reader::{Converted, Engine, Reader, Reading};

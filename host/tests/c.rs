@@ -38,7 +38,7 @@ fn name(number: u32) -> String {
         number,
         ..Answer::default()
     };
-    let debug = format!("{:?}", Error::from(answer));
+    let debug = format!("{:?}", Error::try_from(answer).expect("a refusal"));
     let words = debug.split(' ').next().expect("a word");
     let mut name = String::new();
     for character in words.chars() {

@@ -31,7 +31,7 @@ fn program() -> &'static Path {
         let output = Command::new(&program).args(files).output();
         let output = output.expect("the program runs");
         let complaints = String::from_utf8_lossy(&output.stderr);
-        assert!(output.status.success(), "{complaints}");
+        assert_eq!(output.stdout, b"refused 4\n", "{complaints}");
         program
     })
 }
@@ -50,32 +50,71 @@ fn run(directory: &Path, arguments: &[&str]) -> Output {
     command.output().expect("the program runs")
 }
 
-/// Runs the program on two files; it may write nothing else.
+/// Runs the program on two files. Its status follows from what it writes, and so
+/// does whether it says more on standard error.
 fn writes(directory: &Path, grammar: &str, record: &str) -> Vec<u8> {
     let output = run(directory, &[grammar, record]);
-    let complaints = String::from_utf8_lossy(&output.stderr);
-    assert_eq!(complaints, "", "{grammar:?} {record:?}");
-    assert_eq!(output.status.code(), Some(0), "{grammar:?} {record:?}");
+    let said = String::from_utf8_lossy(&output.stderr);
+    let written = String::from_utf8_lossy(&output.stdout);
+    let tag = written.split('>').next().unwrap_or_default();
+    let (status, begins) = if written == "unreadable\n" {
+        (2, "ixml: ".to_string())
+    } else if let Some(number) = written.strip_prefix("refused ") {
+        (1, format!("ixml: refused {}: ", number.trim_end()))
+    } else if written.starts_with("<fail ") {
+        (1, "ixml: refused 16: ".to_string())
+    } else if tag.contains(" ixml:state='ambiguous") {
+        (0, "ixml: ambiguous: ".to_string())
+    } else {
+        assert_eq!(said, "", "{grammar:?} {record:?}");
+        (0, String::new())
+    };
+    assert!(said.starts_with(&begins), "{grammar:?} {record:?} {said}");
+    assert_eq!(output.status.code(), Some(status), "{grammar:?} {record:?}");
     output.stdout
 }
 
+/// What the proved program writes, without the script around it. Elsewhere than on
+/// the processor that it is for, and where another program is tested, the script's.
+fn bare(directory: &Path, grammar: &str, record: &str) -> Vec<u8> {
+    let proved = program().with_file_name("target/bin/program");
+    if !cfg!(target_arch = "x86_64") || !proved.exists() {
+        return writes(directory, grammar, record);
+    }
+    let mut command = Command::new(proved);
+    let output = command
+        .args([grammar, record])
+        .current_dir(directory)
+        .output();
+    let output = output.expect("the program runs");
+    assert_eq!(output.status.code(), Some(0), "{grammar:?} {record:?}");
+    assert_eq!(output.stderr, b"", "{grammar:?} {record:?}");
+    output.stdout
+}
+
+/// All through the proved program, some through the script as well.
 #[test]
 fn all_vectors() {
     let runs = vectors::runs();
     assert!(runs.len() > 2000);
-    let next = AtomicUsize::new(0);
+    let (next, taken) = (AtomicUsize::new(0), AtomicUsize::new(0));
     let work = |worker: usize| {
         let directory = directory(&format!("vectors-{worker}"));
         while let Some(run) = runs.get(next.fetch_add(1, Ordering::Relaxed)) {
             fs::write(directory.join("grammar"), &run.job.grammar).expect("written");
             fs::write(directory.join("record"), &run.job.record).expect("written");
-            let output = writes(&directory, "grammar", "record");
-            assert_eq!(
-                output.escape_ascii().to_string(),
-                run.output.escape_ascii().to_string(),
-                "{:?}",
-                run.job
-            );
+            let mut outputs = vec![bare(&directory, "grammar", "record")];
+            if taken.fetch_add(1, Ordering::Relaxed) % 20 == 0 {
+                outputs.push(writes(&directory, "grammar", "record"));
+            }
+            for output in outputs {
+                assert_eq!(
+                    output.escape_ascii().to_string(),
+                    run.output.escape_ascii().to_string(),
+                    "{:?}",
+                    run.job
+                );
+            }
         }
     };
     let workers = thread::available_parallelism().map_or(1, usize::from);
@@ -107,7 +146,7 @@ fn demos() {
         assert!(readme.contains(expected), "the README shows {title}");
         count += 1;
     }
-    assert_eq!(count, 5);
+    assert_eq!(count, 6);
 }
 
 /// Every pair of some files, of which some cannot be read.
@@ -182,7 +221,11 @@ fn by_a_link_and_with_odd_names() {
     fs::write(directory.join("-g *"), "a: \"x\".").expect("written");
     fs::write(directory.join("r\n'$x"), "x").expect("written");
     symlink(program(), directory.join("link")).expect("a link");
-    let names = [OsString::from("-g *"), OsString::from("r\n'$x")];
+    let names = [
+        OsString::from("--"),
+        OsString::from("-g *"),
+        OsString::from("r\n'$x"),
+    ];
     let mut command = Command::new(directory.join("link"));
     let output = command.args(names).current_dir(&directory).output();
     assert_eq!(output.expect("the program runs").stdout, b"<a>x</a>\n");
@@ -216,4 +259,115 @@ fn a_small_stack_is_enough() {
         .expect("a shell");
     assert_eq!(output.status.code(), Some(0));
     assert_eq!(output.stdout, format!("<a>{record}</a>\n").as_bytes());
+}
+
+/// What a number means is said once, in include/refusals.tsv.
+#[test]
+fn sentences() {
+    let table = Path::new(env!("CARGO_MANIFEST_DIR")).join("../include/refusals.tsv");
+    let table = fs::read_to_string(table).expect("the sentences");
+    let mut numbers = Vec::new();
+    for line in table.lines() {
+        let (number, sentence) = line.split_once('\t').expect("two columns");
+        let number: u32 = number.parse().expect("a number");
+        numbers.push(number);
+        let own = match number {
+            30..=32 => continue,
+            _ => ixml::Error::try_from(ixml::Answer {
+                number,
+                ..ixml::Answer::default()
+            }),
+        };
+        let own = own.expect("a refusal");
+        assert_eq!(own.sentence(), sentence);
+    }
+    numbers.sort_unstable();
+    numbers.dedup();
+    assert_eq!(numbers.len(), table.lines().count());
+    for number in (1..=25).chain(28..=32) {
+        assert!(numbers.contains(&number), "{number}");
+    }
+}
+
+#[test]
+fn help_and_version() {
+    let directory = directory("help");
+    for (word, begins) in [
+        ("--help", "usage: ./ixml GRAMMAR RECORD\n"),
+        ("--version", "ixml "),
+    ] {
+        let output = run(&directory, &[word]);
+        assert_eq!(output.status.code(), Some(0), "{word}");
+        assert!(output.stdout.starts_with(begins.as_bytes()), "{word}");
+        assert_eq!(output.stderr, b"", "{word}");
+    }
+    let output = run(&directory, &["--helf", "x"]);
+    assert_eq!(output.status.code(), Some(2));
+    assert_eq!(output.stdout, b"");
+}
+
+#[test]
+fn output_that_cannot_be_written() {
+    let directory = directory("full");
+    fs::write(directory.join("grammar"), "a: \"x\".").expect("written");
+    fs::write(directory.join("record"), "x").expect("written");
+    let full = File::options()
+        .write(true)
+        .open("/dev/full")
+        .expect("a full disk");
+    let mut command = Command::new(program());
+    command
+        .args(["grammar", "record"])
+        .current_dir(&directory)
+        .stdout(full);
+    let output = command.output().expect("the program runs");
+    assert_eq!(output.status.code(), Some(1));
+    assert_eq!(output.stderr, b"ixml: the output could not be written\n");
+}
+
+#[test]
+fn from_standard_input() {
+    let directory = directory("input");
+    fs::write(directory.join("grammar"), "a: \"x\".").expect("written");
+    let pieces =
+        r#"printf x | "$0" grammar -; printf 'a: "y".' | "$0" - <(printf y); printf x | "$0" - -"#;
+    let mut command = Command::new("bash");
+    command
+        .args(["-c", pieces])
+        .arg(program())
+        .current_dir(&directory);
+    let output = command.output().expect("bash runs");
+    assert_eq!(output.stdout, b"<a>x</a>\n<a>y</a>\n");
+    assert_eq!(output.status.code(), Some(2));
+}
+
+/// A record file that ends in a line end, as editors write it.
+#[test]
+fn a_line_end_that_is_too_much() {
+    let directory = directory("line-end");
+    fs::write(directory.join("grammar"), "a: \"x\"+.").expect("written");
+    for (record, only_line_end) in [("xx\n", true), ("xx\r\n", true), ("xy\n", false)] {
+        fs::write(directory.join("record"), record).expect("written");
+        let output = run(&directory, &["grammar", "record"]);
+        let said = String::from_utf8_lossy(&output.stderr);
+        assert_eq!(said.contains("ends in a line end"), only_line_end, "{said}");
+    }
+    fs::write(directory.join("grammar"), "a: \"x\"+, -#d?, -#a?.").expect("written");
+    fs::write(directory.join("record"), "xx\r\n").expect("written");
+    assert_eq!(writes(&directory, "grammar", "record"), b"<a>xx</a>\n");
+}
+
+/// 15 tells what is needed.
+#[test]
+fn a_record_that_is_too_long_for_the_program() {
+    let directory = directory("room");
+    fs::write(directory.join("grammar"), "a: ~[]*.").expect("written");
+    fs::write(directory.join("record"), "x".repeat(73)).expect("written");
+    let output = run(&directory, &["grammar", "record"]);
+    assert_eq!(output.stdout, b"refused 15\n");
+    let said = String::from_utf8_lossy(&output.stderr);
+    assert!(
+        said.contains("73 characters") && said.contains("ixml-records"),
+        "{said}"
+    );
 }
