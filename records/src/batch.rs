@@ -56,6 +56,29 @@ pub fn read(file: &str) -> io::Result<Vec<u8>> {
     fs::read(file)
 }
 
+/// How many lines files have together, if all can be read twice.
+pub fn lines_of(files: &[String]) -> Option<usize> {
+    files.iter().map(|file| lines_in(file).ok()).sum()
+}
+
+fn lines_in(file: &str) -> io::Result<usize> {
+    if file == STANDARD_INPUT || !fs::metadata(file)?.is_file() {
+        return Err(io::ErrorKind::Unsupported.into());
+    }
+    let mut reader = BufReader::with_capacity(1 << 16, File::open(file)?);
+    let (mut ends, mut last) = (0, b'\n');
+    loop {
+        let part = reader.fill_buf()?;
+        let Some(&end) = part.last() else {
+            return Ok(ends + usize::from(last != b'\n'));
+        };
+        ends += part.iter().filter(|&&byte| byte == b'\n').count();
+        last = end;
+        let length = part.len();
+        reader.consume(length);
+    }
+}
+
 fn by_lines(file: String) -> Box<dyn Iterator<Item = Given> + Send> {
     let reader: Box<dyn BufRead + Send> = if file == STANDARD_INPUT {
         Box::new(BufReader::new(io::stdin()))
@@ -203,6 +226,26 @@ pub fn threads() -> usize {
 #[cfg(test)]
 mod tests {
     use super::*;
+
+    #[test]
+    fn lines_are_counted() {
+        let directory = std::env::temp_dir().join(format!("ixml-lines-{}", std::process::id()));
+        fs::create_dir_all(&directory).expect("a folder");
+        let file = |name: &str, text: &str| {
+            let path = directory.join(name);
+            fs::write(&path, text).expect("a file");
+            path.to_str().expect("a name").to_string()
+        };
+        let (ended, open) = (file("ended", "x\ny\n"), file("open", "x\n\ny"));
+        let empty = file("empty", "");
+        assert_eq!(lines_of(&[ended.clone(), open, empty]), Some(5));
+        assert_eq!(lines_of(&[ended, STANDARD_INPUT.into()]), None);
+        assert_eq!(
+            lines_of(&[directory.join("none").to_str().expect("a name").into()]),
+            None
+        );
+        fs::remove_dir_all(directory).expect("removed");
+    }
 
     fn records(count: usize) -> impl Iterator<Item = Given> + Send {
         (0..count).map(|number| {

@@ -38,7 +38,11 @@ pub fn convert(wanted: &Convert) -> io::Result<Status> {
             return Ok(Status::Failed);
         }
     }
-    let total = (!wanted.lines).then_some(wanted.records.len());
+    let total = match wanted.lines {
+        false => Some(wanted.records.len()),
+        true if Progress::visible(wanted.quiet) => batch::lines_of(&wanted.records),
+        true => None,
+    };
     let mut batch = Batch {
         wanted,
         grammar: &grammar,

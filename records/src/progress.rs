@@ -73,8 +73,13 @@ impl Progress {
             total,
             begun: Instant::now(),
             shown: None,
-            visible: !quiet && io::stderr().is_terminal(),
+            visible: Progress::visible(quiet),
         }
+    }
+
+    /// Whether anybody sees the line.
+    pub fn visible(quiet: bool) -> bool {
+        !quiet && io::stderr().is_terminal()
     }
 
     pub fn show(&mut self, counts: &Counts) {
