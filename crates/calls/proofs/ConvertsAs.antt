@@ -23,10 +23,11 @@ use Rattle.job.specs.declared.Parse.the-variants.{Refused}
 use Rattle.job.specs.Parses.{whyRefused, IsChosen, Parses}
 use Rattle.convert.specs.declared.Converted.{Converted}
 use Rattle.convert.specs.Concluded.{Parsing, Ready, Concludes}
-use Rattle.calls.specs.declared.Answer.{Answer}
-use Rattle.calls.specs.Calls.{shown, refusalOf, answerOf, ConvertedAs}
-use Rattle.calls.proofs.Outcomes.{call-not-chosen}
-use Rattle.calls.proofs.Documents.{Spoken, concluded}
+use Rattle.outcome.specs.declared.Answer.{Answer}
+use Rattle.outcome.specs.Outcome.{shown, refusalOf, answerOf}
+use Rattle.calls.specs.Calls.{ConvertedAs}
+use Rattle.outcome.proofs.Outcomes.{call-not-chosen}
+use Rattle.outcome.proofs.Documents.{Spoken, concluded}
 
 -- the numbers of a left parse name a derivation of the record's characters
 module _ (j : Job) (T new P : List ℕ) (f : LeftParse) (y : IsChosen j T new P f) where

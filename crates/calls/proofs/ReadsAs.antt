@@ -14,11 +14,12 @@ use Rattle.job.specs.declared.Refusal.{Refusal}
 use Rattle.job.specs.declared.Parse.{Parse}
 use Rattle.job.specs.declared.Parse.the-variants.{Refused}
 use Rattle.job.specs.Parses.{whyRefused, IsChosen, Parses}
-use Rattle.calls.specs.declared.Answer.{Answer}
+use Rattle.outcome.specs.declared.Answer.{Answer}
 use Rattle.text.specs.Stages.{plainly}
 use Rattle.text.specs.declared.Diagnostic.{Diagnostic}
-use Rattle.calls.specs.Calls.{done, shown, refusalOf, ReadAs}
-use Rattle.calls.proofs.Outcomes.{refusing, call-refused, call-answered, call-not-chosen, result-is, too-long, fitting, done-is}
+use Rattle.outcome.specs.Outcome.{done, shown, refusalOf}
+use Rattle.calls.specs.Calls.{ReadAs}
+use Rattle.outcome.proofs.Outcomes.{refusing, call-refused, call-answered, call-not-chosen, result-is, too-long, fitting, done-is}
 
 module _ (j : Job) (old : List ℕ) where
   abbrev tests : List Test
@@ -47,14 +48,14 @@ module _ (j : Job) (old : List ℕ) where
         refused-as a r (z ∙ ap (λ (x : Diagnostic). refusalOf (record { why = x; mismatch = f .mismatch })) p)
         (call-refused j old asNumbers tests r e (λ e. omega arith) refl refl)
 
-    pub read-done : (new′ : List ℕ) → new′ ≡ take (f .count) P ++ drop (f .count) old → f .count ≤ length old
-        → ReadAs j old (done (f .count) (f .ambiguous) (f .mismatch)) new′
+    pub read-done : (new′ : List ℕ) (a : Answer) → new′ ≡ take (f .count) P ++ drop (f .count) old → a ≡ done (f .count) (f .ambiguous) (f .mismatch) → f .count ≤ length old
+        → ReadAs j old a new′
     unfolding readOf
-    read-done new′ e l =
+    read-done new′ a e z l =
         let h = y .first tests ∙ fitting j T new P f y asNumbers old (omega (arith, y .count)) in
         let o = call-answered j old asNumbers tests (f .mismatch) _ h (y .version) (result-is j T new P f y asNumbers) in
         let cells : new′ ≡ leftParse (y .row) ++ drop (length (leftParse (y .row))) old =
         e ∙ ap (λ (q : List ℕ). q ++ drop (f .count) old) (y .list) ∙ ap (λ (n : ℕ). leftParse (y .row) ++ drop n old) (y .count) in
         let mark = ambiguousOf (y .tree) (y .input .chars) (y .row) in
         let b = done-is old new′ (leftParse (y .row)) (f .mismatch) mark (f .ambiguous) (f .count) cells (y .count) (y .mark) in
-        read-as (done (f .count) (f .ambiguous) (f .mismatch)) new′ (o ∙ b)
+        rw z (read-as (done (f .count) (f .ambiguous) (f .mismatch)) new′ (o ∙ b))

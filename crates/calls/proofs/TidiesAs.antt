@@ -40,9 +40,10 @@ use Rattle.tidy_text.specs.declared.Tidied.the-variants.{Text as Tidied-text, R
 use Rattle.tidy_text.specs.Whole.{AllFit, tidiedNumber, Written, NotWritten, Concludes}
 use Rattle.tidy_text.proofs.Fits.{grammar-fits}
 use Rattle.tidy_text.proofs.Encoded.{tidy-encoded}
-use Rattle.calls.specs.declared.Answer.{Answer}
-use Rattle.calls.specs.Calls.{shown, done, refusalOf, TidiedAs}
-use Rattle.calls.proofs.Outcomes.{answering, refused-outcome, done-is}
+use Rattle.outcome.specs.declared.Answer.{Answer}
+use Rattle.outcome.specs.Outcome.{shown, done, refusalOf}
+use Rattle.calls.specs.Calls.{TidiedAs}
+use Rattle.outcome.proofs.Outcomes.{answering, refused-outcome, done-is}
 
 module _ (bs old : List ℕ) where
   abbrev made : Result
@@ -131,15 +132,15 @@ module _ {bs U : List ℕ} {p : Rules} (y : Kept bs U p) where
         let q : d ≡ plainly k = f ∙ ap plainly o in
         refused-at k (subst (Concludes cells old new) e concludes) a (z ∙ ap (λ (x : Diagnostic). refusalOf (record { why = x; mismatch = false })) q)
 
-    pub tidy-done : (n : ℕ) → v ≡ Tidied-text n → TidiedAs bs old (done n false (p .mismatch)) new
+    pub tidy-done : (n : ℕ) (a : Answer) → v ≡ Tidied-text n → a ≡ done n false (p .mismatch) → TidiedAs bs old a new
     unfolding tidyOf
-    tidy-done n e =
+    tidy-done n a e z =
         let w : Written cells old new n = subst (Concludes cells old new) e concludes in
         let first : firstOf (tests bs old) ≡ 0 = y .first (tidyTests bs old) ∙ long-is
         ∙ rw (le-ltb grammarBytes (length cells) (w .short), le-ltb (length old) (length cells) (w .fits)) in
         let m : made bs old ≡ result cells false = rw (y .is) in
-        tidied-as bs old (done n false (p .mismatch)) new
+        rw z (tidied-as bs old (done n false (p .mismatch)) new
         (ap (λ (k : ℕ). outcome old (mismatch bs) (checkValues bs) k (made bs old)) first
         ∙ ap (answering old (mismatch bs)) m
         ∙ ap (λ (b : Bool). answering old b (result cells false)) (sym (y .version))
-        ∙ done-is old new cells (p .mismatch) false false n (w .buffer) (w .count) refl)
+        ∙ done-is old new cells (p .mismatch) false false n (w .buffer) (w .count) refl))

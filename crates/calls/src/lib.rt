@@ -1,12 +1,7 @@
 // The public calls. None requires anything of its caller.
-ghost use mathlib.Core.Path.{_≡_};
-ghost use mathlib.Core.Bool.{_&&_};
-ghost use mathlib.Core.List.{_++_};
-ghost use Prim.Native.Nat.{_≤_};
-ghost use lib.Dec.{eqb};
-ghost use lib.ListN.{length, take, drop};
+ghost use lib.ListN.{length};
 ghost use Rattle.answer.specs.Answer.{job, Categorizes};
-ghost use Rattle.calls.specs.Calls.{Checked, refusalOf, answerOf, ReadAs, ConvertedAs, JudgedAs, TidiedAs};
+ghost use Rattle.calls.specs.Calls.{Checked, ReadAs, ConvertedAs, JudgedAs, TidiedAs};
 ghost use Rattle.calls.specs.Judging.{Judgeable, Concluded};
 use accept::Accepted;
 use accept::Rules;
@@ -16,27 +11,10 @@ use job::Lending;
 use job::Parse;
 use job::Refusal;
 use markup::StateWords;
+use outcome::Answer;
 use text::limits;
 use text::refusals;
 use tidy_text::Tidied;
-
-// Where a job is at fault: a byte, a character of the record, a character of the grammar. 0 where the number names no place.
-#[repr(C)]
-pub struct Places {
-    pub byte: usize,
-    pub fault: usize,
-    pub grammar: usize,
-}
-
-// What a call answers: the number of the refusal, or 0; the length of the result; the two marks; the places.
-#[repr(C)]
-pub struct Answer {
-    pub number: u32,
-    pub length: usize,
-    pub ambiguous: bool,
-    pub version: bool,
-    pub places: Places,
-}
 
 // Checks a grammar.
 #[no_mangle]
@@ -46,22 +24,12 @@ pub extern "C" fn ixml_check(grammar: &[u8]) -> Answer
     let mut table = [0u32; limits::GRAMMAR_TABLE];
     let accepted = accept::accept_grammar(grammar, &mut table);
     let Accepted::Grammar(rules) = accepted else {
-        return refuse(Refusal {
+        return outcome::refuse(Refusal {
             why: accept::why_not_accepted(accepted),
             mismatch: false,
         });
     };
-    Answer {
-        number: refusals::ANSWERED,
-        length: 0,
-        ambiguous: false,
-        version: rules.mismatch,
-        places: Places {
-            byte: 0,
-            fault: 0,
-            grammar: 0,
-        },
-    }
+    outcome::answered(0, false, rules.mismatch)
 }
 
 // The category of a code point, by its place in the list of thirty; 30 for one that is not known here.
@@ -70,49 +38,6 @@ pub extern "C" fn ixml_category(code: u32) -> u32
     ensures { λ r. ⌜ Categorizes code r ⌝ }
 {
     text::wide_byte(category::category_of(code))
-}
-
-// Of the refusals only 16 has the version mark.
-fn version_of(number: u32, mismatch: bool) -> bool
-    ensures { λ r. ⌜ r ≡ (eqb number 16 && mismatch) ⌝ }
-{
-    if number == refusals::NO_READING {
-        return mismatch;
-    }
-    false
-}
-
-fn refuse(refusal: Refusal) -> Answer
-    ensures { λ r. ⌜ r ≡ refusalOf refusal ⌝ }
-{
-    let why = refusal.why;
-    let places = why.places;
-    let byte = places.byte;
-    let fault = places.fault;
-    let grammar = places.grammar;
-    Answer {
-        number: why.number,
-        length: 0,
-        ambiguous: false,
-        version: version_of(why.number, refusal.mismatch),
-        places: Places {
-            byte: byte.0,
-            fault: fault.0,
-            grammar: grammar.0,
-        },
-    }
-}
-
-// The first numbers of one buffer over those of another.
-fn copy(from: &[u32], count: usize, to: &mut [u32])
-    requires { ⌜ (count ≤ length (now from)) × (count ≤ length (now to)) ⌝ }
-    ensures { λ _. ⌜ now (to .exit) ≡ take count (now (from .entry)) ++ drop count (now (to .entry)) ⌝ }
-{
-    let mut i = 0;
-    while i < count {
-        to[i] = from[i];
-        i += 1;
-    }
 }
 
 // Reads a record, by the plain engine or the quick one. Of the lent tables the second is known by its length alone: a grammar is judged
@@ -143,26 +68,16 @@ fn read_with(
         &mut parse,
     );
     let Parse::Chosen(found) = parsed else {
-        return refuse(job::why_refused(parsed));
+        return outcome::refuse(job::why_refused(parsed));
     };
     if result.len() < found.count {
-        return refuse(Refusal {
+        return outcome::refuse(Refusal {
             why: text::plain(refusals::RESULT_TOO_LONG),
             mismatch: found.mismatch,
         });
     }
-    copy(&parse, found.count, result);
-    Answer {
-        number: refusals::ANSWERED,
-        length: found.count,
-        ambiguous: found.ambiguous,
-        version: found.mismatch,
-        places: Places {
-            byte: 0,
-            fault: 0,
-            grammar: 0,
-        },
-    }
+    outcome::copy(&parse, found.count, result);
+    outcome::answered(found.count, found.ambiguous, found.mismatch)
 }
 
 // Reads a record.
@@ -193,29 +108,6 @@ pub extern "C" fn ixml_read_plain(
     read_with(true, grammar, record, main, second, result)
 }
 
-// What a call answers to XML that is written, or refused.
-fn answer_to(converted: Converted, ambiguous: bool, mismatch: bool) -> Answer
-    ensures { λ r. ⌜ r ≡ answerOf converted ambiguous mismatch ⌝ }
-{
-    match converted {
-        Converted::Xml(length) => Answer {
-            number: refusals::ANSWERED,
-            length,
-            ambiguous,
-            version: mismatch,
-            places: Places {
-                byte: 0,
-                fault: 0,
-                grammar: 0,
-            },
-        },
-        Converted::Refused(number) => refuse(Refusal {
-            why: text::plain(number),
-            mismatch,
-        }),
-    }
-}
-
 // Converts a record. What the main table holds afterwards is left open.
 #[no_mangle]
 pub extern "C" fn ixml_convert(
@@ -244,7 +136,7 @@ pub extern "C" fn ixml_convert(
         &mut parse,
     );
     let Parse::Chosen(found) = parsed else {
-        return refuse(job::why_refused(parsed));
+        return outcome::refuse(job::why_refused(parsed));
     };
     let count = found.count;
     let chars = found.chars.0;
@@ -257,7 +149,7 @@ pub extern "C" fn ixml_convert(
         found.mismatch,
         result,
     );
-    answer_to(converted, found.ambiguous, found.mismatch)
+    outcome::answer_to(converted, found.ambiguous, found.mismatch)
 }
 
 // A list that names no derivation of the record.
@@ -281,9 +173,9 @@ fn conclude_list(
             mismatch: rules.mismatch,
         };
         let converted = convert::conclude(table, rules.root, list, record, due, scratch, result);
-        return answer_to(converted, false, rules.mismatch);
+        return outcome::answer_to(converted, false, rules.mismatch);
     }
-    refuse(Refusal {
+    outcome::refuse(Refusal {
         why: text::plain(NOT_A_DERIVATION),
         mismatch: false,
     })
@@ -315,7 +207,7 @@ pub extern "C" fn ixml_judge(
         &mut text,
     );
     let Begun::At(start) = begun else {
-        return refuse(Refusal {
+        return outcome::refuse(Refusal {
             why: job::why_begun(begun),
             mismatch: false,
         });
@@ -333,27 +225,17 @@ pub extern "C" fn ixml_tidy(grammar: &[u8], result: &mut [u8]) -> Answer
     let mut table = [0u32; limits::GRAMMAR_TABLE];
     let accepted = accept::accept_grammar(grammar, &mut table);
     let Accepted::Grammar(found) = accepted else {
-        return refuse(Refusal {
+        return outcome::refuse(Refusal {
             why: accept::why_not_accepted(accepted),
             mismatch: false,
         });
     };
     let tidied = tidy_text::tidy(&table, found.end, result);
     let Tidied::Text(length) = tidied else {
-        return refuse(Refusal {
+        return outcome::refuse(Refusal {
             why: text::plain(tidy_text::why_not_tidied(tidied)),
             mismatch: false,
         });
     };
-    Answer {
-        number: refusals::ANSWERED,
-        length,
-        ambiguous: false,
-        version: found.mismatch,
-        places: Places {
-            byte: 0,
-            fault: 0,
-            grammar: 0,
-        },
-    }
+    outcome::answered(length, false, found.mismatch)
 }

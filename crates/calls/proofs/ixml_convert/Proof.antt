@@ -1,6 +1,6 @@
 use native.Mathlib.Omega.{arith}
 use Rattle.job.proofs.Texts.{got-in, got-part}
-use Rattle.calls.proofs.Outcomes.{is-chosen}
+use Rattle.outcome.proofs.Outcomes.{is-chosen}
 use Rattle.calls.proofs.ConvertsAs.{convert-not-chosen, numbers-in, numbers-part, convertible, convert-concluded}
 use borrow.Author.Needs.{needs}
 use Rattle.calls.proofs.ixml_convert.Statement.{statement}

@@ -3,73 +3,57 @@ use borrow.Author.Needs.{needs}
 use Rattle.calls.proofs.ixml_tidy.Statement.{statement}
 use Rattle.calls.proofs.ixml_tidy.Tie as tie
 
--- src/lib.rt:268:52
 slice-aggregate-accept-grammar : tie.Need-slice-aggregate-accept-grammar
 slice-aggregate-accept-grammar c = search needs
 
--- src/lib.rt:268:9
 accept-grammar-requires : tie.Need-accept-grammar-requires
 accept-grammar-requires c κs = search needs
 
--- src/lib.rt:269:27
 enum-known-accepted : tie.Need-enum-known-accepted
 enum-known-accepted c = search needs
 
--- src/lib.rt:271:18
 enum-told : tie.Need-enum-told
 enum-told c = search needs
 
--- src/lib.rt:271:18
 why-not-accepted-requires : tie.Need-why-not-accepted-requires
 why-not-accepted-requires c κs = search needs
 
--- src/lib.rt:270:9
 refuse-requires : tie.Need-refuse-requires
 refuse-requires c κs = search needs
 
--- src/lib.rt:270:9
 returns : tie.Need-returns
 returns c =
     let at-enum-told = c .before .before in
     let at-accept-grammar = at-enum-told .before .before .before in
     tidy-not-accepted _ _ _ _ _ _ _ (at-enum-told .enum-told .given .1) (c .before .why-not-accepted .ensures) (at-accept-grammar .accept-grammar .ensures) (c .refuse .ensures)
 
--- src/lib.rt:275:34
 slice-aggregate-tidy : tie.Need-slice-aggregate-tidy
 slice-aggregate-tidy c = search needs
 
--- src/lib.rt:275:9
 tidy-requires : tie.Need-tidy-requires
 tidy-requires c κs =
     let at-accepted = c .before .before .before in
     let at-accept-grammar = at-accepted .before .before .before in
     some-left (is-kept _ _ _ _ (at-accepted .accepted .given .1) (at-accept-grammar .accept-grammar .ensures)) (search needs)
 
--- src/lib.rt:276:22
 enum-known-tidied : tie.Need-enum-known-tidied
 enum-known-tidied c = search needs
 
--- src/lib.rt:278:30
 enum-told-2 : tie.Need-enum-told-2
 enum-told-2 c = search needs
 
--- src/lib.rt:278:30
 why-not-tidied-requires : tie.Need-why-not-tidied-requires
 why-not-tidied-requires c κs = search needs
 
--- src/lib.rt:278:18
 plain-requires : tie.Need-plain-requires
 plain-requires c κs = search needs
 
--- src/lib.rt:277:9
 refuse-requires-2 : tie.Need-refuse-requires-2
 refuse-requires-2 c κs = search needs
 
--- src/lib.rt:277:9
 same-length : tie.Need-same-length
 same-length c = search needs
 
--- src/lib.rt:277:9
 returns-2 : tie.Need-returns-2
 returns-2 c =
     let at-why-not-tidied = c .before .before in
@@ -80,18 +64,19 @@ returns-2 c =
     let y = is-kept _ _ _ _ (at-accepted .accepted .given .1) (at-accept-grammar .accept-grammar .ensures) in
     tidy-refused y _ _ _ (at-tidy .tidy .ensures) _ _ _ _ (at-enum-told2 .enum-told2 .given .1) (at-why-not-tidied .why-not-tidied .ensures) (c .before .plain .ensures) (c .refuse2 .ensures)
 
--- src/lib.rt:263:1
+answered-requires : tie.Need-answered-requires
+answered-requires c κs = search needs
+
 same-length-2 : tie.Need-same-length-2
 same-length-2 c = search needs
 
--- src/lib.rt:263:1
 returns-3 : tie.Need-returns-3
 returns-3 c =
-    let at-tidy = c .before .before .before .before .before in
+    let at-tidy = c .before .before .before .before .before .before in
     let at-accepted = at-tidy .before .before .before .before in
     let at-accept-grammar = at-accepted .before .before .before in
     let y = is-kept _ _ _ _ (at-accepted .accepted .given .1) (at-accept-grammar .accept-grammar .ensures) in
-    tidy-done y _ _ _ (at-tidy .tidy .ensures) _ (c .before .tidied .given .1)
+    tidy-done y _ _ _ (at-tidy .tidy .ensures) _ _ (c .before .before .tidied .given .1) (c .answered .ensures)
 
 pub ixml-tidy-spec : {M : Type 1} → statement M
 ixml-tidy-spec =
@@ -113,5 +98,6 @@ ixml-tidy-spec =
     refuse-requires-2
     same-length
     returns-2
+    answered-requires
     same-length-2
     returns-3)

@@ -1,5 +1,5 @@
 use native.Mathlib.Omega.{arith}
-use Rattle.calls.proofs.Outcomes.{is-chosen}
+use Rattle.outcome.proofs.Outcomes.{is-chosen}
 use Rattle.calls.proofs.ReadsAs.{read-refused, read-long, read-done}
 use borrow.Author.Needs.{needs}
 use Rattle.calls.proofs.read_with.Statement.{statement}
@@ -66,6 +66,9 @@ copy-requires c κs =
     let y = is-chosen _ _ _ _ _ _ (parsed .given .1) (parse-record .ensures) in
     (omega (arith, y .short), if1 .left)
 
+answered-requires : tie.Need-answered-requires
+answered-requires c κs = search needs
+
 same-length-3 : tie.Need-same-length-3
 same-length-3 c = search needs
 
@@ -74,13 +77,12 @@ same-length-4 c = search needs
 
 returns-3 : tie.Need-returns-3
 returns-3 c =
-    let copy = c .before .before .copy in
-    let if1 = c .before .before .before .before .before .if1 in
-    let parsed = c .before .before .before .before .before .before .before .before .parsed in
-    let parse-record = c .before .before .before .before .before .before .before .before .before .before .before .before .before .before .before
-    .parse-record in
+    let at-copy = c .before .before .before in
+    let at-if = at-copy .before .before .before in
+    let parsed = at-if .before .before .before .parsed in
+    let parse-record = at-if .before .before .before .before .before .before .before .before .before .before .parse-record in
     let y = is-chosen _ _ _ _ _ _ (parsed .given .1) (parse-record .ensures) in
-    read-done _ _ _ _ _ _ y _ (copy .ensures) (if1 .left)
+    read-done _ _ _ _ _ _ y _ _ (at-copy .copy .ensures) (c .answered .ensures) (at-if .if1 .left)
 
 pub read-with-spec : {M : Type 1} → statement M
 read-with-spec =
@@ -102,6 +104,7 @@ read-with-spec =
     returns-2
     slice-aggregate-copy
     copy-requires
+    answered-requires
     same-length-3
     same-length-4
     returns-3)

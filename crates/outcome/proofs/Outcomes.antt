@@ -11,7 +11,7 @@ use Rattle.answer.specs.Compute.{Values, placesAt, jobValues, Test, firstOf, mi
 use Rattle.job.specs.declared.LeftParse.{LeftParse}
 use Rattle.job.specs.declared.Refusal.{Refusal}
 use Rattle.load.specs.Loaded.{placesOf}
-use Rattle.calls.specs.Calls.{shown, done}
+use Rattle.outcome.specs.Outcome.{shown, done}
 use Rattle.job.specs.declared.Parse.{Parse}
 use Rattle.job.specs.declared.Parse.the-variants.{Chosen, Refused}
 use Rattle.job.specs.Found.{firstTest}
