@@ -3,5 +3,4 @@ pub mod ReadsAs
 pub mod ConvertsAs
 pub mod Agree
 pub mod TidiesAs
-pub mod Lists
 pub mod JudgesAs

@@ -2,18 +2,12 @@
 ghost use lib.ListN.{length};
 ghost use Rattle.answer.specs.Answer.{job, Categorizes};
 ghost use Rattle.calls.specs.Calls.{Checked, ReadAs, ConvertedAs, JudgedAs, TidiedAs};
-ghost use Rattle.calls.specs.Judging.{Judgeable, Concluded};
 use accept::Accepted;
-use accept::Rules;
-use convert::Converted;
 use job::Begun;
 use job::Lending;
-use job::Parse;
 use job::Refusal;
-use markup::StateWords;
 use outcome::Answer;
 use text::limits;
-use text::refusals;
 use tidy_text::Tidied;
 
 // Checks a grammar.
@@ -67,17 +61,7 @@ fn read_with(
         &mut text,
         &mut parse,
     );
-    let Parse::Chosen(found) = parsed else {
-        return outcome::refuse(job::why_refused(parsed));
-    };
-    if result.len() < found.count {
-        return outcome::refuse(Refusal {
-            why: text::plain(refusals::RESULT_TOO_LONG),
-            mismatch: found.mismatch,
-        });
-    }
-    outcome::copy(&parse, found.count, result);
-    outcome::answered(found.count, found.ambiguous, found.mismatch)
+    outcome::give_numbers(parsed, &parse, result)
 }
 
 // Reads a record.
@@ -135,50 +119,7 @@ pub extern "C" fn ixml_convert(
         &mut text,
         &mut parse,
     );
-    let Parse::Chosen(found) = parsed else {
-        return outcome::refuse(job::why_refused(parsed));
-    };
-    let count = found.count;
-    let chars = found.chars.0;
-    let converted = convert::convert(
-        &table,
-        found.root,
-        &parse[..count],
-        &text[..chars],
-        found.ambiguous,
-        found.mismatch,
-        result,
-    );
-    outcome::answer_to(converted, found.ambiguous, found.mismatch)
-}
-
-// A list that names no derivation of the record.
-const NOT_A_DERIVATION: u32 = 25;
-
-// 17 to 23 of a list that is judged already, or 25.
-fn conclude_list(
-    table: &[u32],
-    rules: Rules,
-    list: &[u32],
-    record: &[u32],
-    scratch: &mut [u64],
-    result: &mut [u8],
-) -> Answer
-    requires { ⌜ Judgeable (now table) (rules .root) (now list) (now «record») (now scratch) ⌝ }
-    ensures { λ r. ⌜ Concluded (now (table .entry)) (rules .root) (now (list .entry)) (now («record» .entry)) (rules .mismatch) (now (result .entry)) (now (result .exit)) r ⌝ }
-{
-    if judge::judge_list(table, rules.root, list, record, scratch) {
-        let due = StateWords {
-            ambiguous: false,
-            mismatch: rules.mismatch,
-        };
-        let converted = convert::conclude(table, rules.root, list, record, due, scratch, result);
-        return outcome::answer_to(converted, false, rules.mismatch);
-    }
-    outcome::refuse(Refusal {
-        why: text::plain(NOT_A_DERIVATION),
-        mismatch: false,
-    })
+    outcome::give_xml(parsed, &table, &text, &parse, result)
 }
 
 // Judges a list of numbers, whoever made it: the XML of the derivation that it names. The scratch takes two numbers for each entry; what it
@@ -214,7 +155,7 @@ pub extern "C" fn ixml_judge(
     };
     let rules = start.rules;
     let chars = start.chars.0;
-    conclude_list(&table, rules, list, &text[..chars], scratch, result)
+    outcome::conclude_list(&table, rules, list, &text[..chars], scratch, result)
 }
 
 // Tidies a grammar.

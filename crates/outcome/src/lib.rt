@@ -6,8 +6,13 @@ ghost use Prim.Native.Nat.{_≤_};
 ghost use lib.Dec.{eqb};
 ghost use lib.ListN.{length, take, drop};
 ghost use Rattle.outcome.specs.Outcome.{done, refusalOf, answerOf};
+ghost use Rattle.outcome.specs.Given.{Counted, GivesNumbers, Named, GivesXml};
+ghost use Rattle.outcome.specs.Judging.{Judgeable, Concluded};
+use accept::Rules;
 use convert::Converted;
+use job::Parse;
 use job::Refusal;
+use markup::StateWords;
 use text::refusals;
 
 // Where a job is at fault: a byte, a character of the record, a character of the grammar. 0 where the number names no place.
@@ -99,4 +104,79 @@ pub fn copy(from: &[u32], count: usize, to: &mut [u32])
         to[i] = from[i];
         i += 1;
     }
+}
+
+// The numbers of a chosen reading, or the refusal.
+pub fn give_numbers(parsed: Parse, parse: &[u32], result: &mut [u32]) -> Answer
+    requires { ⌜ Counted parsed (now parse) ⌝ }
+    ensures { λ r. ⌜ GivesNumbers parsed (now (parse .entry)) (now (result .entry)) (now (result .exit)) r ⌝ }
+{
+    let Parse::Chosen(found) = parsed else {
+        return refuse(job::why_refused(parsed));
+    };
+    if result.len() < found.count {
+        return refuse(Refusal {
+            why: text::plain(refusals::RESULT_TOO_LONG),
+            mismatch: found.mismatch,
+        });
+    }
+    copy(parse, found.count, result);
+    answered(found.count, found.ambiguous, found.mismatch)
+}
+
+// Its XML, or the refusal.
+pub fn give_xml(
+    parsed: Parse,
+    table: &[u32],
+    text: &[u32],
+    parse: &[u32],
+    result: &mut [u8],
+) -> Answer
+    requires { ⌜ Named parsed (now table) (now text) (now parse) ⌝ }
+    ensures { λ r. ⌜ GivesXml parsed (now (table .entry)) (now (text .entry)) (now (parse .entry)) (now (result .entry)) (now (result .exit)) r ⌝ }
+{
+    let Parse::Chosen(found) = parsed else {
+        return refuse(job::why_refused(parsed));
+    };
+    let count = found.count;
+    let chars = found.chars.0;
+    let converted = convert::convert(
+        table,
+        found.root,
+        &parse[..count],
+        &text[..chars],
+        found.ambiguous,
+        found.mismatch,
+        result,
+    );
+    answer_to(converted, found.ambiguous, found.mismatch)
+}
+
+// A list that names no derivation of the record.
+const NOT_A_DERIVATION: u32 = 25;
+
+// 17 to 23 of a list that is judged already, or 25.
+pub fn conclude_list(
+    table: &[u32],
+    rules: Rules,
+    list: &[u32],
+    record: &[u32],
+    scratch: &mut [u64],
+    result: &mut [u8],
+) -> Answer
+    requires { ⌜ Judgeable (now table) (rules .root) (now list) (now «record») (now scratch) ⌝ }
+    ensures { λ r. ⌜ Concluded (now (table .entry)) (rules .root) (now (list .entry)) (now («record» .entry)) (rules .mismatch) (now (result .entry)) (now (result .exit)) r ⌝ }
+{
+    if judge::judge_list(table, rules.root, list, record, scratch) {
+        let due = StateWords {
+            ambiguous: false,
+            mismatch: rules.mismatch,
+        };
+        let converted = convert::conclude(table, rules.root, list, record, due, scratch, result);
+        return answer_to(converted, false, rules.mismatch);
+    }
+    refuse(Refusal {
+        why: text::plain(NOT_A_DERIVATION),
+        mismatch: false,
+    })
 }
