@@ -8,7 +8,6 @@ use job::Lending;
 use job::Refusal;
 use outcome::Answer;
 use text::limits;
-use tidy_text::Tidied;
 
 // Checks a grammar.
 #[no_mangle]
@@ -165,18 +164,5 @@ pub extern "C" fn ixml_tidy(grammar: &[u8], result: &mut [u8]) -> Answer
 {
     let mut table = [0u32; limits::GRAMMAR_TABLE];
     let accepted = accept::accept_grammar(grammar, &mut table);
-    let Accepted::Grammar(found) = accepted else {
-        return outcome::refuse(Refusal {
-            why: accept::why_not_accepted(accepted),
-            mismatch: false,
-        });
-    };
-    let tidied = tidy_text::tidy(&table, found.end, result);
-    let Tidied::Text(length) = tidied else {
-        return outcome::refuse(Refusal {
-            why: text::plain(tidy_text::why_not_tidied(tidied)),
-            mismatch: false,
-        });
-    };
-    outcome::answered(length, false, found.mismatch)
+    outcome::give_tidy(accepted, &table, result)
 }

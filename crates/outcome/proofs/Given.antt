@@ -1,12 +1,24 @@
 -- What is given of a chosen reading, by the way that a function takes.
+use mathlib.Core.Bool.{Bool, true, false}
 use mathlib.Core.Path.{_≡_, refl, sym, ap, _∙_, subst}
 use mathlib.Core.Logic.{inl, inr}
 use mathlib.Core.List.{List, _++_}
 use Prim.Native.Nat.{ℕ, _≤_, _<_}
 use lib.ListN.{length, take, drop}
-use Rattle.text.specs.Stages.{plainly}
+use Rattle.text.specs.Stages.{diagnosticOf, plainly}
 use Rattle.text.specs.declared.Diagnostic.{Diagnostic}
 use Rattle.tree.specs.Tree.{Grammar}
+use Rattle.tree.specs.Tokens.{Token}
+use Rattle.tokens.specs.Lengths.{Left}
+use Rattle.markup.specs.Out.{enc}
+use Rattle.tidy.specs.Scan.{scan}
+use Rattle.tidy_writer.specs.Walk.{SomeLeft}
+use Rattle.tidy_text.specs.declared.Tidied.{Tidied}
+use Rattle.tidy_text.specs.Whole as tidy
+use Rattle.accept.specs.declared.Rules.{Rules}
+use Rattle.accept.specs.declared.Accepted.{Accepted}
+use Rattle.accept.specs.declared.Accepted.the-variants.{Grammar as A-grammar, Refused as Not-accepted}
+use Rattle.accept.specs.Accepted.{stageOf}
 use Rattle.derive.specs.Derive.{Row}
 use Rattle.job.specs.declared.LeftParse.{LeftParse}
 use Rattle.job.specs.declared.Refusal.{Refusal}
@@ -17,7 +29,7 @@ use Rattle.convert.specs.declared.Converted.{Converted}
 use Rattle.convert.specs.Concluded.{Parsing, Concludes}
 use Rattle.outcome.specs.declared.Answer.{Answer}
 use Rattle.outcome.specs.Outcome.{done, refusalOf, answerOf}
-use Rattle.outcome.specs.Given.{Counted, GivesNumbers, Named, Writable, GivesXml}
+use Rattle.outcome.specs.Given.{Counted, GivesNumbers, Named, Writable, GivesXml, Tokened, tidiedOf, GivesTidy}
 
 told : {p : Parse} {k r : Refusal} {a : Answer} → p ≡ Refused k → r ≡ whyRefused p → a ≡ refusalOf r → a ≡ refusalOf k
 told e f z = z ∙ ap refusalOf (f ∙ ap whyRefused e)
@@ -52,3 +64,17 @@ module _ (p : Parse) (T R P old : List ℕ) where
         → Concludes g (take (f .chars .0) R) t (f .ambiguous) (f .mismatch) old new v)
         → a ≡ answerOf v (f .ambiguous) (f .mismatch) → GivesXml p T R P old new a
     xml-concluded new v a h z = subst (λ (x : Parse). GivesXml x T R P old new a) (sym e) (record { converted = v; concludes = h; answer = z })
+
+module _ (q : Accepted) (T old : List ℕ) where
+  pub tidy-refused : (k d : Diagnostic) (a : Answer) → q ≡ Not-accepted k → d ≡ diagnosticOf (stageOf q) → a ≡ refusalOf (record { why = d; mismatch = false })
+      → GivesTidy q T old old a
+  tidy-refused k d a e f z = subst (λ (x : Accepted). GivesTidy x T old old a) (sym e)
+      (z ∙ ap (λ (x : Diagnostic). refusalOf (record { why = x; mismatch = false })) (f ∙ ap (λ (x : Accepted). diagnosticOf (stageOf x)) e), refl)
+
+  module _ (p : Rules) (e : q ≡ A-grammar p) where
+    pub tokened : Tokened q T → SomeLeft T (p .end) 0
+    tokened h = subst (λ (x : Accepted). Tokened x T) e h
+
+    pub tidy-concluded : (new : List ℕ) (v : Tidied) (a : Answer)
+        → ((ts : List Token) → Left T (p .end) 0 ts → tidy.AllFit ts → tidy.Concludes (enc (scan true ts)) old new v) → a ≡ tidiedOf v (p .mismatch) → GivesTidy q T old new a
+    tidy-concluded new v a h z = subst (λ (x : Accepted). GivesTidy x T old new a) (sym e) (record { tidied = v; concludes = h; answer = z })

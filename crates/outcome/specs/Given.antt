@@ -1,4 +1,5 @@
--- What a caller is given of a chosen reading: its numbers, or its XML.
+-- What a caller is given: the numbers or the XML of a chosen reading, the tidy text of a grammar.
+use mathlib.Core.Bool.{Bool, true, false}
 use mathlib.Core.Path.{_≡_}
 use mathlib.Core.Logic.{_⊎_}
 use mathlib.Core.List.{List, _++_}
@@ -6,6 +7,17 @@ use Prim.Native.Nat.{ℕ, _≤_, _<_}
 use lib.ListN.{length, take, drop}
 use Rattle.text.specs.Stages.{plainly}
 use Rattle.tree.specs.Tree.{Grammar}
+use Rattle.tree.specs.Tokens.{Token}
+use Rattle.tokens.specs.Lengths.{Left}
+use Rattle.markup.specs.Out.{enc}
+use Rattle.tidy.specs.Scan.{scan}
+use Rattle.tidy_writer.specs.Walk.{SomeLeft}
+use Rattle.tidy_text.specs.declared.Tidied.{Tidied}
+use Rattle.tidy_text.specs.declared.Tidied.the-variants.{Text as Tidy, Refused as Not-tidied}
+use Rattle.tidy_text.specs.Whole as tidy
+use Rattle.accept.specs.declared.Rules.{Rules}
+use Rattle.accept.specs.declared.Accepted.{Accepted}
+use Rattle.accept.specs.declared.Accepted.the-variants.{Grammar as A-grammar, Refused as Not-accepted}
 use Rattle.derive.specs.Derive.{Row}
 use Rattle.job.specs.declared.LeftParse.{LeftParse}
 use Rattle.job.specs.declared.Parse.{Parse}
@@ -56,3 +68,22 @@ pub record Concluding (f : LeftParse) (T R P old new : List ℕ) (a : Answer) : 
 abbrev pub GivesXml : Parse → List ℕ → List ℕ → List ℕ → List ℕ → List ℕ → Answer → Type 0
 GivesXml (Chosen f) T R P old new a = Concluding f T R P old new a
 GivesXml (Refused k) T R P old new a = (a ≡ refusalOf k) × (new ≡ old)
+
+-- 3. Tidy text: the tokens stand in `T`.
+abbrev pub Tokened : Accepted → List ℕ → Type 0
+Tokened (A-grammar p) T = SomeLeft T (p .end) 0
+Tokened (Not-accepted d) T = Unit
+
+abbrev pub tidiedOf : Tidied → Bool → Answer
+tidiedOf (Tidy n) m = done n false m
+tidiedOf (Not-tidied k) m = refusalOf (record { why = plainly k; mismatch = false })
+
+-- whatever tokens they are, this is concluded of them
+pub record Tidying (p : Rules) (T old new : List ℕ) (a : Answer) : Type 0 where
+  pub tidied : Tidied
+  pub concludes : (ts : List Token) → Left T (p .end) 0 ts → tidy.AllFit ts → tidy.Concludes (enc (scan true ts)) old new tidied
+  pub answer : a ≡ tidiedOf tidied (p .mismatch)
+
+abbrev pub GivesTidy : Accepted → List ℕ → List ℕ → List ℕ → Answer → Type 0
+GivesTidy (A-grammar p) T old new a = Tidying p T old new a
+GivesTidy (Not-accepted d) T old new a = (a ≡ refusalOf (record { why = d; mismatch = false })) × (new ≡ old)

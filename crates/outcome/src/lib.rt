@@ -6,14 +6,16 @@ ghost use Prim.Native.Nat.{_≤_};
 ghost use lib.Dec.{eqb};
 ghost use lib.ListN.{length, take, drop};
 ghost use Rattle.outcome.specs.Outcome.{done, refusalOf, answerOf};
-ghost use Rattle.outcome.specs.Given.{Counted, GivesNumbers, Named, GivesXml};
+ghost use Rattle.outcome.specs.Given.{Counted, GivesNumbers, Named, GivesXml, Tokened, tidiedOf, GivesTidy};
 ghost use Rattle.outcome.specs.Judging.{Judgeable, Concluded};
+use accept::Accepted;
 use accept::Rules;
 use convert::Converted;
 use job::Parse;
 use job::Refusal;
 use markup::StateWords;
 use text::refusals;
+use tidy_text::Tidied;
 
 // Where a job is at fault: a byte, a character of the record, a character of the grammar. 0 where the number names no place.
 #[repr(C)]
@@ -179,4 +181,32 @@ pub fn conclude_list(
         why: text::plain(NOT_A_DERIVATION),
         mismatch: false,
     })
+}
+
+// The answer to tidy text that is written, or refused.
+fn answer_to_tidied(tidied: Tidied, mismatch: bool) -> Answer
+    ensures { λ r. ⌜ r ≡ tidiedOf tidied mismatch ⌝ }
+{
+    match tidied {
+        Tidied::Text(length) => answered(length, false, mismatch),
+        Tidied::Refused(number) => refuse(Refusal {
+            why: text::plain(number),
+            mismatch: false,
+        }),
+    }
+}
+
+// The tidy text of an accepted grammar, or the refusal.
+pub fn give_tidy(accepted: Accepted, table: &[u32], result: &mut [u8]) -> Answer
+    requires { ⌜ Tokened accepted (now table) ⌝ }
+    ensures { λ r. ⌜ GivesTidy accepted (now (table .entry)) (now (result .entry)) (now (result .exit)) r ⌝ }
+{
+    let Accepted::Grammar(rules) = accepted else {
+        return refuse(Refusal {
+            why: accept::why_not_accepted(accepted),
+            mismatch: false,
+        });
+    };
+    let tidied = tidy_text::tidy(table, rules.end, result);
+    answer_to_tidied(tidied, rules.mismatch)
 }
