@@ -14,7 +14,7 @@ use Rattle.sparse.specs.Cells.{Noted}
 use Rattle.sparse.specs.Steps.{Empties}
 use Rattle.full.specs.Whole.{Marked}
 use Rattle.full.proofs.Whole.{coded, shape, whole-code, whole-stays, whole-attained, whole-least, whole-live, whole-used}
-use Rattle.parser.specs.Choose.{Choosable}
+use Rattle.chooser.specs.Choose.{Choosable}
 use Rattle.reading.specs.Answer.{Finished}
 
 -- a table for each stage, long enough

@@ -10,7 +10,7 @@ use lib.Seq.{getD-set-same, getD-set-other}
 use borrow.Author.Tests.{lt-ltb, le-ltb, le-leb, lt-leb}
 use Rattle.text.specs.Lists.{pick}
 use Rattle.reach.specs.Work.{atMost}
-use Rattle.settle.specs.Queue.{flagOf, headOf, countOf, slot, Pending, Waits, Queued, Put, Taken}
+use Rattle.queue.specs.Queue.{flagOf, headOf, countOf, slot, Pending, Waits, Queued, Put, Taken}
 
 pub around-in : (k : ℕ) → k < 512 → pick (ltb k 512) k (k - 512) ≡ k
 around-in k l = rw (lt-ltb k 512 l)

@@ -3,7 +3,7 @@ ghost use mathlib.Core.Path.{_≡_};
 ghost use Prim.Native.Nat.{_-_, _<_};
 ghost use lib.Dec.{ltb};
 ghost use Rattle.text.specs.Lists.{pick};
-ghost use Rattle.settle.specs.Queue.{countOf, Queued, Put, Taken};
+ghost use Rattle.queue.specs.Queue.{countOf, Queued, Put, Taken};
 
 const RING: usize = text::limits::GRAMMAR_SIZE;
 

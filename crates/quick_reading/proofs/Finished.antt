@@ -19,7 +19,7 @@ use Rattle.sparse.specs.Steps.{Empties}
 use Rattle.sparse.proofs.Coded.{shape-of, flag-code, flag-stays, flag-root}
 use Rattle.sparse.proofs.Empty.{least-all}
 use Rattle.quick.specs.Quick.{Filled}
-use Rattle.parser.specs.Choose.{Choosable}
+use Rattle.chooser.specs.Choose.{Choosable}
 use Rattle.reading.specs.Answer.{Finished, NotRead, no-reading}
 
 -- the passes and the notes are done

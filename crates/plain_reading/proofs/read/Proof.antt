@@ -6,10 +6,10 @@ use Rattle.chart.proofs.Users.{all-zero}
 use Rattle.heights.proofs.Exact.{safe}
 use Rattle.sparse.proofs.Coded.{shape-of}
 use Rattle.full.proofs.Whole.{coded}
-use Rattle.parser.proofs.Plain.{roomy, finished-plain}
+use Rattle.plain_reading.proofs.Plain.{roomy, finished-plain}
 use borrow.Author.Needs.{needs}
-use Rattle.parser.proofs.choose_plain.Statement.{statement}
-use Rattle.parser.proofs.choose_plain.Tie as tie
+use Rattle.plain_reading.proofs.read.Statement.{statement}
+use Rattle.plain_reading.proofs.read.Tie as tie
 
 slice-aggregate-prepare : tie.Need-slice-aggregate-prepare
 slice-aggregate-prepare c = search needs
@@ -87,12 +87,9 @@ slice-aggregate-walk-2 c = search needs
 slice-aggregate-walk-3 : tie.Need-slice-aggregate-walk-3
 slice-aggregate-walk-3 c = search needs
 
-slice-aggregate-walk-4 : tie.Need-slice-aggregate-walk-4
-slice-aggregate-walk-4 c = search needs
-
 walk-requires : tie.Need-walk-requires
 walk-requires c κs =
-    let at-note-rules = c .before .before .before .before .before .before .before in
+    let at-note-rules = c .before .before .before .before .before .before in
     let at-mark-all = at-note-rules .before .before .before .before in
     let at-fill = at-mark-all .before .before .before .before .before .before in
     let at-prepare = at-fill .before .before .before .before .before .before in
@@ -100,11 +97,7 @@ walk-requires c κs =
     let code = at-prepare .prepare .ensures (pre .grammar) (pre .ready) in
     let a = roomy {f = at-prepare .prepare .last .1 .1 .1 .1 .1 .0} code pre
     (omega (arith, at-prepare .prepare .kept .1 .1 .1 .1 .0)) (omega (arith, at-prepare .prepare .kept .1 .1 .1 .1 .1 .0)) (at-fill .fill .kept .1 .1 .1 .1 .0) in
-    record {
-      tables = finished-plain code a (at-mark-all .mark-all .ensures) (at-note-rules .note-rules .ensures) (at-fill .fill .ensures);
-      room = pre .numbers;
-      stack = search needs;
-    }
+    (finished-plain code a (at-mark-all .mark-all .ensures) (at-note-rules .note-rules .ensures) (at-fill .fill .ensures), pre .numbers)
 
 same-length : tie.Need-same-length
 same-length c = search needs
@@ -115,8 +108,8 @@ same-length-2 c = search needs
 returns : tie.Need-returns
 unfolding finished-plain
 returns c =
-    let at-walk = c .before .before .before in
-    let at-note-rules = at-walk .before .before .before .before .before .before .before .before in
+    let at-walk = c .before .before in
+    let at-note-rules = at-walk .before .before .before .before .before .before .before in
     let at-mark-all = at-note-rules .before .before .before .before in
     let at-fill = at-mark-all .before .before .before .before .before .before in
     let at-prepare = at-fill .before .before .before .before .before .before in
@@ -127,8 +120,8 @@ returns c =
     λ g w. at-walk .walk .ensures
     (finished-plain (at-prepare .prepare .ensures g w) a (at-mark-all .mark-all .ensures) (at-note-rules .note-rules .ensures) (at-fill .fill .ensures))
 
-pub choose-plain-spec : {M : Type 1} → statement M
-choose-plain-spec =
+pub read-spec : {M : Type 1} → statement M
+read-spec =
     tie.close
     (tie.spec
     slice-aggregate-prepare
@@ -147,7 +140,6 @@ choose-plain-spec =
     slice-aggregate-walk
     slice-aggregate-walk-2
     slice-aggregate-walk-3
-    slice-aggregate-walk-4
     walk-requires
     same-length
     same-length-2

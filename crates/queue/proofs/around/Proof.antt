@@ -1,16 +1,14 @@
 use mathlib.Core.Path.{sym}
 use native.Mathlib.Omega.{arith}
-use Rattle.settle.proofs.Ring.{around-in, around-out}
-use Rattle.settle.proofs.queue.around.Statement.{statement}
-use Rattle.settle.proofs.queue.around.Tie as tie
-use Rattle.settle.proofs.queue.around.Reads as reads
-use Rattle.settle.proofs.queue.around.Lts as lts
+use Rattle.queue.proofs.Ring.{around-in, around-out}
+use Rattle.queue.proofs.around.Statement.{statement}
+use Rattle.queue.proofs.around.Tie as tie
+use Rattle.queue.proofs.around.Reads as reads
+use Rattle.queue.proofs.around.Lts as lts
 
--- src/queue.rt:25:9
 returns : tie.Need-returns
 returns c = let k = c .before .args .k in let h = c .if1 .taken in (sym (around-in k h), h)
 
--- src/queue.rt:20:1
 returns-2 : tie.Need-returns-2
 returns-2 c = let k = c .before .args .k in let h = c .if1 .left in (sym (around-out k h), omega (arith, c .before .pre))
 

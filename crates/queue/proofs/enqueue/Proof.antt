@@ -3,100 +3,79 @@ use mathlib.Core.Path.{_≡_, sym, ap, subst, _∙_}
 use Prim.Native.Nat.{ℕ, _+_}
 use native.Mathlib.Omega.{arith}
 use lib.ListN.{set, length-set}
-use Rattle.settle.specs.Queue.{slot, Put}
-use Rattle.settle.proofs.Ring.{put-same, put-new}
+use Rattle.queue.specs.Queue.{slot, Put}
+use Rattle.queue.proofs.Ring.{put-same, put-new}
 use borrow.Author.Needs.{needs}
-use Rattle.settle.proofs.queue.enqueue.Statement.{statement}
-use Rattle.settle.proofs.queue.enqueue.Tie as tie
+use Rattle.queue.proofs.enqueue.Statement.{statement}
+use Rattle.queue.proofs.enqueue.Tie as tie
 
--- src/queue.rt:35:14
 add-if1 : tie.Need-add-if1
 add-if1 c = search needs
 
--- src/queue.rt:35:8
 mul-if1 : tie.Need-mul-if1
 mul-if1 c = search needs
 
--- src/queue.rt:35:8
 slice-read-if1 : tie.Need-slice-read-if1
 slice-read-if1 c = search needs
 
--- src/queue.rt:36:9
 returns : tie.Need-returns
 returns c =
     let start = c .before .before .before in
     let p = start .pre in put-same (p .0) (start .args .rule) (p .1) (c .if1 .taken)
 
--- src/queue.rt:38:28
 slice-read-wide : tie.Need-slice-read-wide
 slice-read-wide c = search needs
 
--- src/queue.rt:38:9
 wide-requires : tie.Need-wide-requires
 wide-requires c κs = search needs
 
--- src/queue.rt:39:31
 slice-read-wide-2 : tie.Need-slice-read-wide-2
 slice-read-wide-2 c = search needs
 
--- src/queue.rt:39:20
 wide-requires-2 : tie.Need-wide-requires-2
 wide-requires-2 c κs = search needs
 
--- src/queue.rt:39:20
 add-around : tie.Need-add-around
 add-around c = search needs
 
--- src/queue.rt:39:9
 around-requires : tie.Need-around-requires
 around-requires c κs = search needs
 
--- src/queue.rt:40:16
 cast-queue : tie.Need-cast-queue
 cast-queue c = search needs
 
--- src/queue.rt:40:5
 mul-queue : tie.Need-mul-queue
 mul-queue c = search needs
 
--- src/queue.rt:40:5
 slice-write-queue : tie.Need-slice-write-queue
 slice-write-queue c = search needs
 
--- src/queue.rt:41:11
 add-queue : tie.Need-add-queue
 add-queue c = search needs
 
--- src/queue.rt:41:5
 mul-queue-2 : tie.Need-mul-queue-2
 mul-queue-2 c = search needs
 
--- src/queue.rt:41:5
 slice-write-queue-2 : tie.Need-slice-write-queue-2
 slice-write-queue-2 c =
     let start = c .before .before .before .before .before .before .before .before in
     let p = start .pre in let a = start .args in omega (arith, p .0 .long, p .0 .small, p .1, length-set (a .queue .now) (c .around .result) (a .rule))
 
--- src/queue.rt:42:20
 cast-queue-2 : tie.Need-cast-queue-2
 cast-queue-2 c = search needs
 
--- src/queue.rt:42:20
 add-queue-2 : tie.Need-add-queue-2
 add-queue-2 c = search needs
 
--- src/queue.rt:42:5
 slice-write-queue-3 : tie.Need-slice-write-queue-3
 slice-write-queue-3 c =
     let start = c .before .before .before .before .before .before .before .before in
     let p = start .pre in let a = start .args in let q = set (a .queue .now) (c .around .result) (a .rule) in
     omega (arith, p .0 .long, length-set (a .queue .now) (c .around .result) (a .rule), length-set q (512 + a .rule) 1)
 
--- src/queue.rt:31:1
 same-length : tie.Need-same-length
 same-length c = search needs
 
--- src/queue.rt:31:1
 returns-2 : tie.Need-returns-2
 returns-2 c =
     let at-wide = c .before .before .before in

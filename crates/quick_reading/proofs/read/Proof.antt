@@ -7,9 +7,9 @@ use borrow.Author.Tests.{not-true, not-false}
 use Rattle.chart.proofs.Users.{all-zero}
 use Rattle.sparse.proofs.Coded.{shape-of}
 use Rattle.right_pass.proofs.Given.{given-of, lefting-of, righting-of}
-use Rattle.parser.proofs.Finished.{staged, tables-of, finished, not-read}
-use Rattle.parser.proofs.choose.Statement.{statement}
-use Rattle.parser.proofs.choose.Tie as tie
+use Rattle.quick_reading.proofs.Finished.{staged, tables-of, finished, not-read}
+use Rattle.quick_reading.proofs.read.Statement.{statement}
+use Rattle.quick_reading.proofs.read.Tie as tie
 
 slice-aggregate-code-rules : tie.Need-slice-aggregate-code-rules
 slice-aggregate-code-rules c = search needs
@@ -96,12 +96,9 @@ slice-aggregate-walk-2 c = search needs
 slice-aggregate-walk-3 : tie.Need-slice-aggregate-walk-3
 slice-aggregate-walk-3 c = search needs
 
-slice-aggregate-walk-4 : tie.Need-slice-aggregate-walk-4
-slice-aggregate-walk-4 c = search needs
-
 walk-requires : tie.Need-walk-requires
 walk-requires c κs =
-    let at-fill = c .before .before .before .before .before .before .before .before in
+    let at-fill = c .before .before .before .before .before .before .before in
     let at-notes = at-fill .before .before .before .before .before .before in
     let at-right = at-notes .before .before .before .before in
     let at-rules = at-right .before .before .before .before .before .before .before .before .before in
@@ -109,11 +106,7 @@ walk-requires c κs =
     let code = at-rules .code-rules .ensures (pre .grammar) (pre .ready) in
     let stages = staged pre (omega (arith, at-rules .code-rules .kept .1 .1 .1 .0)) (at-fill .fill .kept .1 .1 .1 .1 .1 .0)
     (at-right .right .ensures) (at-notes .note-rules .ensures) in
-    record {
-      tables = finished code stages (at-fill .fill .ensures);
-      room = pre .numbers;
-      stack = search needs;
-    }
+    (finished code stages (at-fill .fill .ensures), pre .numbers)
 
 same-length : tie.Need-same-length
 same-length c = search needs
@@ -124,8 +117,8 @@ same-length-2 c = search needs
 returns-2 : tie.Need-returns-2
 unfolding finished
 returns-2 c =
-    let at-walk = c .before .before .before in
-    let at-fill = at-walk .before .before .before .before .before .before .before .before .before in
+    let at-walk = c .before .before in
+    let at-fill = at-walk .before .before .before .before .before .before .before .before in
     let at-notes = at-fill .before .before .before .before .before .before in
     let at-right = at-notes .before .before .before .before in
     let at-rules = at-right .before .before .before .before .before .before .before .before .before in
@@ -134,8 +127,8 @@ returns-2 c =
     (at-right .right .ensures) (at-notes .note-rules .ensures) in
     λ g w. at-walk .walk .ensures (finished (at-rules .code-rules .ensures g w) stages (at-fill .fill .ensures))
 
-pub choose-spec : {M : Type 1} → statement M
-choose-spec =
+pub read-spec : {M : Type 1} → statement M
+read-spec =
     tie.close
     (tie.spec
     slice-aggregate-code-rules
@@ -157,7 +150,6 @@ choose-spec =
     slice-aggregate-walk
     slice-aggregate-walk-2
     slice-aggregate-walk-3
-    slice-aggregate-walk-4
     walk-requires
     same-length
     same-length-2
