@@ -8,8 +8,8 @@ ghost use Rattle.text.specs.Limits.{grammarTable, recordChars, mostSize};
 ghost use Rattle.answer.specs.Answer.{Job, tableNeed};
 ghost use Rattle.answer.specs.Answer.{job};
 ghost use Rattle.text.specs.Stages.{diagnosticOf};
-ghost use Rattle.job.specs.Stages.{takenOf, begunOf, Takes, Started, Opens, lending, Begins, BeginsBy};
-ghost use Rattle.job.specs.Found.{whyNot, foundOf, Readable, Ends};
+ghost use Rattle.job.specs.Stages.{takenOf, begunOf, Takes, Started, Opens, Small, needOf, lendingOf, Begins, BeginsBy};
+ghost use Rattle.job.specs.Found.{whyNot, foundOf, Readable, Prepared, Ends};
 ghost use Rattle.job.specs.Parses.{whyRefused, Lent, Parses};
 use accept::Accepted;
 use accept::Rules;
@@ -91,10 +91,26 @@ fn open_job(grammar: &[u8], record: &[u8], table: &mut [u32], text: &mut [u32]) 
     Begun::At(Start { rules, chars })
 }
 
-// 15: the first table is shorter than its need, or the second too short.
-fn lend(start: Start, first: usize, need: usize, second: usize) -> Begun
-    ensures { λ r. ⌜ r ≡ lending start (ltb first need || ltb second grammarTable) ⌝ }
+// The same of a job that is opened.
+fn need_of(opened: Begun) -> usize
+    requires { ⌜ Small opened ⌝ }
+    ensures { λ r. ⌜ r ≡ needOf opened ⌝ }
 {
+    let Begun::At(start) = opened else {
+        return 0;
+    };
+    let rules = start.rules;
+    let chars = start.chars;
+    need(rules.size, chars.0)
+}
+
+// 15: the first table is shorter than its need, or the second too short. A refusal stays.
+fn lend(opened: Begun, first: usize, need: usize, second: usize) -> Begun
+    ensures { λ r. ⌜ r ≡ lendingOf opened (ltb first need || ltb second grammarTable) ⌝ }
+{
+    let Begun::At(start) = opened else {
+        return opened;
+    };
     if first < need {
         return Begun::Refused(text::plain(refusals::TABLE_TOO_SHORT));
     }
@@ -117,13 +133,8 @@ fn begin(
     ensures { λ r. ⌜ Begins (job (now (grammar .entry)) (now («record» .entry)) main second) (now (table .exit)) (now (text .exit)) r ⌝ }
 {
     let opened = open_job(grammar, record, table, text);
-    let Begun::At(start) = opened else {
-        return Begun::Refused(why_begun(opened));
-    };
-    let rules = start.rules;
-    let chars = start.chars;
-    let need = need(rules.size, chars.0);
-    lend(start, main, need, second)
+    let need = need_of(opened);
+    lend(opened, main, need, second)
 }
 
 // The same of a job whose list of so many numbers is judged: the first table is the scratch.
@@ -141,10 +152,7 @@ pub fn begin_list(
     ensures { λ r. ⌜ BeginsBy (λ g r. 2 * numbers) (job (now (grammar .entry)) (now («record» .entry)) scratch second) (now (table .exit)) (now (text .exit)) r ⌝ }
 {
     let opened = open_job(grammar, record, table, text);
-    let Begun::At(start) = opened else {
-        return Begun::Refused(why_begun(opened));
-    };
-    lend(start, scratch, 2 * numbers, second)
+    lend(opened, scratch, 2 * numbers, second)
 }
 
 // The chosen reading: how many numbers it has, and whether there is a second derivation.
@@ -263,6 +271,44 @@ pub struct Lending {
     pub plain: bool,
 }
 
+// 16 and 29 of a job that is begun. A refusal stays.
+fn read_begun(
+    begun: Begun,
+    plain: bool,
+    table: &[u32],
+    text: &[u32],
+    main: &mut [u32],
+    parse: &mut [u32],
+) -> Parse
+    requires { ⌜ Prepared begun (now table) (now text) (length (now main)) (length (now parse)) ⌝ }
+    ensures { λ r. ⌜ ((j : Job) → Begins j (now (table .entry)) (now (text .entry)) begun
+        → Parses j (now (table .entry)) (now (text .entry)) (now (parse .exit)) r) ⌝ }
+{
+    let Begun::At(start) = begun else {
+        return Parse::Refused(Refusal {
+            why: why_begun(begun),
+            mismatch: false,
+        });
+    };
+    let mismatch = start.rules.mismatch;
+    let root = start.rules.root;
+    let chars = start.chars;
+    let read = read_record(plain, table, start, text, main, parse);
+    let Read::Reading(found) = read else {
+        return Parse::Refused(Refusal {
+            why: why_read(read),
+            mismatch,
+        });
+    };
+    Parse::Chosen(LeftParse {
+        root,
+        count: found.count,
+        chars,
+        ambiguous: found.ambiguous,
+        mismatch,
+    })
+}
+
 // All stages: 1 to 16, 24 and 29. The table takes the grammar's tokens and plain rules, `text` the record's characters, `parse` the
 // left parse of the chosen reading.
 pub fn parse_record(
@@ -278,27 +324,5 @@ pub fn parse_record(
     ensures { λ r. ⌜ Parses (job (now (grammar .entry)) (now («record» .entry)) (length (now (main .entry))) (lending .second)) (now (table .exit)) (now (text .exit)) (now (parse .exit)) r ⌝ }
 {
     let begun = begin(grammar, record, main.len(), lending.second, table, text);
-    let Begun::At(start) = begun else {
-        return Parse::Refused(Refusal {
-            why: why_begun(begun),
-            mismatch: false,
-        });
-    };
-    let mismatch = start.rules.mismatch;
-    let root = start.rules.root;
-    let chars = start.chars;
-    let read = read_record(lending.plain, table, start, text, main, parse);
-    let Read::Reading(found) = read else {
-        return Parse::Refused(Refusal {
-            why: why_read(read),
-            mismatch,
-        });
-    };
-    Parse::Chosen(LeftParse {
-        root,
-        count: found.count,
-        chars,
-        ambiguous: found.ambiguous,
-        mismatch,
-    })
+    read_begun(begun, lending.plain, table, text, main, parse)
 }
