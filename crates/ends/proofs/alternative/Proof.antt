@@ -1,0 +1,90 @@
+use borrow.Author.Needs.{needs}
+use native.Mathlib.Omega.{arith}
+use mathlib.Core.Bool.{Bool, true, false}
+use mathlib.Core.Path.{_≡_, refl, sym, ap, subst, _∙_}
+use mathlib.Core.List.{List}
+use mathlib.Core.Logic.{_⊎_, inl, inr, ⊎-elim}
+use Prim.Native.Nat.{ℕ, _+_, _*_, _-_, _/_, _%_, _^_, _<_, _≤_}
+use lib.ListN.{length, getD}
+use Rattle.bits.specs.Bits.{Lit, Has}
+use Rattle.chart.specs.Code.{nextKind}
+use Rattle.ends.specs.Spans.{OnList, Steps, here}
+use Rattle.ends.specs.Table.{Ground, Sound}
+use Rattle.ends.proofs.Reach.{list-inside}
+use Rattle.ends.proofs.Cells.{row-of, none-has}
+use Rattle.ends.proofs.Laws.{moved-steps, finished-sound}
+use Rattle.ends.proofs.alternative.Statement.{statement}
+use Rattle.ends.proofs.alternative.Tie as tie
+
+abbrev Inv-loop : tie.InvT-loop
+Inv-loop code marks main s q size n cur₀ p₀ cur p = (p < s .size) × ((L : List ℕ) → Ground code L marks (s .size) (s .n) (length main) → OnList L (s .rule) q → Sound code L marks (s .size) (s .n) (s .m) (s .size) main → (x : ℕ) → Has cur x → Steps code L marks (s .n) q (s .m) p x)
+
+abbrev μ-loop : tie.MeasureT-loop
+μ-loop code marks main s q size n cur₀ p₀ cur p = size - p
+
+put-requires : tie.Need-put-requires Inv-loop μ-loop
+put-requires c κs = omega (arith, c .before .before .before .before .pre .on, c .before .before .before .before .pre .ground .short)
+
+loop-holds : tie.Need-loop-holds Inv-loop μ-loop
+loop-holds c = (list-inside (c .before .before .before .before .before .pre .ground .linked) (c .before .before .before .before .before .pre .inside) _ (c .before .before .before .before .before .pre .listed), λ L g o s x h. ⊎-elim (λ z. absurd (none-has x z)) (λ e. subst (λ (y : ℕ). Steps (c .before .before .before .before .before .args .code .now) L (c .before .before .before .before .before .args .marks .now) (c .before .before .before .before .before .args .s .n) (c .before .before .before .before .before .args .q) (c .before .before .before .before .before .args .s .m) (c .before .before .before .before .before .args .q) y) (sym e) here) (c .put .ensures x h))
+
+mul-if1 : tie.Need-mul-if1 Inv-loop μ-loop
+mul-if1 c = search needs
+
+mul-if1-2 : tie.Need-mul-if1-2 Inv-loop μ-loop
+mul-if1-2 c = search needs
+
+shared-slice-read-if1 : tie.Need-shared-slice-read-if1 Inv-loop μ-loop
+shared-slice-read-if1 c = omega (arith, c .before .loop .inv .0, c .before .before .before .before .before .before .before .pre .ground .shape .room)
+
+step-requires : tie.Need-step-requires Inv-loop μ-loop
+step-requires c κs = (record { shape = c .before .before .before .before .before .before .before .before .before .before .before .pre .ground .shape; short = c .before .before .before .before .before .before .before .before .before .before .before .pre .ground .short; marks-long = c .before .before .before .before .before .before .before .before .before .before .before .pre .ground .marks-long; room = c .before .before .before .before .before .before .before .before .before .before .before .pre .ground .room; inside = c .before .before .before .before .before .loop .inv .0 }, none-has)
+
+none-requires : tie.Need-none-requires Inv-loop μ-loop
+none-requires c κs = search needs
+
+same-length : tie.Need-same-length Inv-loop μ-loop
+same-length c = refl
+
+returns : tie.Need-returns Inv-loop μ-loop
+returns c = record { long = refl; sound = λ L g o s. s }
+
+add-p : tie.Need-add-p Inv-loop μ-loop
+add-p c = search needs
+
+loop-less : tie.Need-loop-less Inv-loop μ-loop
+loop-less c = omega (arith, c .before .before .before .before .before .before .before .before .before .loop .inv .0)
+
+loop-again : tie.Need-loop-again Inv-loop μ-loop
+loop-again c = (c .before .before .before .before .before .before .before .before .before .before .before .before .before .before .before .pre .ground .shape .nexts _ (c .before .before .before .before .before .before .before .before .before .loop .inv .0) (c .before .before .before .before .before .before .before .if1 .taken), λ L g o s x h. moved-steps g (c .before .before .before .before .before .before .before .before .before .before .before .before .before .before .before .pre .on) (c .before .before .before .before .before .before .before .before .before .before .before .before .before .before .before .pre .inside) o (c .before .before .before .before .before .before .before .before .before .before .before .before .before .before .before .pre .begins) s (c .before .before .before .before .before .before .before .before .before .loop .inv .1 L g o s) x (c .before .before .before .step .ensures x h))
+
+finish-requires : tie.Need-finish-requires Inv-loop μ-loop
+finish-requires c κs = (row-of (c .before .before .before .before .before .before .before .before .before .before .pre .ground .shape .small) (c .before .before .before .before .before .before .before .before .before .before .pre .inside) (c .before .before .before .before .before .before .before .before .before .before .pre .ground .short) (c .before .before .before .before .before .before .before .before .before .before .pre .ground .room), c .before .before .before .before .before .before .before .before .before .before .pre .on)
+
+same-length-2 : tie.Need-same-length-2 Inv-loop μ-loop
+same-length-2 c = c .before .before .finish .ensures .long
+
+returns-2 : tie.Need-returns-2 Inv-loop μ-loop
+returns-2 c = record { long = c .before .before .finish .ensures .long; sound = λ L g o s. finished-sound g (c .before .before .before .before .before .before .before .before .before .before .before .before .before .pre .on) (c .before .before .before .before .before .before .before .before .before .before .before .before .before .pre .inside) o (c .before .before .before .before .before .before .before .before .before .before .before .before .before .pre .begins) s (c .before .before .before .before .before .if1 .left) (c .before .before .before .before .before .before .before .loop .inv .1 L g o s) (c .before .before .finish .ensures) }
+
+pub alternative-spec : {M : Type 1} → statement M
+alternative-spec =
+    tie.close
+    (tie.spec
+    Inv-loop
+    μ-loop
+    put-requires
+    loop-holds
+    mul-if1
+    mul-if1-2
+    shared-slice-read-if1
+    step-requires
+    none-requires
+    same-length
+    returns
+    add-p
+    loop-less
+    loop-again
+    finish-requires
+    same-length-2
+    returns-2)

@@ -1,0 +1,45 @@
+use borrow.Author.Needs.{needs}
+use native.Mathlib.Omega.{arith}
+use mathlib.Core.Bool.{Bool, true, false}
+use mathlib.Core.Path.{_≡_, refl, sym, ap, subst, _∙_}
+use mathlib.Core.List.{List}
+use mathlib.Core.Logic.{_⊎_, inl, inr, ⊎-elim}
+use Prim.Native.Nat.{ℕ, _+_, _*_, _-_, _/_, _%_, _^_, _<_, _≤_}
+use lib.ListN.{length, getD}
+use Rattle.bits.specs.Bits.{Lit, Has}
+use borrow.Author.Tests.{not-false}
+use Rattle.ends.proofs.land.Statement.{statement}
+use Rattle.ends.proofs.land.Tie as tie
+
+returns : tie.Need-returns
+returns c = λ z h. inl h
+
+returns-2 : tie.Need-returns-2
+returns-2 c = λ z h. inl h
+
+returns-3 : tie.Need-returns-3
+returns-3 c = λ z h. inl h
+
+mul-if4 : tie.Need-mul-if4
+mul-if4 c = search needs
+
+add-if4 : tie.Need-add-if4
+add-if4 c = search needs
+
+shared-slice-read-if4 : tie.Need-shared-slice-read-if4
+shared-slice-read-if4 c = omega (arith, c .before .if3 .left, c .before .before .if2 .left, c .before .before .before .before .before .pre .0 .short, c .before .before .before .before .before .pre .0 .small, c .before .before .before .before .before .pre .0 .long)
+
+returns-4 : tie.Need-returns-4
+returns-4 c = λ z h. inl h
+
+add-put : tie.Need-add-put
+add-put c = search needs
+
+put-requires : tie.Need-put-requires
+put-requires c κs = omega (arith, c .before .before .before .if3 .left, c .before .before .before .before .if2 .left, c .before .before .before .before .before .before .before .pre .0 .short)
+
+returns-5 : tie.Need-returns-5
+returns-5 c = λ z h. ⊎-elim inl (λ e. inr (not-false _ (c .before .before .before .before .before .before .if1 .left), record { fits = c .before .before .if4 .left; within = omega (arith, c .before .before .before .before .if3 .left, c .before .before .before .before .before .if2 .left); is = e })) (c .put .ensures z h)
+
+pub land-spec : {M : Type 1} → statement M
+land-spec = tie.close (tie.spec returns returns-2 returns-3 mul-if4 add-if4 shared-slice-read-if4 returns-4 add-put put-requires returns-5)
