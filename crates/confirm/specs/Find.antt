@@ -9,7 +9,8 @@ use Rattle.text.specs.Lists.{Text}
 use Rattle.chart.specs.Heights.{stretches}
 use Rattle.reach.specs.Flags.{Reached, Begins}
 use Rattle.fault.specs.Firsts.{Tokened, Firsts}
-use Rattle.fault.specs.Far.{Begun}
+use Rattle.fault.specs.Far.{Begun, Ranging}
+use Rattle.bits.specs.Bits.{Lit}
 use Rattle.ends.specs.Spans.{Flows}
 use Rattle.confirm.specs.Stood.{Stood}
 use Rattle.confirm.specs.Sets.{Member}
@@ -65,3 +66,13 @@ pub record Confirmed (Tb : List ℕ) (R : Text) (c M : List ℕ) (size top r : �
   pub listed : Firsts Tb c size firsts
   pub is : (r ≡ 0) ⊎ ((p : ℕ) × (i : ℕ) × (p < size) × (i ≤ length R) × Stood c firsts M (length R) top p i × Touch Tb c R p i r)
   pub most : Bound Tb c R M size (length R + 1) r
+
+-- what is reached at the places of the number v of a set
+pub record Words (Tb c : List ℕ) (R : Text) (p v word best r : ℕ) : Type 0 where
+  pub within : best ≤ length R → r ≤ length R
+  pub is : (r ≡ best) ⊎ ((b : ℕ) × (b < 32) × Lit word b × (32 * v + b ≤ length R) × Touch Tb c R p (32 * v + b) r)
+
+-- what bounding goes by
+pub record Bounding (Tb c : List ℕ) (R : Text) (M : List ℕ) (size i : ℕ) : Type 0 where
+  pub ranging : Ranging Tb c R size i
+  pub long : length M ≡ 308736

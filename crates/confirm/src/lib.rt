@@ -9,7 +9,7 @@ ghost use Rattle.ends.specs.Table.{Ground};
 ghost use Rattle.fault.specs.Far.{Ranging};
 ghost use Rattle.confirm.specs.Stood.{Base};
 ghost use Rattle.confirm.specs.Sets.{Member, Joined, Told, Visiting, Visited, Following, Followed, Ran};
-ghost use Rattle.confirm.specs.Find.{One, Best, Bounds, Bound, Confirming, Confirmed};
+ghost use Rattle.confirm.specs.Find.{One, Words, Best, Bounding, Bounds, Bound, Confirming, Confirmed};
 use chart::AT_END;
 use chart::AT_SYMBOL;
 use chart::CODE_COLUMNS;
@@ -182,4 +182,124 @@ fn far_one(table: &[u32], code: &[u32], text: &[u32], s: Spot, on: bool, best: u
         return best;
     }
     reached
+}
+
+// Of all places of a number of the dot's set.
+fn far_word(table: &[u32], code: &[u32], text: &[u32], s: Spot, word: u32, best: usize) -> usize
+    requires { ⌜ Ranging (now table) (now code) (now text) (s .size) 0 × (s .p < s .size) × (s .x < 8) ⌝ }
+    ensures { λ r. ⌜ Words (now (table .entry)) (now (code .entry)) (now (text .entry)) (s .p) (s .x) word best r ⌝ }
+{
+    if word == 0 {
+        return best;
+    }
+    let size = s.size;
+    let p = s.p;
+    let v = s.x;
+    let mut far = best;
+    let mut b = 0u32;
+    while b < 32 {
+        let x = bits::PLACES * v + text::wide(b);
+        far = far_one(table, code, text, Spot { size, p, x }, bits::lit(word, b), far);
+        b += 1;
+    }
+    far
+}
+
+// Of the dot's set.
+fn far_row(table: &[u32], code: &[u32], text: &[u32], sets: &[u32; 8192], s: Spot, best: usize) -> usize
+    requires { ⌜ Ranging (now table) (now code) (now text) (s .size) 0 × (s .p < s .size) ⌝ }
+    ensures { λ r. ⌜ Best (now (table .entry)) (now (code .entry)) (now (text .entry)) (s .size) (now (sets .entry)) best r ⌝ }
+{
+    let size = s.size;
+    let p = s.p;
+    let mut far = best;
+    let mut x = 0;
+    while x < bits::SET {
+        far = far_word(table, code, text, Spot { size, p, x }, sets[bits::SET * p + x], far);
+        x += 1;
+    }
+    far
+}
+
+// How far dots surely reach.
+fn sure(table: &[u32], code: &[u32], text: &[u32], sets: &[u32; 8192], size: usize) -> usize
+    requires { ⌜ Ranging (now table) (now code) (now text) size 0 ⌝ }
+    ensures { λ r. ⌜ Best (now (table .entry)) (now (code .entry)) (now (text .entry)) size (now (sets .entry)) 0 r ⌝ }
+{
+    let mut far = 0;
+    let mut p = 0;
+    while p < size {
+        far = far_row(table, code, text, sets, Spot { size, p, x: 0 }, far);
+        p += 1;
+    }
+    far
+}
+
+// The greater of `best` and what the dot reaches at the place, if it is flagged.
+fn bound_one(table: &[u32], code: &[u32], text: &[u32], marks: &[u8], s: Spot, best: usize) -> usize
+    requires { ⌜ Bounding (now table) (now code) (now text) (now marks) (s .size) (s .x) × (s .p < s .size) ⌝ }
+    ensures { λ r. ⌜ Bounds (now (table .entry)) (now (code .entry)) (now (text .entry)) (now (marks .entry)) (s .x) (s .p) (s .p + 1) best r ⌝ }
+{
+    let p = s.p;
+    let x = s.x;
+    if marks[reach::PLACE * x + p] == 0 {
+        return best;
+    }
+    let reached = x + fault::begun(table, code, s.size, text, p, x);
+    if reached < best {
+        return best;
+    }
+    reached
+}
+
+fn bound_at(table: &[u32], code: &[u32], text: &[u32], marks: &[u8], s: Spot, best: usize) -> usize
+    requires { ⌜ Bounding (now table) (now code) (now text) (now marks) (s .size) (s .x) ⌝ }
+    ensures { λ r. ⌜ Bounds (now (table .entry)) (now (code .entry)) (now (text .entry)) (now (marks .entry)) (s .x) 0 (s .size) best r ⌝ }
+{
+    let size = s.size;
+    let x = s.x;
+    let mut far = best;
+    let mut p = 0;
+    while p < size {
+        far = bound_one(table, code, text, marks, Spot { size, p, x }, far);
+        p += 1;
+    }
+    far
+}
+
+// How far the flags let dots reach.
+fn bound(table: &[u32], code: &[u32], text: &[u32], marks: &[u8], size: usize) -> usize
+    requires { ⌜ Bounding (now table) (now code) (now text) (now marks) size 0 ⌝ }
+    ensures { λ r. ⌜ Bound (now (table .entry)) (now (code .entry)) (now (text .entry)) (now (marks .entry)) size (length (now (text .entry)) + 1) r ⌝ }
+{
+    let n = text.len();
+    let mut far = 0;
+    let mut x = 0;
+    while x <= n {
+        far = bound_at(table, code, text, marks, Spot { size, p: 0, x }, far);
+        x += 1;
+    }
+    far
+}
+
+// The place of the fault, or one behind the record where it cannot be told at once. Local are 40,960 bytes.
+pub fn find(table: &[u32], text: &[u32], code: &[u32], marks: &[u8], notes: &[u32], main: &mut [u32], root: fault::Root) -> CharPlace
+    requires { ⌜ Confirming (now table) (now text) (now code) (now marks) (now notes) (root .size) (root .n .0) (root .rule) (length (now main)) ⌝ }
+    ensures { λ r. ⌜ (length (now (main .exit)) ≡ length (now (main .entry)))
+        × (r .0 ≤ length (now (text .entry)) → Confirmed (now (table .entry)) (now (text .entry)) (now (code .entry)) (now (marks .entry)) (root .size) (root .rule) (r .0)) ⌝ }
+{
+    let size = root.size;
+    let n = root.n.0;
+    let rule = root.rule;
+    let mut firsts = [0u32; chart::USES_LENGTH];
+    fault::list_firsts(table, code, size, &mut firsts);
+    ends::fill(code, &firsts, notes, marks, main, size, n);
+    let mut sets = [0u32; 8192];
+    stand(code, &firsts, marks, main, &mut sets, Task { size, n, rule });
+    let far = sure(table, code, text, &sets, size);
+    let most = bound(table, code, text, marks, size);
+    if far == most {
+        return CharPlace(far);
+    }
+    CharPlace(n + 1)
 }
