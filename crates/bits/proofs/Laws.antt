@@ -20,7 +20,8 @@ odd-or x y h = go (ℕ-discrete (x % 2) 1)
     go (yes e) = inl e
     go (no n) =
         let z : x % 2 ≡ 0 = omega (arith, n) in
-        let e : bitOr x y ≡ bitOr (x / 2) (y / 2) * 2 + y % 2 = or-step x y ∙ ap (λ (v : ℕ). bitOr (x / 2) (y / 2) * 2 + max v (y % 2)) z ∙ ap (λ (v : ℕ). bitOr (x / 2) (y / 2) * 2 + v) (zero-max (y % 2)) in
+        let e : bitOr x y ≡ bitOr (x / 2) (y / 2) * 2 + y % 2 = or-step x y ∙ ap (λ (v : ℕ). bitOr (x / 2) (y / 2) * 2 + max v (y % 2)) z ∙ ap
+        (λ (v : ℕ). bitOr (x / 2) (y / 2) * 2 + v) (zero-max (y % 2)) in
         inr (omega (arith, e, h))
 
 odd-and : (x y : ℕ) → bitAnd x y % 2 ≡ 1 → (x % 2 ≡ 1) × (y % 2 ≡ 1)
@@ -30,14 +31,16 @@ odd-and x y h = (left (ℕ-discrete (x % 2) 1), right (ℕ-discrete (y % 2) 1))
     left (yes e) = e
     left (no n) =
         let z : x % 2 ≡ 0 = omega (arith, n) in
-        let e : bitAnd x y ≡ bitAnd (x / 2) (y / 2) * 2 + 0 = and-step x y ∙ ap (λ (v : ℕ). bitAnd (x / 2) (y / 2) * 2 + min v (y % 2)) z ∙ ap (λ (v : ℕ). bitAnd (x / 2) (y / 2) * 2 + v) (zero-min (y % 2)) in
+        let e : bitAnd x y ≡ bitAnd (x / 2) (y / 2) * 2 + 0 = and-step x y ∙ ap (λ (v : ℕ). bitAnd (x / 2) (y / 2) * 2 + min v (y % 2)) z ∙ ap
+        (λ (v : ℕ). bitAnd (x / 2) (y / 2) * 2 + v) (zero-min (y % 2)) in
         absurd (omega (arith, e, h))
 
     right : Dec (y % 2 ≡ 1) → y % 2 ≡ 1
     right (yes e) = e
     right (no n) =
         let z : y % 2 ≡ 0 = omega (arith, n) in
-        let e : bitAnd x y ≡ bitAnd (x / 2) (y / 2) * 2 + 0 = and-step x y ∙ ap (λ (v : ℕ). bitAnd (x / 2) (y / 2) * 2 + min (x % 2) v) z ∙ ap (λ (v : ℕ). bitAnd (x / 2) (y / 2) * 2 + v) (min-zero (x % 2)) in
+        let e : bitAnd x y ≡ bitAnd (x / 2) (y / 2) * 2 + 0 = and-step x y ∙ ap (λ (v : ℕ). bitAnd (x / 2) (y / 2) * 2 + min (x % 2) v) z ∙ ap
+        (λ (v : ℕ). bitAnd (x / 2) (y / 2) * 2 + v) (min-zero (x % 2)) in
         absurd (omega (arith, e, h))
 
 pub lit-or : {a b k : ℕ} → Lit (bitOr a b) k → Lit a k ⊎ Lit b k

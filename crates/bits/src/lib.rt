@@ -83,8 +83,7 @@ pub fn put(set: &mut [u32; 8], x: usize)
 }
 
 // Whether there is nothing in the set.
-pub fn none(set: &[u32; 8]) -> bool
-{
+pub fn none(set: &[u32; 8]) -> bool {
     let mut all = 0;
     let mut v = 0;
     while v < SET {

@@ -38,7 +38,8 @@ use Rattle.ends.proofs.Reach.{list-inside, arrived}
 use Rattle.confirm.specs.Stood.{Stood, at-first, entering, past-terminal, past-symbol}
 use Rattle.confirm.specs.Find.{Touch, Bound, Confirmed}
 
-module _ {Tb c M : List ℕ} {R : Text} {size top first : ℕ} {g : Grammar} (k : Ruled (Token Tb) c g size top first) (shape : Shape c size) (left : LeftClosed (Token Tb) c R size top M) (only : FitsOnly (Token Tb) c R size M) where
+module _ {Tb c M : List ℕ} {R : Text} {size top first : ℕ} {g : Grammar} (k : Ruled (Token Tb) c g size top first) (shape : Shape c size) (left : LeftClosed (Token Tb) c R size top M)
+    (only : FitsOnly (Token Tb) c R size M) where
   abbrev n : ℕ
   n = length R
 
@@ -110,7 +111,11 @@ module _ {Tb c M : List ℕ} {R : Text} {size top first : ℕ} {g : Grammar} (k 
         go : On (Token Tb) c g dots (k .heads) p → Led q x (p + 1) (j + goesAt c p)
         go (at-end v e) = absurd (omega (arith, v, z))
         go (at-symbol s v b e m r d) = absurd (omega (arith, v, z))
-        go (at-terminal u v b e r a) = record { on = λ d m t. w .on (leaf (j + width u) d) m (subst (λ (ss : List Symbol). Derives g R (leaf (j + width u) d) ss j m) (sym e) (d-leaf (only p j u h l z y a) (subst (λ (i : ℕ). Derives g R d (afterDot dots (p + 1)) (j + i) m) r t))) }
+        go (at-terminal u v b e r a) = record {
+          on = λ d m t. w .on (leaf (j + width u) d) m
+              (subst (λ (ss : List Symbol). Derives g R (leaf (j + width u) d) ss j m) (sym e)
+              (d-leaf (only p j u h l z y a) (subst (λ (i : ℕ). Derives g R d (afterDot dots (p + 1)) (j + i) m) r t)));
+        }
 
     over-symbol : (q x p j m : ℕ) → p < size → nextKind c p ≡ 2 → ((u : Symbol) → alts g (headOf g (k .heads) (ruleAt c p)) ≡ alts g u → Node u j m) → Led q x p j → Led q x (p + 1) m
     over-symbol q x p j m h z y w = go (k .stands p h)
@@ -118,7 +123,10 @@ module _ {Tb c M : List ℕ} {R : Text} {size top first : ℕ} {g : Grammar} (k 
         go : On (Token Tb) c g dots (k .heads) p → Led q x (p + 1) m
         go (at-end v e) = absurd (omega (arith, v, z))
         go (at-terminal u v b e r a) = absurd (omega (arith, v, z))
-        go (at-symbol s v b e t r a) = record { on = λ d i u. (let t = y s a in let row = node (t .number) m (t .row) d in w .on row i (subst (λ (ss : List Symbol). Derives g R row ss j i) (sym e) (d-node (t .exists) (t .derives) u))) }
+        go (at-symbol s v b e t r a) = record {
+          on = λ d i u. (let t = y s a in let row = node (t .number) m (t .row) d in w .on row i
+              (subst (λ (ss : List Symbol). Derives g R row ss j i) (sym e) (d-node (t .exists) (t .derives) u)));
+        }
 
     -- steps are derivations
     led : {q x p j : ℕ} (e : ℕ) → e < size → x ≤ n → OnList L e q → Begins M e x → Steps c L M n q x p j → Led q x p j

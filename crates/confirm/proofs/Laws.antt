@@ -78,7 +78,8 @@ module _ {c L M : List ℕ} {n top : ℕ} {S S' C : List ℕ} (s : Told c L M n 
   pub told-rule : {row : ℕ} (e : ℕ) → row ≡ 512 + e → Joined S S' row C → ((x : ℕ) → x < 256 → Has C x → (q : ℕ) → OnList L e q → Stood c L M n top q x) → Told c L M n top S'
   told-rule {row} e i j f = record {
     dots = λ q x l m. ⊎-elim (s .dots q x l) (λ z. absurd (omega (arith, z .0, i, l))) (j .is q x m);
-    rules = λ e' x l m q o. ⊎-elim (λ y. s .rules e' x l y q o) (λ z. f x (m .low) (z .1) q (subst (λ (y : ℕ). OnList L y q) (let w : e' ≡ e = omega (arith, z .0, i) in w) o)) (j .is (512 + e') x m);
+    rules = λ e' x l m q o. ⊎-elim (λ y. s .rules e' x l y q o) (λ z. f x (m .low) (z .1) q (subst (λ (y : ℕ). OnList L y q) (let w : e' ≡ e = omega (arith, z .0, i) in w) o))
+        (j .is (512 + e') x m);
   }
 
 pub ran-start : {c L M : List ℕ} {size n : ℕ} {t S : List ℕ} → Ran c L M size n t S S

@@ -22,7 +22,8 @@ module _ {Tb c : List ℕ} {R : Text} where
   pub words-start : {p v word best : ℕ} → Words Tb c R p v word best best
   words-start = record { within = λ h. h; is = inl refl }
 
-  pub words-next : {p v word best r s b x : ℕ} {on : Bool} → b < 32 → x ≡ 32 * v + b → (on ≡ true → Lit word b) → Words Tb c R p v word best r → One Tb c R p x on r s → Words Tb c R p v word best s
+  pub words-next : {p v word best r s b x : ℕ} {on : Bool} → b < 32 → x ≡ 32 * v + b → (on ≡ true → Lit word b) → Words Tb c R p v word best r → One Tb c R p x on r s
+      → Words Tb c R p v word best s
   words-next {p} {v} {word} {best} {r} {s} {b} {x} {on} h i f w o = record {
     within = λ l. o .within (w .within l);
     is = ⊎-elim (λ e. old e (w .is)) (λ z. inr (b, h, f (z .0), omega (arith, z .1, i), subst (λ (y : ℕ). Touch Tb c R p y s) i (z .2))) (o .is);
@@ -37,7 +38,11 @@ module _ {Tb c : List ℕ} {R : Text} where
   best-start = record { within = λ h. h; is = inl refl }
 
   pub best-join : {size : ℕ} {S : List ℕ} {a r s : ℕ} → Best Tb c R size S a r → Best Tb c R size S r s → Best Tb c R size S a s
-  best-join {size} {S} {a} {r} {s} v w = record { within = λ l. w .within (v .within l); is = ⊎-elim (λ e. ⊎-elim (λ q. inl (e ∙ q)) (λ q. inr (subst (Hit Tb c R size S) (sym e) q)) (v .is)) inr (w .is) }
+  best-join {size} {S} {a} {r} {s} v w = record {
+    within = λ l. w .within (v .within l);
+    is = ⊎-elim
+        (λ e. ⊎-elim (λ q. inl (e ∙ q)) (λ q. inr (subst (Hit Tb c R size S) (sym e) q)) (v .is)) inr (w .is);
+  }
 
   pub words-best : {size : ℕ} (S : List ℕ) {p v a r : ℕ} → p < size → v < 8 → Words Tb c R p v (getD S (8 * p + v) 0) a r → Best Tb c R size S a r
   words-best {size} S {p} {v} {a} {r} h l w = record { within = w .within; is = ⊎-elim inl (λ z. inr (hit z)) (w .is) }
@@ -61,7 +66,11 @@ module _ {Tb c : List ℕ} {R : Text} where
     bounds-none {i} {p} f = record { low = omega arith; most = λ q k h l u t. absurd (f (subst (λ (y : ℕ). Reached M y i) (let z : q ≡ p = omega (arith, h, l) in z) u)) }
 
     pub bounds-one : {size i p best r b : ℕ} → Ranging Tb c R size i → p < size → Begun Tb c R p i b → best ≤ r → i + b ≤ r → Bounds Tb c R M i p (p + 1) best r
-    bounds-one {i = i} {p} {r = r} {b} g h e l m = record { low = l; most = λ q k lo hi u t. (let y = subst (λ (z : ℕ). Begun Tb c R z i (t .count)) (let z : q ≡ p = omega (arith, lo, hi) in z) (t .begun) in omega (arith, one-begun g h e y, t .is, m)) }
+    bounds-one {i = i} {p} {r = r} {b} g h e l m = record {
+      low = l;
+      most = λ q k lo hi u t.
+          (let y = subst (λ (z : ℕ). Begun Tb c R z i (t .count)) (let z : q ≡ p = omega (arith, lo, hi) in z) (t .begun) in omega (arith, one-begun g h e y, t .is, m));
+    }
 
     pub bounds-start : {i a best : ℕ} → Bounds Tb c R M i a a best best
     bounds-start = record { low = omega arith; most = λ q k h l. absurd (omega (arith, h, l)) }
@@ -86,11 +95,20 @@ module _ {Tb c : List ℕ} {R : Text} where
             w .most p k (omega arith) h (subst (Reached M p) e u) (subst (λ (y : ℕ). Touch Tb c R p y k) e t)
 
   -- what is surely reached, and by nothing farther
-  pub confirmed : {L M S : List ℕ} {size n top r m : ℕ} → n ≡ length R → size ≤ 512 → Firsts Tb c size L → Told c L M n top S → Best Tb c R size S 0 r → Bound Tb c R M size (length R + 1) m → r ≡ m → Confirmed Tb R c M size top r
+  pub confirmed : {L M S : List ℕ} {size n top r m : ℕ} → n ≡ length R → size ≤ 512 → Firsts Tb c size L → Told c L M n top S → Best Tb c R size S 0 r → Bound Tb c R M size
+      (length R + 1) m → r ≡ m → Confirmed Tb R c M size top r
   confirmed {L} {M} {S} {size} {n} {top} {r} {m} e h f s w b q = record {
     firsts = L;
     listed = f;
-    is = ⊎-elim inl (λ z. inr (z .dot, z .place, z .inside, z .on, subst (λ (y : ℕ). Stood c L M y top (z .dot) (z .place)) e (s .dots (z .dot) (z .place) (omega (arith, z .inside, h)) (z .member)), z .touch)) (w .is);
+    is = ⊎-elim inl (λ z. inr (
+      z .dot,
+      z .place,
+      z .inside,
+      z .on,
+      subst (λ (y : ℕ). Stood c L M y top (z .dot) (z .place)) e
+          (s .dots (z .dot) (z .place) (omega (arith, z .inside, h)) (z .member)),
+      z .touch,
+    )) (w .is);
     most = subst (Bound Tb c R M size (length R + 1)) (sym q) b;
   }
 

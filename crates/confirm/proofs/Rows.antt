@@ -17,8 +17,12 @@ has-at C {v} {x} e l = record { lit = subst (λ (k : ℕ). Lit (getD C k 0) (x %
 pub joined-start : {S C : List ℕ} {row : ℕ} → Joined S S row C
 joined-start = record { is = λ q x m. inl m }
 
-pub joined-step : {S₀ S C : List ℕ} {row v at r : ℕ} → v < 8 → at ≡ 8 * row + v → Joined S₀ S row C → ((x : ℕ) → x / 32 ≡ v → Lit r (x % 32) → Lit (getD S at 0) (x % 32) ⊎ Has C x) → Joined S₀ (set S at r) row C
-joined-step {S₀} {S} {C} {row} {v} {at} {r} h i j f = record { is = λ q x m. ⊎-elim (new q x (m .low)) (λ z. j .is q x (record { low = m .low; lit = z })) (lit-stored S at (8 * q + x / 32) (m .lit)) }
+pub joined-step : {S₀ S C : List ℕ} {row v at r : ℕ} → v < 8 → at ≡ 8 * row + v → Joined S₀ S row C → ((x : ℕ) → x / 32 ≡ v → Lit r (x % 32) → Lit (getD S at 0) (x % 32) ⊎ Has C x)
+    → Joined S₀ (set S at r) row C
+joined-step {S₀} {S} {C} {row} {v} {at} {r} h i j f = record {
+  is = λ q x m. ⊎-elim (new q x (m .low)) (λ z. j .is q x (record { low = m .low; lit = z }))
+      (lit-stored S at (8 * q + x / 32) (m .lit));
+}
   where
     new : (q x : ℕ) → x < 256 → (8 * q + x / 32 ≡ at) × Lit r (x % 32) → Member S₀ q x ⊎ ((q ≡ row) × Has C x)
     new q x low z =

@@ -82,7 +82,14 @@ fn take_row(sets: &[u32; 8192], row: usize, cur: &mut [u32; 8])
 }
 
 // The dot p stands at the places of the set; those that are new are left. If a symbol is after it, its rule begins there.
-fn visit(code: &[u32], sets: &mut [u32; 8192], queue: &mut [u32; 1026], size: usize, p: usize, cur: &mut [u32; 8]) -> bool
+fn visit(
+    code: &[u32],
+    sets: &mut [u32; 8192],
+    queue: &mut [u32; 1026],
+    size: usize,
+    p: usize,
+    cur: &mut [u32; 8],
+) -> bool
     requires { ⌜ Visiting (now code) size p ⌝ }
     ensures { λ r. ⌜ Visited (now (code .entry)) p (now (sets .entry)) (now (sets .exit)) (now (cur .entry)) (now (cur .exit)) r ⌝ }
 {
@@ -104,7 +111,15 @@ fn visit(code: &[u32], sets: &mut [u32; 8192], queue: &mut [u32; 1026], size: us
 }
 
 // From where the rule begins, over the alternative that begins at q.
-fn follow(code: &[u32], marks: &[u8], main: &[u32], sets: &mut [u32; 8192], queue: &mut [u32; 1026], t: Task, q: usize)
+fn follow(
+    code: &[u32],
+    marks: &[u8],
+    main: &[u32],
+    sets: &mut [u32; 8192],
+    queue: &mut [u32; 1026],
+    t: Task,
+    q: usize,
+)
     requires { ⌜ Following (now code) (now marks) (t .size) (t .n) (t .rule) q (now main) ⌝ }
     ensures { λ _. ⌜ Followed (now (code .entry)) (now (marks .entry)) (t .size) (t .n) (t .rule) q (now (main .entry)) (now (sets .entry)) (now (sets .exit)) ⌝ }
 {
@@ -122,7 +137,15 @@ fn follow(code: &[u32], marks: &[u8], main: &[u32], sets: &mut [u32; 8192], queu
 }
 
 // Over all alternatives on the rule's list.
-fn follow_all(code: &[u32], firsts: &[u32], marks: &[u8], main: &[u32], sets: &mut [u32; 8192], queue: &mut [u32; 1026], t: Task)
+fn follow_all(
+    code: &[u32],
+    firsts: &[u32],
+    marks: &[u8],
+    main: &[u32],
+    sets: &mut [u32; 8192],
+    queue: &mut [u32; 1026],
+    t: Task,
+)
     requires { ⌜ Ground (now code) (now firsts) (now marks) (t .size) (t .n) (length (now main)) × (t .rule < t .size) ⌝ }
     ensures { λ _. ⌜ Ran (now (code .entry)) (now (firsts .entry)) (now (marks .entry)) (t .size) (t .n) (now (main .entry)) (now (sets .entry)) (now (sets .exit)) ⌝ }
 {
@@ -135,7 +158,15 @@ fn follow_all(code: &[u32], firsts: &[u32], marks: &[u8], main: &[u32], sets: &m
 }
 
 // All rules of the queue, and those that come into it.
-fn run(code: &[u32], firsts: &[u32], marks: &[u8], main: &[u32], sets: &mut [u32; 8192], queue: &mut [u32; 1026], t: Task)
+fn run(
+    code: &[u32],
+    firsts: &[u32],
+    marks: &[u8],
+    main: &[u32],
+    sets: &mut [u32; 8192],
+    queue: &mut [u32; 1026],
+    t: Task,
+)
     requires { ⌜ Ground (now code) (now firsts) (now marks) (t .size) (t .n) (length (now main)) ⌝ }
     ensures { λ _. ⌜ Ran (now (code .entry)) (now (firsts .entry)) (now (marks .entry)) (t .size) (t .n) (now (main .entry)) (now (sets .entry)) (now (sets .exit)) ⌝ }
 {
@@ -147,7 +178,15 @@ fn run(code: &[u32], firsts: &[u32], marks: &[u8], main: &[u32], sets: &mut [u32
         if size <= rule {
             return;
         }
-        follow_all(code, firsts, marks, main, sets, queue, Task { size, n, rule });
+        follow_all(
+            code,
+            firsts,
+            marks,
+            main,
+            sets,
+            queue,
+            Task { size, n, rule },
+        );
         turns += 1;
     }
 }
@@ -199,14 +238,28 @@ fn far_word(table: &[u32], code: &[u32], text: &[u32], s: Spot, word: u32, best:
     let mut b = 0u32;
     while b < 32 {
         let x = bits::PLACES * v + text::wide(b);
-        far = far_one(table, code, text, Spot { size, p, x }, bits::lit(word, b), far);
+        far = far_one(
+            table,
+            code,
+            text,
+            Spot { size, p, x },
+            bits::lit(word, b),
+            far,
+        );
         b += 1;
     }
     far
 }
 
 // Of the dot's set.
-fn far_row(table: &[u32], code: &[u32], text: &[u32], sets: &[u32; 8192], s: Spot, best: usize) -> usize
+fn far_row(
+    table: &[u32],
+    code: &[u32],
+    text: &[u32],
+    sets: &[u32; 8192],
+    s: Spot,
+    best: usize,
+) -> usize
     requires { ⌜ Ranging (now table) (now code) (now text) (s .size) 0 × (s .p < s .size) ⌝ }
     ensures { λ r. ⌜ Best (now (table .entry)) (now (code .entry)) (now (text .entry)) (s .size) (now (sets .entry)) best r ⌝ }
 {
@@ -215,7 +268,14 @@ fn far_row(table: &[u32], code: &[u32], text: &[u32], sets: &[u32; 8192], s: Spo
     let mut far = best;
     let mut x = 0;
     while x < bits::SET {
-        far = far_word(table, code, text, Spot { size, p, x }, sets[bits::SET * p + x], far);
+        far = far_word(
+            table,
+            code,
+            text,
+            Spot { size, p, x },
+            sets[bits::SET * p + x],
+            far,
+        );
         x += 1;
     }
     far
@@ -283,7 +343,15 @@ fn bound(table: &[u32], code: &[u32], text: &[u32], marks: &[u8], size: usize) -
 }
 
 // The place of the fault, or one behind the record where it cannot be told at once. Local are 40,960 bytes.
-pub fn find(table: &[u32], text: &[u32], code: &[u32], marks: &[u8], notes: &[u32], main: &mut [u32], root: fault::Root) -> CharPlace
+pub fn find(
+    table: &[u32],
+    text: &[u32],
+    code: &[u32],
+    marks: &[u8],
+    notes: &[u32],
+    main: &mut [u32],
+    root: fault::Root,
+) -> CharPlace
     requires { ⌜ Confirming (now table) (now text) (now code) (now marks) (now notes) (root .size) (root .n .0) (root .rule) (length (now main)) ⌝ }
     ensures { λ r. ⌜ (length (now (main .exit)) ≡ length (now (main .entry)))
         × (r .0 ≤ length (now (text .entry)) → Confirmed (now (table .entry)) (now (text .entry)) (now (code .entry)) (now (marks .entry)) (root .size) (root .rule) (r .0)) ⌝ }
@@ -295,7 +363,14 @@ pub fn find(table: &[u32], text: &[u32], code: &[u32], marks: &[u8], notes: &[u3
     fault::list_firsts(table, code, size, &mut firsts);
     ends::fill(code, &firsts, notes, marks, main, size, n);
     let mut sets = [0u32; 8192];
-    stand(code, &firsts, marks, main, &mut sets, Task { size, n, rule });
+    stand(
+        code,
+        &firsts,
+        marks,
+        main,
+        &mut sets,
+        Task { size, n, rule },
+    );
     let far = sure(table, code, text, &sets, size);
     let most = bound(table, code, text, marks, size);
     if far == most {

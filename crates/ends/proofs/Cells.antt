@@ -16,7 +16,12 @@ use Rattle.heights.proofs.Cells.{cell-inj}
 use Rattle.ends.specs.Table.{columnOf, Derived, Row, Gathered, Masked, Worded, Passed, Finished, Cleared}
 
 pub row-of : {size e n main : ℕ} → size ≤ 512 → e < size → n ≤ 200 → size * stretches n ≤ main → Row n e main
-row-of {size} {e} {n} {main} small h short room = record { short = short; small = omega arith; room = (let z : (e + 1) * stretches n ≤ size * stretches n = mul-le-mul-right (stretches n) (omega arith) in omega (arith, z, room)) }
+row-of {size} {e} {n} {main} small h short room = record {
+  short = short;
+  small = omega arith;
+  room =
+      (let z : (e + 1) * stretches n ≤ size * stretches n = mul-le-mul-right (stretches n) (omega arith) in omega (arith, z, room));
+}
 
 pub none-has : (x : ℕ) → Has (replicate 8 0) x → ⊥
 none-has x h = lit-zero (all-zero 8 (x / 32)) (h .lit)
@@ -45,7 +50,8 @@ gathered-none = record { is = λ k h. absurd (lit-zero refl h) }
 pub gathered-next : {t O : List ℕ} {at b r s : ℕ} → Gathered t at O b r → ((k : ℕ) → Lit s k → Lit r k ⊎ (Lit (getD t (at + b) 0) k × (getD O b 0 ≡ 0 → ⊥))) → Gathered t at O (b + 1) s
 gathered-next {b = b} g f = record { is = λ k h. ⊎-elim (λ z. (let y = g .is k z in (y .0, omega (arith, y .1), y .2, y .3))) (λ z. (b, omega arith, z .1, z .0)) (f k h) }
 
-pub masked-step : {n : ℕ} {t O : List ℕ} {e v w at count g r : ℕ} (S : List ℕ) → at ≡ cellAt n e (32 * v) (columnOf n w) → w ≤ n / 32 → v ≤ w → (count ≤ 32) × (32 * v + count ≤ n + 1) → Gathered t at O count g
+pub masked-step : {n : ℕ} {t O : List ℕ} {e v w at count g r : ℕ} (S : List ℕ) → at ≡ cellAt n e (32 * v) (columnOf n w) → w ≤ n / 32 → v ≤ w → (count ≤ 32) × (32 * v + count ≤ n + 1)
+    → Gathered t at O count g
     → ((k : ℕ) → Lit r k → Lit (getD S w 0) k ⊎ Lit g k) → (x : ℕ) → Has (set S w r) x → Has S x ⊎ Masked n t e v O x
 masked-step {n} {t} {O} {e} {v} {w} {at} {count} {g} {r} S i h l c d f x y = ⊎-elim new (λ z. inl (record { lit = z })) (lit-stored S w (x / 32) (y .lit))
   where
@@ -66,20 +72,25 @@ masked-step {n} {t} {O} {e} {v} {w} {at} {count} {g} {r} S i h l c d f x y = ⊎
         }
           where
             over : (b : ℕ) → cellAt n e (32 * v) (columnOf n w) + b ≡ cellAt n e (32 * v + b) (columnOf n (x / 32))
-            over b = let y : cellAt n e (32 * v) (columnOf n w) + b ≡ cellAt n e (32 * v + b) (columnOf n w) = omega arith in y ∙ ap (λ (k : ℕ). cellAt n e (32 * v + b) (columnOf n k)) (sym (z .0))
+            over b = let y : cellAt n e (32 * v) (columnOf n w) + b ≡ cellAt n e (32 * v + b) (columnOf n w) = omega arith in y ∙ ap (λ (k : ℕ). cellAt n e (32 * v + b) (columnOf n k))
+                (sym (z .0))
 
 pub masked-word : {n : ℕ} {t O : List ℕ} {e v word x : ℕ} → ((b : ℕ) → b < 32 → (getD O b 0 ≡ 0 → ⊥) → Lit word b) → Masked n t e v O x → Worded n t e v word x
 masked-word f m = record { b = m .b; low = m .low; on = m .on; lit = f (m .b) (m .low) (m .lit); derived = m .derived }
 
 pub bit-has : (S : List ℕ) (v b : ℕ) → b < 32 → Lit (getD S v 0) b → Has S (32 * v + b)
-bit-has S v b h l = record { lit = subst (λ (k : ℕ). Lit (getD S k 0) ((32 * v + b) % 32)) (let z : v ≡ (32 * v + b) / 32 = omega arith in z) (subst (λ (k : ℕ). Lit (getD S v 0) k) (let z : b ≡ (32 * v + b) % 32 = omega arith in z) l) }
+bit-has S v b h l = record {
+  lit = subst (λ (k : ℕ). Lit (getD S k 0) ((32 * v + b) % 32)) (let z : v ≡ (32 * v + b) / 32 = omega arith in z)
+      (subst (λ (k : ℕ). Lit (getD S v 0) k) (let z : b ≡ (32 * v + b) % 32 = omega arith in z) l);
+}
 
 pub word-passed : {n : ℕ} {t : List ℕ} {e v x : ℕ} (S : List ℕ) → Worded n t e v (getD S v 0) x → Passed n t e S x
 word-passed {v = v} S m = record { from = 32 * v + m .b; on = m .on; has = bit-has S v (m .b) (m .low) (m .lit); derived = m .derived }
 
 -- a number is stored in the rule's row at m
 module _ {n e m w at : ℕ} (hm : m ≤ n) (hw : w ≤ n / 32) (lo : m / 32 ≤ w) (i : at ≡ cellAt n e m (columnOf n w)) where
-  pub stored : {t : List ℕ} {r e' x j : ℕ} → x ≤ n → Derived n (set t at r) e' x j → Derived n t e' x j ⊎ ((e' ≡ e) × (x ≡ m) × (j / 32 ≡ w) × Lit r (j % 32) × (cellAt n e' x (columnOf n (j / 32)) ≡ at))
+  pub stored : {t : List ℕ} {r e' x j : ℕ} → x ≤ n → Derived n (set t at r) e' x j → Derived n t e' x j ⊎
+      ((e' ≡ e) × (x ≡ m) × (j / 32 ≡ w) × Lit r (j % 32) × (cellAt n e' x (columnOf n (j / 32)) ≡ at))
   stored {t} {r} {e'} {x} {j} hx d = ⊎-elim one (λ z. inl (record { order = d .order; inside = d .inside; lit = z })) (lit-stored t at (cellAt n e' x (columnOf n (j / 32))) (d .lit))
     where
       one : (cellAt n e' x (columnOf n (j / 32)) ≡ at) × Lit r (j % 32) → Derived n t e' x j ⊎ ((e' ≡ e) × (x ≡ m) × (j / 32 ≡ w) × Lit r (j % 32) × (cellAt n e' x (columnOf n (j / 32)) ≡ at))
@@ -92,7 +103,8 @@ module _ {n e m w at : ℕ} (hm : m ≤ n) (hw : w ≤ n / 32) (lo : m / 32 ≤ 
   pub finish-step : {t₀ t S : List ℕ} {r : ℕ} → Finished n t₀ t e m S → ((k : ℕ) → Lit r k → Lit (getD t at 0) k ⊎ Lit (getD S w 0) k) → Finished n t₀ (set t at r) e m S
   finish-step {t₀} {t} {S} {r} f g = record { long = length-set t at r ∙ f .long; is = λ e' x j hx d. ⊎-elim (f .is e' x j hx) (new e' x j hx d) (stored hx d) }
     where
-      new : (e' x j : ℕ) → x ≤ n → Derived n (set t at r) e' x j → (e' ≡ e) × (x ≡ m) × (j / 32 ≡ w) × Lit r (j % 32) × (cellAt n e' x (columnOf n (j / 32)) ≡ at) → Derived n t₀ e' x j ⊎ ((e' ≡ e) × (x ≡ m) × Has S j)
+      new : (e' x j : ℕ) → x ≤ n → Derived n (set t at r) e' x j → (e' ≡ e) × (x ≡ m) × (j / 32 ≡ w) × Lit r (j % 32) × (cellAt n e' x (columnOf n (j / 32)) ≡ at)
+          → Derived n t₀ e' x j ⊎ ((e' ≡ e) × (x ≡ m) × Has S j)
       new e' x j hx d z =
           ⊎-elim (λ u. f .is e' x j hx (record { order = d .order; inside = d .inside; lit = subst (λ (k : ℕ). Lit (getD t k 0) (j % 32)) (sym (z .4)) u }))
           (λ u. inr (z .0, z .1, record { lit = subst (λ (k : ℕ). Lit (getD S k 0) (j % 32)) (sym (z .2)) u })) (g (j % 32) (z .3))

@@ -37,14 +37,17 @@ module _ {c L M : List ℕ} {size n main m e q : ℕ} (g : Ground c L M size n m
   pub moved-steps : {t S : List ℕ} {p : ℕ} → Sound c L M size n m size t → ((x : ℕ) → Has S x → Steps c L M n q m p x) → (z : ℕ) → Moved c M n t p S z → Steps c L M n q m (p + 1) z
   moved-steps s f z w = moved-one s (f (w .from) (w .has)) (w .move)
 
-  pub finished-sound : {t t' S : List ℕ} {p : ℕ} → Sound c L M size n m size t → nextKind c p ≡ 0 → ((x : ℕ) → Has S x → Steps c L M n q m p x) → Finished n t t' e m S → Sound c L M size n m size t'
+  pub finished-sound : {t t' S : List ℕ} {p : ℕ} → Sound c L M size n m size t → nextKind c p ≡ 0 → ((x : ℕ) → Has S x → Steps c L M n q m p x) → Finished n t t' e m S
+      → Sound c L M size n m size t'
   finished-sound {t} {S = S} {p = p} s k f w = record { is = λ e' x j h l u v d. ⊎-elim (s .is e' x j h l u v) (new e' x j) (w .is e' x j l d) }
     where
       new : (e' x j : ℕ) → (e' ≡ e) × (x ≡ m) × Has S j → Spans c L M n e' x j
-      new e' x j z = subst (λ (v : ℕ). Spans c L M n v x j) (sym (z .0)) (subst (λ (v : ℕ). Spans c L M n e v j) (sym (z .1)) (record { first = q; last = p; listed = o; steps = f j (z .2); end = k }))
+      new e' x j z = subst (λ (v : ℕ). Spans c L M n v x j) (sym (z .0)) (subst (λ (v : ℕ). Spans c L M n e v j) (sym (z .1))
+          (record { first = q; last = p; listed = o; steps = f j (z .2); end = k }))
 
 -- one alternative more
-pub tried-next : {c L M : List ℕ} {size n m e q : ℕ} {t₀ t t' : List ℕ} → Ground c L M size n (length t₀) → OnList L e q → Settled c L M size n m t₀ t → Tried c M size n m e q t t' → Settled c L M size n m t₀ t'
+pub tried-next : {c L M : List ℕ} {size n m e q : ℕ} {t₀ t t' : List ℕ} → Ground c L M size n (length t₀) → OnList L e q → Settled c L M size n m t₀ t → Tried c M size n m e q t t'
+    → Settled c L M size n m t₀ t'
 tried-next {c} {L} {M} {size} {n} g o s w = record { long = w .long ∙ s .long; sound = w .sound L (subst (Ground c L M size n) (sym (s .long)) g) o (s .sound) }
 
 pub ground-as : {c L M : List ℕ} {size n a b : ℕ} → b ≡ a → Ground c L M size n a → Ground c L M size n b
@@ -61,14 +64,26 @@ settling-as s w = record { ground = ground-as (w .long) (s .ground); sound = w .
 
 -- the row of a rule that may not begin is begun; so is one that was cleared
 pub opened-none : {M : List ℕ} {size n m e : ℕ} {t : List ℕ} → (Begins M e m → ⊥) → Opened M size n m e (e + 1) t t
-opened-none {M} {size} {n} {m} {e} {t} f = record { long = refl; sound = λ c L s. record { is = λ e' x j h l b u d. ⊎-elim (λ z. s .is e' x j h l b (inl z) d) (λ z. go c L s e' x j h l b d (z .0) (z .1) (decLt e' e)) u } }
+opened-none {M} {size} {n} {m} {e} {t} f = record {
+  long = refl;
+  sound = λ c L s. record {
+    is = λ e' x j h l b u d. ⊎-elim (λ z. s .is e' x j h l b (inl z) d)
+        (λ z. go c L s e' x j h l b d (z .0) (z .1) (decLt e' e)) u;
+  };
+}
   where
     go : (c L : List ℕ) → Sound c L M size n m e t → (e' x j : ℕ) → e' < size → x ≤ n → Begins M e' x → Derived n t e' x j → x ≡ m → e' < e + 1 → Dec (e' < e) → Spans c L M n e' x j
     go c L s e' x j h l b d p q (yes z) = s .is e' x j h l b (inr (p, z)) d
     go c L s e' x j h l b d p q (no z) = absurd (f (subst (λ (y : ℕ). Begins M y m) (let w : e' ≡ e = omega arith in w) (subst (Begins M e') p b)))
 
 pub opened-clear : {M : List ℕ} {size n m e : ℕ} {t t' : List ℕ} → Cleared n t t' e m → Opened M size n m e (e + 1) t t'
-opened-clear {M} {size} {n} {m} {e} {t} {t'} w = record { long = w .long; sound = λ c L s. record { is = λ e' x j h l b u d. ⊎-elim (λ z. s .is e' x j h l b (inl z) (w .same e' x j l d)) (λ z. go c L s e' x j h l b d (z .0) (z .1) (decLt e' e)) u } }
+opened-clear {M} {size} {n} {m} {e} {t} {t'} w = record {
+  long = w .long;
+  sound = λ c L s. record {
+    is = λ e' x j h l b u d. ⊎-elim
+        (λ z. s .is e' x j h l b (inl z) (w .same e' x j l d)) (λ z. go c L s e' x j h l b d (z .0) (z .1) (decLt e' e)) u;
+  };
+}
   where
     go : (c L : List ℕ) → Sound c L M size n m e t → (e' x j : ℕ) → e' < size → x ≤ n → Begins M e' x → Derived n t' e' x j → x ≡ m → e' < e + 1 → Dec (e' < e) → Spans c L M n e' x j
     go c L s e' x j h l b d p q (yes z) = s .is e' x j h l b (inr (p, z)) (w .same e' x j l d)

@@ -136,7 +136,15 @@ fn land(marks: &[u8], p: usize, width: usize, n: usize, x: usize, on: bool, next
     bits::put(next, x + width);
 }
 
-fn shift_word(marks: &[u8], p: usize, width: usize, n: usize, v: usize, word: u32, next: &mut [u32; 8])
+fn shift_word(
+    marks: &[u8],
+    p: usize,
+    width: usize,
+    n: usize,
+    v: usize,
+    word: u32,
+    next: &mut [u32; 8],
+)
     requires { ⌜ Shifting (now marks) p width n × (v ≤ 6) ⌝ }
     ensures { λ _. ⌜ ((z : ℕ) → Has (now (next .exit)) z → Has (now (next .entry)) z ⊎ LandedBy (now (marks .entry)) p width n v word z) ⌝ }
 {
@@ -145,7 +153,15 @@ fn shift_word(marks: &[u8], p: usize, width: usize, n: usize, v: usize, word: u3
     }
     let mut b = 0u32;
     while b < 32 {
-        land(marks, p, width, n, bits::PLACES * v + text::wide(b), bits::lit(word, b), next);
+        land(
+            marks,
+            p,
+            width,
+            n,
+            bits::PLACES * v + text::wide(b),
+            bits::lit(word, b),
+            next,
+        );
         b += 1;
     }
 }
@@ -259,8 +275,7 @@ pub fn push(queue: &mut [u32; 1026], rule: usize)
 }
 
 // The first rule of the queue, which leaves it; or no rule's number.
-pub fn pop(queue: &mut [u32; 1026]) -> usize
-{
+pub fn pop(queue: &mut [u32; 1026]) -> usize {
     let count = queue[COUNT];
     if count == 0 {
         return RING;
@@ -312,7 +327,15 @@ fn wake(notes: &[u32], marks: &[u8], queue: &mut [u32; 1026], m: usize, rule: us
 }
 
 // One rule of the queue.
-fn turn(code: &[u32], firsts: &[u32], notes: &[u32], marks: &[u8], main: &mut [u32], queue: &mut [u32; 1026], s: Start)
+fn turn(
+    code: &[u32],
+    firsts: &[u32],
+    notes: &[u32],
+    marks: &[u8],
+    main: &mut [u32],
+    queue: &mut [u32; 1026],
+    s: Start,
+)
     requires { ⌜ Settling (now code) (now firsts) (now marks) (s .size) (s .n) (s .m) (now main) × (s .rule < s .size) × (length (now notes) ≡ 2048) ⌝ }
     ensures { λ _. ⌜ Settled (now (code .entry)) (now (firsts .entry)) (now (marks .entry)) (s .size) (s .n) (s .m) (now (main .entry)) (now (main .exit)) ⌝ }
 {
@@ -327,7 +350,15 @@ fn turn(code: &[u32], firsts: &[u32], notes: &[u32], marks: &[u8], main: &mut [u
 }
 
 // All rules of the queue, and those that are woken.
-fn settle(code: &[u32], firsts: &[u32], notes: &[u32], marks: &[u8], main: &mut [u32], queue: &mut [u32; 1026], s: Start)
+fn settle(
+    code: &[u32],
+    firsts: &[u32],
+    notes: &[u32],
+    marks: &[u8],
+    main: &mut [u32],
+    queue: &mut [u32; 1026],
+    s: Start,
+)
     requires { ⌜ Settling (now code) (now firsts) (now marks) (s .size) (s .n) (s .m) (now main) × (length (now notes) ≡ 2048) ⌝ }
     ensures { λ _. ⌜ Settled (now (code .entry)) (now (firsts .entry)) (now (marks .entry)) (s .size) (s .n) (s .m) (now (main .entry)) (now (main .exit)) ⌝ }
 {
@@ -340,7 +371,15 @@ fn settle(code: &[u32], firsts: &[u32], notes: &[u32], marks: &[u8], main: &mut 
         if size <= rule {
             return;
         }
-        turn(code, firsts, notes, marks, main, queue, Start { size, n, m, rule });
+        turn(
+            code,
+            firsts,
+            notes,
+            marks,
+            main,
+            queue,
+            Start { size, n, m, rule },
+        );
         turns += 1;
     }
 }
@@ -390,7 +429,15 @@ fn begin(marks: &[u8], main: &mut [u32], queue: &mut [u32; 1026], s: Start)
 }
 
 // The ends of all rules, wherever they may begin.
-pub fn fill(code: &[u32], firsts: &[u32], notes: &[u32], marks: &[u8], main: &mut [u32], size: usize, n: usize)
+pub fn fill(
+    code: &[u32],
+    firsts: &[u32],
+    notes: &[u32],
+    marks: &[u8],
+    main: &mut [u32],
+    size: usize,
+    n: usize,
+)
     requires { ⌜ Ground (now code) (now firsts) (now marks) size n (length (now main)) × (length (now notes) ≡ 2048) ⌝ }
     ensures { λ _. ⌜ Filled (now (code .entry)) (now (firsts .entry)) (now (marks .entry)) size n (now (main .entry)) (now (main .exit)) ⌝ }
 {

@@ -40,7 +40,8 @@ use Rattle.parser.specs.declared.Chosen.{Chosen}
 use Rattle.parser.specs.Chosen.{Fault, chosenOf, Fails, Chooses}
 
 -- what the sets are given, and what they say
-module _ {Tb c M : List ℕ} {R : Text} {size root top first main : ℕ} {r : Bool} {g : Grammar} (a : Locatable Tb size root R main) (k : Ruled (Token Tb) c g size top first) (l : length c ≡ 2048) (f : Lefted Tb c R size top M r) where
+module _ {Tb c M : List ℕ} {R : Text} {size root top first main : ℕ} {r : Bool} {g : Grammar} (a : Locatable Tb size root R main) (k : Ruled (Token Tb) c g size top first)
+    (l : length c ≡ 2048) (f : Lefted Tb c R size top M r) where
   code-tokened : Tokened Tb c size
   code-tokened =
       let room : 4 * size ≤ length c = omega (arith, a .small, l) in

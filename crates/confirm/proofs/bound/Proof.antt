@@ -22,7 +22,9 @@ loop-holds : tie.Need-loop-holds Inv-loop μ-loop
 loop-holds c = (omega arith, bound-start)
 
 bound-at-requires : tie.Need-bound-at-requires Inv-loop μ-loop
-bound-at-requires c κs = record { ranging = record { tokened = c .before .before .before .before .before .before .pre .ranging .tokened; short = c .before .before .before .before .before .before .pre .ranging .short; on = c .loop-test .taken }; long = c .before .before .before .before .before .before .pre .long }
+bound-at-requires c κs =
+    let start = c .before .before .before .before .before .before in
+    record { ranging = record { tokened = start .pre .ranging .tokened; short = start .pre .ranging .short; on = c .loop-test .taken }; long = start .pre .long }
 
 add-x : tie.Need-add-x Inv-loop μ-loop
 add-x c = omega (arith, c .before .loop-test .taken, c .before .before .before .before .before .before .before .pre .ranging .short)
@@ -34,7 +36,10 @@ loop-again : tie.Need-loop-again Inv-loop μ-loop
 loop-again c = (omega (arith, c .before .loop-test .taken), bound-next (c .before .before .loop .inv .1) (c .bound-at .ensures))
 
 returns : tie.Need-returns Inv-loop μ-loop
-returns c = subst (λ (k : ℕ). Bound (c .before .before .before .before .before .before .args .table .now) (c .before .before .before .before .before .before .args .code .now) (c .before .before .before .before .before .before .args .text .now) (c .before .before .before .before .before .before .args .marks .now) (c .before .before .before .before .before .before .args .size) k (c .before .loop .far)) (omega (arith, c .before .loop .inv .0, c .loop-test .left)) (c .before .loop .inv .1)
+returns c =
+    let start = c .before .before .before .before .before .before in
+    subst (λ (k : ℕ). Bound (start .args .table .now) (start .args .code .now) (start .args .text .now) (start .args .marks .now) (start .args .size) k (c .before .loop .far))
+    (omega (arith, c .before .loop .inv .0, c .loop-test .left)) (c .before .loop .inv .1)
 
 pub bound-spec : {M : Type 1} → statement M
 bound-spec = tie.close (tie.spec Inv-loop μ-loop loop-holds bound-at-requires add-x loop-less loop-again returns)

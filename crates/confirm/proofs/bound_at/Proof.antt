@@ -34,7 +34,10 @@ loop-again : tie.Need-loop-again Inv-loop μ-loop
 loop-again c = (omega (arith, c .before .loop-test .taken), bounds-join (c .before .before .loop .inv .1) (c .bound-one .ensures))
 
 returns : tie.Need-returns Inv-loop μ-loop
-returns c = subst (λ (k : ℕ). Bounds (c .before .before .before .before .before .before .args .table .now) (c .before .before .before .before .before .before .args .code .now) (c .before .before .before .before .before .before .args .text .now) (c .before .before .before .before .before .before .args .marks .now) (c .before .before .before .before .before .before .args .s .x) 0 k (c .before .before .before .before .before .before .args .best) (c .before .loop .far)) (omega (arith, c .before .loop .inv .0, c .loop-test .left)) (c .before .loop .inv .1)
+returns c =
+    let start = c .before .before .before .before .before .before in
+    subst (λ (k : ℕ). Bounds (start .args .table .now) (start .args .code .now) (start .args .text .now) (start .args .marks .now) (start .args .s .x) 0 k (start .args .best)
+    (c .before .loop .far)) (omega (arith, c .before .loop .inv .0, c .loop-test .left)) (c .before .loop .inv .1)
 
 pub bound-at-spec : {M : Type 1} → statement M
 bound-at-spec = tie.close (tie.spec Inv-loop μ-loop loop-holds bound-one-requires add-p loop-less loop-again returns)

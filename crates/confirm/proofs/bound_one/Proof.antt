@@ -15,10 +15,14 @@ mul-if1 : tie.Need-mul-if1
 mul-if1 c = omega (arith, c .before .before .before .before .pre .0 .ranging .on, c .before .before .before .before .pre .0 .ranging .short)
 
 add-if1 : tie.Need-add-if1
-add-if1 c = omega (arith, c .before .before .before .before .pre .0 .ranging .on, c .before .before .before .before .pre .0 .ranging .short, c .before .before .before .before .pre .1, c .before .before .before .before .pre .0 .ranging .tokened .shape .small)
+add-if1 c =
+    let start = c .before .before .before .before in
+    omega (arith, start .pre .0 .ranging .on, start .pre .0 .ranging .short, start .pre .1, start .pre .0 .ranging .tokened .shape .small)
 
 shared-slice-read-if1 : tie.Need-shared-slice-read-if1
-shared-slice-read-if1 c = omega (arith, c .before .before .before .before .before .pre .0 .ranging .on, c .before .before .before .before .before .pre .0 .ranging .short, c .before .before .before .before .before .pre .1, c .before .before .before .before .before .pre .0 .ranging .tokened .shape .small, c .before .before .before .before .before .pre .0 .long)
+shared-slice-read-if1 c =
+    let start = c .before .before .before .before .before in
+    omega (arith, start .pre .0 .ranging .on, start .pre .0 .ranging .short, start .pre .1, start .pre .0 .ranging .tokened .shape .small, start .pre .0 .long)
 
 returns : tie.Need-returns
 returns c = bounds-none (λ u. omega (arith, u, c .if1 .taken))
@@ -30,10 +34,14 @@ add-reached : tie.Need-add-reached
 add-reached c = omega (arith, c .begun .ensures .1, c .before .before .before .before .before .before .before .pre .0 .ranging .short)
 
 returns-2 : tie.Need-returns-2
-returns-2 c = bounds-one (c .before .before .before .before .before .before .before .before .pre .0 .ranging) (c .before .before .before .before .before .before .before .before .pre .1) (c .before .begun .ensures .0) (omega arith) (omega (arith, c .if2 .taken))
+returns-2 c =
+    let start = c .before .before .before .before .before .before .before .before in
+    bounds-one (start .pre .0 .ranging) (start .pre .1) (c .before .begun .ensures .0) (omega arith) (omega (arith, c .if2 .taken))
 
 returns-3 : tie.Need-returns-3
-returns-3 c = bounds-one (c .before .before .before .before .before .before .before .before .pre .0 .ranging) (c .before .before .before .before .before .before .before .before .pre .1) (c .before .begun .ensures .0) (c .if2 .left) (omega arith)
+returns-3 c =
+    let start = c .before .before .before .before .before .before .before .before in
+    bounds-one (start .pre .0 .ranging) (start .pre .1) (c .before .begun .ensures .0) (c .if2 .left) (omega arith)
 
 pub bound-one-spec : {M : Type 1} → statement M
 bound-one-spec = tie.close (tie.spec mul-if1 add-if1 shared-slice-read-if1 returns begun-requires add-reached returns-2 returns-3)

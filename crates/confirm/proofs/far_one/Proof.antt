@@ -18,7 +18,9 @@ returns-2 : tie.Need-returns-2
 returns-2 c = record { within = λ h. h; is = inl refl }
 
 begun-requires : tie.Need-begun-requires
-begun-requires c κs = (record { tokened = c .before .before .before .before .before .pre .0 .tokened; short = c .before .before .before .before .before .pre .0 .short; on = c .if2 .left }, c .before .before .before .before .before .pre .1)
+begun-requires c κs =
+    let start = c .before .before .before .before .before in
+    (record { tokened = start .pre .0 .tokened; short = start .pre .0 .short; on = c .if2 .left }, start .pre .1)
 
 add-reached : tie.Need-add-reached
 add-reached c = omega (arith, c .begun .ensures .1, c .before .before .before .before .before .before .pre .0 .short)
@@ -27,7 +29,20 @@ returns-3 : tie.Need-returns-3
 returns-3 c = record { within = λ h. h; is = inl refl }
 
 returns-4 : tie.Need-returns-4
-returns-4 c = record { within = λ h. c .before .begun .ensures .1; is = inr (not-false _ (c .before .before .before .if1 .left), c .before .before .if2 .left, record { count = c .before .begun .result; begun = c .before .begun .ensures .0; is = refl }) }
+returns-4 c =
+    let at-if1 = c .before .before .before in
+    record {
+      within = λ h. c .before .begun .ensures .1;
+      is = inr (
+        not-false _ (at-if1 .if1 .left),
+        c .before .before .if2 .left,
+        record {
+          count = c .before .begun .result;
+          begun = c .before .begun .ensures .0;
+          is = refl;
+        },
+      );
+    }
 
 pub far-one-spec : {M : Type 1} → statement M
 far-one-spec = tie.close (tie.spec returns returns-2 begun-requires add-reached returns-3 returns-4)

@@ -43,7 +43,10 @@ loop-less : tie.Need-loop-less Inv-loop μ-loop
 loop-less c = search needs
 
 loop-again : tie.Need-loop-again Inv-loop μ-loop
-loop-again c = best-join (c .before .before .before .loop .inv) (words-best (c .before .before .before .before .before .before .before .args .sets .now) (c .before .before .before .before .before .before .before .pre .1) (c .before .before .loop-test .taken) (c .far-word .ensures))
+loop-again c =
+    let at-loop = c .before .before .before in
+    let start = at-loop .before .before .before .before in
+    best-join (at-loop .loop .inv) (words-best (start .args .sets .now) (start .pre .1) (c .before .before .loop-test .taken) (c .far-word .ensures))
 
 returns : tie.Need-returns Inv-loop μ-loop
 returns c = c .before .loop .inv

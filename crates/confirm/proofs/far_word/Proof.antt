@@ -46,7 +46,12 @@ loop-less : tie.Need-loop-less Inv-loop μ-loop
 loop-less c = search needs
 
 loop-again : tie.Need-loop-again Inv-loop μ-loop
-loop-again c = words-next (c .before .before .before .loop-test .taken) (ap (λ (y : ℕ). 32 * c .before .before .before .before .before .before .before .before .before .args .s .x + y) (c .before .before .wide .ensures)) (c .before .lit .ensures) (c .before .before .before .before .loop .inv) (c .far-one .ensures)
+loop-again c =
+    let at-loop-test = c .before .before .before in
+    let at-loop = at-loop-test .before in
+    let start = at-loop .before .before .before .before .before in
+    words-next (at-loop-test .loop-test .taken) (ap (λ (y : ℕ). 32 * start .args .s .x + y) (c .before .before .wide .ensures)) (c .before .lit .ensures) (at-loop .loop .inv)
+    (c .far-one .ensures)
 
 returns-2 : tie.Need-returns-2 Inv-loop μ-loop
 returns-2 c = c .before .loop .inv

@@ -19,40 +19,73 @@ slice-aggregate-list-firsts : tie.Need-slice-aggregate-list-firsts
 slice-aggregate-list-firsts c = search needs
 
 list-firsts-requires : tie.Need-list-firsts-requires
-list-firsts-requires c κs = (c .before .before .before .before .before .before .before .pre .tokened, omega (arith, c .before .before .before .before .before .before .before .pre .tokened .shape .small, length-replicate {A = ℕ} 1024 0), all-zero 1024)
+list-firsts-requires c κs =
+    let start = c .before .before .before .before .before .before .before in
+    (start .pre .tokened, omega (arith, start .pre .tokened .shape .small, length-replicate {A = ℕ} 1024 0), all-zero 1024)
 
 slice-aggregate-fill : tie.Need-slice-aggregate-fill
 slice-aggregate-fill c = search needs
 
 fill-requires : tie.Need-fill-requires
-fill-requires c κs = (ground-for (c .before .before .before .before .before .before .before .before .before .before .before .pre) (c .before .before .before .list-firsts .ensures), c .before .before .before .before .before .before .before .before .before .before .before .pre .notes-long)
+fill-requires c κs =
+    let at-list-firsts = c .before .before .before in
+    let start = at-list-firsts .before .before .before .before .before .before .before .before in
+    (ground-for (start .pre) (at-list-firsts .list-firsts .ensures), start .pre .notes-long)
 
 slice-aggregate-stand : tie.Need-slice-aggregate-stand
 slice-aggregate-stand c = search needs
 
 stand-requires : tie.Need-stand-requires
-stand-requires c κs = (record { ground = ground-as (c .before .before .before .before .before .fill .ensures .long) (ground-for (c .before .before .before .before .before .before .before .before .before .before .before .before .before .before .before .before .before .pre) (c .before .before .before .before .before .before .before .before .before .list-firsts .ensures)); sound = c .before .before .before .before .before .fill .ensures .sound; root = c .before .before .before .before .before .before .before .before .before .before .before .before .before .before .before .before .before .pre .root; inside = c .before .before .before .before .before .before .before .before .before .before .before .before .before .before .before .before .before .pre .inside }, no-member)
+stand-requires c κs =
+    let at-fill = c .before .before .before .before .before in
+    let at-list-firsts = at-fill .before .before .before .before in
+    let start = at-list-firsts .before .before .before .before .before .before .before .before in (
+      record {
+        ground = ground-as (at-fill .fill .ensures .long) (ground-for (start .pre) (at-list-firsts .list-firsts .ensures));
+        sound = at-fill .fill .ensures .sound;
+        root = start .pre .root;
+        inside = start .pre .inside;
+      },
+      no-member,
+    )
 
 sure-requires : tie.Need-sure-requires
-sure-requires c κs = record { tokened = c .before .before .before .before .before .before .before .before .before .before .before .before .before .before .before .before .before .before .before .pre .tokened; short = c .before .before .before .before .before .before .before .before .before .before .before .before .before .before .before .before .before .before .before .pre .short; on = omega arith }
+sure-requires c κs =
+    let start = c .before .before .before .before .before .before .before .before .before .before .before .before .before .before .before .before .before .before .before in
+    record { tokened = start .pre .tokened; short = start .pre .short; on = omega arith }
 
 bound-requires : tie.Need-bound-requires
-bound-requires c κs = record { ranging = record { tokened = c .before .before .before .before .before .before .before .before .before .before .before .before .before .before .before .before .before .before .before .before .pre .tokened; short = c .before .before .before .before .before .before .before .before .before .before .before .before .before .before .before .before .before .before .before .before .pre .short; on = omega arith }; long = c .before .before .before .before .before .before .before .before .before .before .before .before .before .before .before .before .before .before .before .before .pre .marks-long }
+bound-requires c κs =
+    let start = c .before .before .before .before .before .before .before .before .before .before .before .before .before .before .before .before .before .before .before .before in
+    record { ranging = record { tokened = start .pre .tokened; short = start .pre .short; on = omega arith }; long = start .pre .marks-long }
 
 same-length : tie.Need-same-length
 same-length c = c .before .before .before .before .before .before .before .before .before .before .fill .ensures .long
 
 returns : tie.Need-returns
-returns c = (c .before .before .before .before .before .before .before .before .before .before .fill .ensures .long, λ h. confirmed (c .before .before .before .before .before .before .before .before .before .before .before .before .before .before .before .before .before .before .before .before .before .before .pre .long) (c .before .before .before .before .before .before .before .before .before .before .before .before .before .before .before .before .before .before .before .before .before .before .pre .tokened .shape .small) (c .before .before .before .before .before .before .before .before .before .before .before .before .before .before .list-firsts .ensures) (c .before .before .before .before .stand .ensures) (c .before .before .sure .ensures) (c .before .bound .ensures) (c .if1 .taken))
+returns c =
+    let at-stand = c .before .before .before .before in
+    let at-fill = at-stand .before .before .before .before .before .before in
+    let at-list-firsts = at-fill .before .before .before .before in
+    let start = at-list-firsts .before .before .before .before .before .before .before .before in (
+      at-fill .fill .ensures .long,
+      λ h. confirmed (start .pre .long) (start .pre .tokened .shape .small) (at-list-firsts .list-firsts .ensures) (at-stand .stand .ensures)
+          (c .before .before .sure .ensures) (c .before .bound .ensures) (c .if1 .taken),
+    )
 
 add-t30 : tie.Need-add-t30
-add-t30 c = omega (arith, c .before .before .before .before .before .before .before .before .before .before .before .before .before .before .before .before .before .before .before .before .before .before .pre .long, c .before .before .before .before .before .before .before .before .before .before .before .before .before .before .before .before .before .before .before .before .before .before .pre .short)
+add-t30 c =
+    let start = c .before .before .before .before .before .before .before .before .before .before .before .before .before .before .before .before .before .before .before .before .before .before in
+    omega (arith, start .pre .long, start .pre .short)
 
 same-length-2 : tie.Need-same-length-2
 same-length-2 c = c .before .before .before .before .before .before .before .before .before .before .fill .ensures .long
 
 returns-2 : tie.Need-returns-2
-returns-2 c = (c .before .before .before .before .before .before .before .before .before .before .fill .ensures .long, λ h. absurd (omega (arith, h, c .before .before .before .before .before .before .before .before .before .before .before .before .before .before .before .before .before .before .before .before .before .before .pre .long)))
+returns-2 c =
+    let at-fill = c .before .before .before .before .before .before .before .before .before .before in
+    let start = at-fill .before .before .before .before .before .before .before .before .before .before .before .before in
+    (at-fill .fill .ensures .long, λ h. absurd (omega (arith, h, start .pre .long)))
 
 pub find-spec : {M : Type 1} → statement M
 find-spec =

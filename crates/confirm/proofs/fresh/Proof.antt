@@ -64,7 +64,13 @@ loop-less : tie.Need-loop-less Inv-loop μ-loop
 loop-less c = search needs
 
 loop-again : tie.Need-loop-again Inv-loop μ-loop
-loop-again c = (joined-step (c .before .before .before .before .loop-test .taken) refl (c .before .before .before .before .before .loop .inv .0) (λ x e l. ⊎-elim inl (λ u. inr (c .before .before .before .before .before .loop .inv .1 x (has-at (c .before .before .before .before .before .loop .cur) e u))) (c .before .join .ensures (x % 32) l)), λ x h. c .before .before .before .before .before .loop .inv .1 x (less-step (c .before .before .before .before .before .loop .cur) (c .before .before .before .before .before .loop .v) (c .beyond .ensures) x h))
+loop-again c =
+    let at-loop-test = c .before .before .before .before in
+    let at-loop = at-loop-test .before in (
+      joined-step (at-loop-test .loop-test .taken) refl (at-loop .loop .inv .0) (λ x e l. ⊎-elim inl (λ u. inr (at-loop .loop .inv .1 x (has-at (at-loop .loop .cur) e u)))
+          (c .before .join .ensures (x % 32) l)),
+      λ x h. at-loop .loop .inv .1 x (less-step (at-loop .loop .cur) (at-loop .loop .v) (c .beyond .ensures) x h),
+    )
 
 returns : tie.Need-returns Inv-loop μ-loop
 returns c = c .before .loop .inv

@@ -58,7 +58,11 @@ loop-less : tie.Need-loop-less Inv-loop μ-loop
 loop-less c = search needs
 
 loop-again : tie.Need-loop-again Inv-loop μ-loop
-loop-again c = joined-step (c .before .before .before .before .loop-test .taken) refl (c .before .before .before .before .before .loop .inv) (λ x e l. ⊎-elim inl (λ u. inr (has-at (c .before .before .before .before .before .before .args .cur .now) e u)) (c .before .join .ensures (x % 32) l))
+loop-again c =
+    let at-loop-test = c .before .before .before .before in
+    let at-loop = at-loop-test .before in
+    let start = at-loop .before in
+    joined-step (at-loop-test .loop-test .taken) refl (at-loop .loop .inv) (λ x e l. ⊎-elim inl (λ u. inr (has-at (start .args .cur .now) e u)) (c .before .join .ensures (x % 32) l))
 
 returns : tie.Need-returns Inv-loop μ-loop
 returns c = c .before .loop .inv

@@ -17,19 +17,32 @@ put-requires : tie.Need-put-requires
 put-requires c κs = search needs
 
 add-join-row : tie.Need-add-join-row
-add-join-row c = omega (arith, c .before .before .before .before .before .before .before .before .pre .0 .inside, c .before .before .before .before .before .before .before .before .pre .0 .ground .shape .small)
+add-join-row c =
+    let start = c .before .before .before .before .before .before .before .before in
+    omega (arith, start .pre .0 .inside, start .pre .0 .ground .shape .small)
 
 join-row-requires : tie.Need-join-row-requires
-join-row-requires c κs = omega (arith, c .before .before .before .before .before .before .before .before .before .pre .0 .inside, c .before .before .before .before .before .before .before .before .before .pre .0 .ground .shape .small)
+join-row-requires c κs =
+    let start = c .before .before .before .before .before .before .before .before .before in
+    omega (arith, start .pre .0 .inside, start .pre .0 .ground .shape .small)
 
 push-requires : tie.Need-push-requires
-push-requires c κs = omega (arith, c .before .before .before .before .before .before .before .before .before .before .before .pre .0 .inside, c .before .before .before .before .before .before .before .before .before .before .before .pre .0 .ground .shape .small)
+push-requires c κs =
+    let start = c .before .before .before .before .before .before .before .before .before .before .before in
+    omega (arith, start .pre .0 .inside, start .pre .0 .ground .shape .small)
 
 run-requires : tie.Need-run-requires
 run-requires c κs = c .before .before .before .before .before .before .before .before .before .before .before .before .before .before .pre .0 .ground
 
 returns : tie.Need-returns
-returns c = c .run .ensures .told _ (c .before .before .before .before .before .before .before .before .before .before .before .before .before .before .before .pre .0) (told-rule (record { dots = λ p x l m. absurd (c .before .before .before .before .before .before .before .before .before .before .before .before .before .before .before .pre .1 p x m); rules = λ e x l m. absurd (c .before .before .before .before .before .before .before .before .before .before .before .before .before .before .before .pre .1 (512 + e) x m) }) _ refl (c .before .before .before .before .before .join-row .ensures) (λ x h y q o. ⊎-elim (λ z. absurd (none-has x z)) (λ z. subst (λ (i : ℕ). Stood (c .before .before .before .before .before .before .before .before .before .before .before .before .before .before .before .args .code .now) (c .before .before .before .before .before .before .before .before .before .before .before .before .before .before .before .args .firsts .now) (c .before .before .before .before .before .before .before .before .before .before .before .before .before .before .before .args .marks .now) (c .before .before .before .before .before .before .before .before .before .before .before .before .before .before .before .args .t .n) (c .before .before .before .before .before .before .before .before .before .before .before .before .before .before .before .args .t .rule) q i) (sym z) (at-first o)) (c .before .before .before .before .before .before .before .before .before .put .ensures x y)))
+returns c =
+    let at-join-row = c .before .before .before .before .before in
+    let at-put = at-join-row .before .before .before .before in
+    let start = at-put .before .before .before .before .before .before in
+    c .run .ensures .told _ (start .pre .0) (told-rule (record { dots = λ p x l m. absurd (start .pre .1 p x m); rules = λ e x l m. absurd (start .pre .1 (512 + e) x m) }) _ refl
+    (at-join-row .join-row .ensures) (λ x h y q o. ⊎-elim (λ z. absurd (none-has x z))
+    (λ z. subst (λ (i : ℕ). Stood (start .args .code .now) (start .args .firsts .now) (start .args .marks .now) (start .args .t .n) (start .args .t .rule) q i) (sym z)
+    (at-first o)) (at-put .put .ensures x y)))
 
 pub stand-spec : {M : Type 1} → statement M
 stand-spec = tie.close (tie.spec put-requires add-join-row join-row-requires push-requires run-requires returns)

@@ -46,7 +46,11 @@ loop-less : tie.Need-loop-less Inv-loop μ-loop
 loop-less c = search needs
 
 loop-again : tie.Need-loop-again Inv-loop μ-loop
-loop-again c = (omega (arith, c .before .loop-test .taken), take-step (c .before .before .before .args .sets .now) (c .before .before .loop .cur) (c .before .before .before .args .row) (c .before .before .loop .v) (c .before .loop-test .taken) (c .before .before .loop .inv .1))
+loop-again c = (
+  omega (arith, c .before .loop-test .taken),
+  take-step (c .before .before .before .args .sets .now) (c .before .before .loop .cur) (c .before .before .before .args .row)
+      (c .before .before .loop .v) (c .before .loop-test .taken) (c .before .before .loop .inv .1),
+)
 
 returns : tie.Need-returns Inv-loop μ-loop
 returns c = λ x h. c .before .loop .inv .1 x (omega (arith, h, c .before .loop .inv .0, c .loop-test .left))

@@ -31,7 +31,10 @@ column-requires : tie.Need-column-requires Inv-loop μ-loop
 column-requires c κs = (c .before .before .before .before .pre .0 .short, c .loop-test .taken)
 
 cell-requires : tie.Need-cell-requires Inv-loop μ-loop
-cell-requires c κs = let z = column-on _ _ (32 * c .before .before .before .before .before .args .v) (c .before .loop-test .taken) (omega (arith, c .before .before .before .before .before .pre .1)) (omega (arith, c .before .before .loop .inv .0)) in (c .before .before .before .before .before .pre .0 .short, c .before .before .before .before .before .pre .0 .small, omega (arith, c .column .ensures, z .0), omega (arith, c .column .ensures, z .1))
+cell-requires c κs =
+    let start = c .before .before .before .before .before in
+    let z = column-on _ _ (32 * start .args .v) (c .before .loop-test .taken) (omega (arith, start .pre .1)) (omega (arith, c .before .before .loop .inv .0)) in
+    (start .pre .0 .short, start .pre .0 .small, omega (arith, c .column .ensures, z .0), omega (arith, c .column .ensures, z .1))
 
 mul-join : tie.Need-mul-join Inv-loop μ-loop
 mul-join c = search needs
@@ -40,7 +43,15 @@ element-copy-out-join : tie.Need-element-copy-out-join Inv-loop μ-loop
 element-copy-out-join c = search needs
 
 gather-requires : tie.Need-gather-requires Inv-loop μ-loop
-gather-requires c κs = (c .before .before .before .before .before .lanes .ensures .0, lanes-inside (c .before .before .before .before .before .before .before .pre .0) (c .before .before .before .loop-test .taken) (c .before .before .before .before .loop .inv .0) (c .before .before .before .before .before .lanes .ensures .1) (c .before .before .before .before .before .lanes .ensures .0) (rw (c .before .before .column .ensures) at (c .before .cell .ensures)))
+gather-requires c κs =
+    let at-loop-test = c .before .before .before in
+    let at-loop = at-loop-test .before in
+    let at-lanes = at-loop .before in
+    let start = at-lanes .before .before in (
+      at-lanes .lanes .ensures .0,
+      lanes-inside (start .pre .0) (at-loop-test .loop-test .taken) (at-loop .loop .inv .0) (at-lanes .lanes .ensures .1) (at-lanes .lanes .ensures .0)
+          (rw (c .before .before .column .ensures) at (c .before .cell .ensures)),
+    )
 
 join-requires : tie.Need-join-requires Inv-loop μ-loop
 join-requires c κs = search needs
@@ -58,7 +69,17 @@ loop-less : tie.Need-loop-less Inv-loop μ-loop
 loop-less c = search needs
 
 loop-again : tie.Need-loop-again Inv-loop μ-loop
-loop-again c = (omega (arith, c .before .before .before .before .before .before .loop .inv .0), λ x h. ⊎-elim (c .before .before .before .before .before .before .loop .inv .1 x) inr (masked-step (c .before .before .before .before .before .before .loop .next) (rw (c .before .before .before .before .column .ensures) at (c .before .before .before .cell .ensures)) (c .before .before .before .before .before .loop-test .taken) (c .before .before .before .before .before .before .loop .inv .0) (c .before .before .before .before .before .before .before .lanes .ensures) (c .before .gather .ensures) (c .join .ensures) x h))
+loop-again c =
+    let at-cell = c .before .before .before in
+    let at-column = at-cell .before in
+    let at-loop-test = at-column .before in
+    let at-loop = at-loop-test .before in
+    let at-lanes = at-loop .before in (
+      omega (arith, at-loop .loop .inv .0),
+      λ x h. ⊎-elim (at-loop .loop .inv .1 x) inr
+          (masked-step (at-loop .loop .next) (rw (at-column .column .ensures) at (at-cell .cell .ensures)) (at-loop-test .loop-test .taken) (at-loop .loop .inv .0)
+          (at-lanes .lanes .ensures) (c .before .gather .ensures) (c .join .ensures) x h),
+    )
 
 returns : tie.Need-returns Inv-loop μ-loop
 returns c = c .before .loop .inv .1

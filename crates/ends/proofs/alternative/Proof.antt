@@ -17,7 +17,8 @@ use Rattle.ends.proofs.alternative.Statement.{statement}
 use Rattle.ends.proofs.alternative.Tie as tie
 
 abbrev Inv-loop : tie.InvT-loop
-Inv-loop code marks main s q size n cur₀ p₀ cur p = (p < s .size) × ((L : List ℕ) → Ground code L marks (s .size) (s .n) (length main) → OnList L (s .rule) q → Sound code L marks (s .size) (s .n) (s .m) (s .size) main → (x : ℕ) → Has cur x → Steps code L marks (s .n) q (s .m) p x)
+Inv-loop code marks main s q size n cur₀ p₀ cur p = (p < s .size) × ((L : List ℕ) → Ground code L marks (s .size) (s .n) (length main) → OnList L (s .rule) q → Sound code L marks
+    (s .size) (s .n) (s .m) (s .size) main → (x : ℕ) → Has cur x → Steps code L marks (s .n) q (s .m) p x)
 
 abbrev μ-loop : tie.MeasureT-loop
 μ-loop code marks main s q size n cur₀ p₀ cur p = size - p
@@ -26,7 +27,13 @@ put-requires : tie.Need-put-requires Inv-loop μ-loop
 put-requires c κs = omega (arith, c .before .before .before .before .pre .on, c .before .before .before .before .pre .ground .short)
 
 loop-holds : tie.Need-loop-holds Inv-loop μ-loop
-loop-holds c = (list-inside (c .before .before .before .before .before .pre .ground .linked) (c .before .before .before .before .before .pre .inside) _ (c .before .before .before .before .before .pre .listed), λ L g o s x h. ⊎-elim (λ z. absurd (none-has x z)) (λ e. subst (λ (y : ℕ). Steps (c .before .before .before .before .before .args .code .now) L (c .before .before .before .before .before .args .marks .now) (c .before .before .before .before .before .args .s .n) (c .before .before .before .before .before .args .q) (c .before .before .before .before .before .args .s .m) (c .before .before .before .before .before .args .q) y) (sym e) here) (c .put .ensures x h))
+loop-holds c =
+    let start = c .before .before .before .before .before in (
+      list-inside (start .pre .ground .linked) (start .pre .inside) _ (start .pre .listed),
+      λ L g o s x h. ⊎-elim (λ z. absurd (none-has x z))
+          (λ e. subst (λ (y : ℕ). Steps (start .args .code .now) L (start .args .marks .now) (start .args .s .n) (start .args .q) (start .args .s .m) (start .args .q) y) (sym e) here)
+          (c .put .ensures x h),
+    )
 
 mul-if1 : tie.Need-mul-if1 Inv-loop μ-loop
 mul-if1 c = search needs
@@ -38,7 +45,18 @@ shared-slice-read-if1 : tie.Need-shared-slice-read-if1 Inv-loop μ-loop
 shared-slice-read-if1 c = omega (arith, c .before .loop .inv .0, c .before .before .before .before .before .before .before .pre .ground .shape .room)
 
 step-requires : tie.Need-step-requires Inv-loop μ-loop
-step-requires c κs = (record { shape = c .before .before .before .before .before .before .before .before .before .before .before .pre .ground .shape; short = c .before .before .before .before .before .before .before .before .before .before .before .pre .ground .short; marks-long = c .before .before .before .before .before .before .before .before .before .before .before .pre .ground .marks-long; room = c .before .before .before .before .before .before .before .before .before .before .before .pre .ground .room; inside = c .before .before .before .before .before .loop .inv .0 }, none-has)
+step-requires c κs =
+    let at-loop = c .before .before .before .before .before in
+    let start = at-loop .before .before .before .before .before .before in (
+      record {
+        shape = start .pre .ground .shape;
+        short = start .pre .ground .short;
+        marks-long = start .pre .ground .marks-long;
+        room = start .pre .ground .room;
+        inside = at-loop .loop .inv .0;
+      },
+      none-has,
+    )
 
 none-requires : tie.Need-none-requires Inv-loop μ-loop
 none-requires c κs = search needs
@@ -56,16 +74,34 @@ loop-less : tie.Need-loop-less Inv-loop μ-loop
 loop-less c = omega (arith, c .before .before .before .before .before .before .before .before .before .loop .inv .0)
 
 loop-again : tie.Need-loop-again Inv-loop μ-loop
-loop-again c = (c .before .before .before .before .before .before .before .before .before .before .before .before .before .before .before .pre .ground .shape .nexts _ (c .before .before .before .before .before .before .before .before .before .loop .inv .0) (c .before .before .before .before .before .before .before .if1 .taken), λ L g o s x h. moved-steps g (c .before .before .before .before .before .before .before .before .before .before .before .before .before .before .before .pre .on) (c .before .before .before .before .before .before .before .before .before .before .before .before .before .before .before .pre .inside) o (c .before .before .before .before .before .before .before .before .before .before .before .before .before .before .before .pre .begins) s (c .before .before .before .before .before .before .before .before .before .loop .inv .1 L g o s) x (c .before .before .before .step .ensures x h))
+loop-again c =
+    let at-step = c .before .before .before in
+    let at-if1 = at-step .before .before .before .before in
+    let at-loop = at-if1 .before .before in
+    let start = at-loop .before .before .before .before .before .before in (
+      start .pre .ground .shape .nexts _ (at-loop .loop .inv .0) (at-if1 .if1 .taken),
+      λ L g o s x h. moved-steps g (start .pre .on) (start .pre .inside) o (start .pre .begins) s
+          (at-loop .loop .inv .1 L g o s) x (at-step .step .ensures x h),
+    )
 
 finish-requires : tie.Need-finish-requires Inv-loop μ-loop
-finish-requires c κs = (row-of (c .before .before .before .before .before .before .before .before .before .before .pre .ground .shape .small) (c .before .before .before .before .before .before .before .before .before .before .pre .inside) (c .before .before .before .before .before .before .before .before .before .before .pre .ground .short) (c .before .before .before .before .before .before .before .before .before .before .pre .ground .room), c .before .before .before .before .before .before .before .before .before .before .pre .on)
+finish-requires c κs =
+    let start = c .before .before .before .before .before .before .before .before .before .before in
+    (row-of (start .pre .ground .shape .small) (start .pre .inside) (start .pre .ground .short) (start .pre .ground .room), start .pre .on)
 
 same-length-2 : tie.Need-same-length-2 Inv-loop μ-loop
 same-length-2 c = c .before .before .finish .ensures .long
 
 returns-2 : tie.Need-returns-2 Inv-loop μ-loop
-returns-2 c = record { long = c .before .before .finish .ensures .long; sound = λ L g o s. finished-sound g (c .before .before .before .before .before .before .before .before .before .before .before .before .before .pre .on) (c .before .before .before .before .before .before .before .before .before .before .before .before .before .pre .inside) o (c .before .before .before .before .before .before .before .before .before .before .before .before .before .pre .begins) s (c .before .before .before .before .before .if1 .left) (c .before .before .before .before .before .before .before .loop .inv .1 L g o s) (c .before .before .finish .ensures) }
+returns-2 c =
+    let at-if1 = c .before .before .before .before .before in
+    let at-loop = at-if1 .before .before in
+    let start = at-loop .before .before .before .before .before .before in
+    record {
+      long = c .before .before .finish .ensures .long;
+      sound = λ L g o s. finished-sound g (start .pre .on) (start .pre .inside) o (start .pre .begins) s (at-if1 .if1 .left)
+          (at-loop .loop .inv .1 L g o s) (c .before .before .finish .ensures);
+    }
 
 pub alternative-spec : {M : Type 1} → statement M
 alternative-spec =

@@ -24,7 +24,15 @@ loop-holds : tie.Need-loop-holds Inv-loop μ-loop
 loop-holds c = (omega arith, opened-start)
 
 begin-at-requires : tie.Need-begin-at-requires Inv-loop μ-loop
-begin-at-requires c κs = record { row = row-of (c .before .before .before .before .before .before .pre .1) (c .before .before .loop-test .taken) (c .before .before .before .before .before .before .pre .2) (subst (λ (k : ℕ). c .before .before .before .before .before .before .args .s .size * stretches (c .before .before .before .before .before .before .args .s .n) ≤ k) (sym (c .before .before .before .loop .inv .1 .long)) (c .before .before .before .before .before .before .pre .4)); long = c .before .before .before .before .before .before .pre .0; on = c .before .before .before .before .before .before .pre .3 }
+begin-at-requires c κs =
+    let at-loop = c .before .before .before in
+    let start = at-loop .before .before .before in
+    record {
+      row = row-of (start .pre .1) (c .before .before .loop-test .taken) (start .pre .2)
+          (subst (λ (k : ℕ). start .args .s .size * stretches (start .args .s .n) ≤ k) (sym (at-loop .loop .inv .1 .long)) (start .pre .4));
+      long = start .pre .0;
+      on = start .pre .3;
+    }
 
 add-rule : tie.Need-add-rule Inv-loop μ-loop
 add-rule c = omega (arith, c .before .before .before .before .before .loop-test .taken, c .before .before .before .before .before .before .before .before .before .pre .1)
@@ -33,13 +41,19 @@ loop-less : tie.Need-loop-less Inv-loop μ-loop
 loop-less c = omega (arith, c .before .before .before .before .before .loop-test .taken)
 
 loop-again : tie.Need-loop-again Inv-loop μ-loop
-loop-again c = (omega (arith, c .before .before .before .before .before .loop-test .taken), opened-join (c .before .before .before .before .before .before .loop .inv .1) (c .before .before .begin-at .ensures))
+loop-again c =
+    let at-loop-test = c .before .before .before .before .before in
+    let at-loop = at-loop-test .before in
+    (omega (arith, at-loop-test .loop-test .taken), opened-join (at-loop .loop .inv .1) (c .before .before .begin-at .ensures))
 
 same-length : tie.Need-same-length Inv-loop μ-loop
 same-length c = c .before .loop .inv .1 .long
 
 returns : tie.Need-returns Inv-loop μ-loop
-returns c = subst (λ (k : ℕ). Opened (c .before .before .before .before .args .marks .now) (c .before .before .before .before .args .s .size) (c .before .before .before .before .args .s .n) (c .before .before .before .before .args .s .m) 0 k (c .before .before .before .before .args .main .now) (c .before .loop .main)) (omega (arith, c .before .loop .inv .0, c .loop-test .left)) (c .before .loop .inv .1)
+returns c =
+    let start = c .before .before .before .before in
+    subst (λ (k : ℕ). Opened (start .args .marks .now) (start .args .s .size) (start .args .s .n) (start .args .s .m) 0 k (start .args .main .now) (c .before .loop .main))
+    (omega (arith, c .before .loop .inv .0, c .loop-test .left)) (c .before .loop .inv .1)
 
 pub begin-spec : {M : Type 1} → statement M
 begin-spec = tie.close (tie.spec Inv-loop μ-loop loop-holds begin-at-requires add-rule loop-less loop-again same-length returns)

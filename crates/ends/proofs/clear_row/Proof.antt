@@ -25,13 +25,24 @@ column-requires : tie.Need-column-requires Inv-loop μ-loop
 column-requires c κs = (c .before .before .before .pre .0 .short, c .loop-test .taken)
 
 cell-requires : tie.Need-cell-requires Inv-loop μ-loop
-cell-requires c κs = let z = column-on _ _ _ (c .before .loop-test .taken) (c .before .before .before .before .pre .1) (c .before .before .loop .inv .0) in (c .before .before .before .before .pre .0 .short, c .before .before .before .before .pre .0 .small, omega (arith, c .column .ensures, z .0), omega (arith, c .column .ensures, z .1))
+cell-requires c κs =
+    let start = c .before .before .before .before in
+    let z = column-on _ _ _ (c .before .loop-test .taken) (start .pre .1) (c .before .before .loop .inv .0) in
+    (start .pre .0 .short, start .pre .0 .small, omega (arith, c .column .ensures, z .0), omega (arith, c .column .ensures, z .1))
 
 mul-main : tie.Need-mul-main Inv-loop μ-loop
-mul-main c = let z = cell-inside (c .before .before .before .before .before .pre .0) (c .before .before .loop-test .taken) (c .before .before .before .before .before .pre .1) (c .before .before .before .loop .inv .0) (rw (c .before .column .ensures) at (c .cell .ensures)) in omega (arith, z, c .before .before .before .loop .inv .1 .long)
+mul-main c =
+    let at-loop = c .before .before .before in
+    let start = at-loop .before .before in
+    let z = cell-inside (start .pre .0) (c .before .before .loop-test .taken) (start .pre .1) (at-loop .loop .inv .0) (rw (c .before .column .ensures) at (c .cell .ensures)) in omega
+    (arith, z, at-loop .loop .inv .1 .long)
 
 slice-write-main : tie.Need-slice-write-main Inv-loop μ-loop
-slice-write-main c = let z = cell-inside (c .before .before .before .before .before .pre .0) (c .before .before .loop-test .taken) (c .before .before .before .before .before .pre .1) (c .before .before .before .loop .inv .0) (rw (c .before .column .ensures) at (c .cell .ensures)) in omega (arith, z, c .before .before .before .loop .inv .1 .long)
+slice-write-main c =
+    let at-loop = c .before .before .before in
+    let start = at-loop .before .before in
+    let z = cell-inside (start .pre .0) (c .before .before .loop-test .taken) (start .pre .1) (at-loop .loop .inv .0) (rw (c .before .column .ensures) at (c .cell .ensures)) in omega
+    (arith, z, at-loop .loop .inv .1 .long)
 
 add-w : tie.Need-add-w Inv-loop μ-loop
 add-w c = search needs
@@ -40,7 +51,13 @@ loop-less : tie.Need-loop-less Inv-loop μ-loop
 loop-less c = search needs
 
 loop-again : tie.Need-loop-again Inv-loop μ-loop
-loop-again c = (omega (arith, c .before .before .before .loop .inv .0), clear-step (c .before .before .before .before .before .pre .1) (c .before .before .loop-test .taken) (c .before .before .before .loop .inv .0) (rw (c .before .column .ensures) at (c .cell .ensures)) (c .before .before .before .loop .inv .1))
+loop-again c =
+    let at-loop = c .before .before .before in
+    let start = at-loop .before .before in (
+      omega (arith, at-loop .loop .inv .0),
+      clear-step (start .pre .1) (c .before .before .loop-test .taken) (at-loop .loop .inv .0)
+          (rw (c .before .column .ensures) at (c .cell .ensures)) (at-loop .loop .inv .1),
+    )
 
 same-length : tie.Need-same-length Inv-loop μ-loop
 same-length c = c .before .loop .inv .1 .long

@@ -16,7 +16,8 @@ use Rattle.ends.proofs.derive.Statement.{statement}
 use Rattle.ends.proofs.derive.Tie as tie
 
 abbrev Inv-loop : tie.InvT-loop
-Inv-loop code firsts marks main₀ s rule grew₀ x₀ main grew x = (x ≤ s .size) × ((u : ℕ) → Listed firsts x u → OnList firsts (s .rule) u) × Settled code firsts marks (s .size) (s .n) (s .m) main₀ main
+Inv-loop code firsts marks main₀ s rule grew₀ x₀ main grew x = (x ≤ s .size) × ((u : ℕ) → Listed firsts x u → OnList firsts (s .rule) u) × Settled code firsts marks (s .size) (s .n)
+    (s .m) main₀ main
 
 abbrev μ-loop : tie.MeasureT-loop
 μ-loop code firsts marks main₀ s rule grew₀ x₀ main grew x = x
@@ -34,49 +35,73 @@ wide-requires : tie.Need-wide-requires Inv-loop μ-loop
 wide-requires c κs = search needs
 
 loop-holds : tie.Need-loop-holds Inv-loop μ-loop
-loop-holds c = rw (c .wide .ensures) (c .before .before .before .before .before .before .pre .0 .ground .linked .last _ (c .before .before .before .before .before .before .pre .1), λ u z. z, settled-start (c .before .before .before .before .before .before .pre .0))
+loop-holds c =
+    let start = c .before .before .before .before .before .before in
+    rw (c .wide .ensures) (start .pre .0 .ground .linked .last _ (start .pre .1), λ u z. z, settled-start (start .pre .0))
 
 sub-alternative : tie.Need-sub-alternative Inv-loop μ-loop
 sub-alternative c = omega (arith, c .before .loop-test .taken)
 
 alternative-requires : tie.Need-alternative-requires Inv-loop μ-loop
 alternative-requires c κs =
+    let start = c .before .before .before .before .before .before .before .before .before in
     record {
-      lists = c .before .before .before .before .before .before .before .before .before .args .firsts .now;
-      ground = ground-as (c .before .before .loop .inv .2 .long) (c .before .before .before .before .before .before .before .before .before .pre .0 .ground);
+      lists = start .args .firsts .now;
+      ground = ground-as (c .before .before .loop .inv .2 .long) (start .pre .0 .ground);
       sound = c .before .before .loop .inv .2 .sound;
-      listed = link-here (c .before .before .before .before .before .before .before .before .before .pre .0 .ground .linked) (c .before .before .before .before .before .before .before .before .before .pre .1) (c .before .loop-test .taken) (c .before .before .loop .inv .1);
-      on = c .before .before .before .before .before .before .before .before .before .pre .0 .on;
-      inside = c .before .before .before .before .before .before .before .before .before .pre .1;
-      begins = c .before .before .before .before .before .before .before .before .before .pre .2;
+      listed = link-here (start .pre .0 .ground .linked) (start .pre .1) (c .before .loop-test .taken) (c .before .before .loop .inv .1);
+      on = start .pre .0 .on;
+      inside = start .pre .1;
+      begins = start .pre .2;
     }
 
 either-requires : tie.Need-either-requires Inv-loop μ-loop
 either-requires c κs = search needs
 
 mul-wide-3 : tie.Need-mul-wide-3 Inv-loop μ-loop
-mul-wide-3 c = omega (arith, c .before .before .before .before .before .before .loop .inv .0, c .before .before .before .before .before .before .before .before .before .before .before .before .before .pre .0 .ground .shape .small)
+mul-wide-3 c =
+    let at-loop = c .before .before .before .before .before .before in
+    let start = at-loop .before .before .before .before .before .before .before in
+    omega (arith, at-loop .loop .inv .0, start .pre .0 .ground .shape .small)
 
 sub-wide : tie.Need-sub-wide Inv-loop μ-loop
 sub-wide c = omega (arith, c .before .before .before .before .before .loop-test .taken)
 
 mul-wide-4 : tie.Need-mul-wide-4 Inv-loop μ-loop
-mul-wide-4 c = omega (arith, c .before .before .before .before .before .before .loop .inv .0, c .before .before .before .before .before .before .before .before .before .before .before .before .before .pre .0 .ground .shape .small)
+mul-wide-4 c =
+    let at-loop = c .before .before .before .before .before .before in
+    let start = at-loop .before .before .before .before .before .before .before in
+    omega (arith, at-loop .loop .inv .0, start .pre .0 .ground .shape .small)
 
 shared-slice-read-wide-2 : tie.Need-shared-slice-read-wide-2 Inv-loop μ-loop
-shared-slice-read-wide-2 c = omega (arith, c .before .before .before .before .before .before .before .loop .inv .0, c .before .before .before .before .before .before .loop-test .taken, c .before .before .before .before .before .before .before .before .before .before .before .before .before .before .pre .0 .ground .linked .room)
+shared-slice-read-wide-2 c =
+    let at-loop-test = c .before .before .before .before .before .before in
+    let at-loop = at-loop-test .before in
+    let start = at-loop .before .before .before .before .before .before .before in
+    omega (arith, at-loop .loop .inv .0, at-loop-test .loop-test .taken, start .pre .0 .ground .linked .room)
 
 wide-requires-2 : tie.Need-wide-requires-2 Inv-loop μ-loop
 wide-requires-2 c κs = search needs
 
 loop-less : tie.Need-loop-less Inv-loop μ-loop
-loop-less c = omega (arith, c .wide2 .ensures, link-less (c .before .before .before .before .before .before .before .before .before .before .before .before .before .before .before .pre .0 .ground .linked) (c .before .before .before .before .before .before .before .before .before .before .before .before .before .before .before .pre .1) (c .before .before .before .before .before .before .before .loop-test .taken) (c .before .before .before .before .before .before .before .before .loop .inv .1))
+loop-less c =
+    let at-loop-test = c .before .before .before .before .before .before .before in
+    let at-loop = at-loop-test .before in
+    let start = at-loop .before .before .before .before .before .before .before in
+    omega (arith, c .wide2 .ensures, link-less (start .pre .0 .ground .linked) (start .pre .1) (at-loop-test .loop-test .taken) (at-loop .loop .inv .1))
 
 loop-again : tie.Need-loop-again Inv-loop μ-loop
 loop-again c =
-    rw (c .wide2 .ensures) (omega (arith, c .before .before .before .before .before .before .before .before .loop .inv .0, link-less (c .before .before .before .before .before .before .before .before .before .before .before .before .before .before .before .pre .0 .ground .linked) (c .before .before .before .before .before .before .before .before .before .before .before .before .before .before .before .pre .1) (c .before .before .before .before .before .before .before .loop-test .taken) (c .before .before .before .before .before .before .before .before .loop .inv .1)),
-      link-next (c .before .before .before .before .before .before .before .before .before .before .before .before .before .before .before .pre .0 .ground .linked) (c .before .before .before .before .before .before .before .before .before .before .before .before .before .before .before .pre .1) (c .before .before .before .before .before .before .before .loop-test .taken) (c .before .before .before .before .before .before .before .before .loop .inv .1),
-      tried-next (c .before .before .before .before .before .before .before .before .before .before .before .before .before .before .before .pre .0 .ground) (link-here (c .before .before .before .before .before .before .before .before .before .before .before .before .before .before .before .pre .0 .ground .linked) (c .before .before .before .before .before .before .before .before .before .before .before .before .before .before .before .pre .1) (c .before .before .before .before .before .before .before .loop-test .taken) (c .before .before .before .before .before .before .before .before .loop .inv .1)) (c .before .before .before .before .before .before .before .before .loop .inv .2) (c .before .before .before .before .before .alternative .ensures))
+    let at-alternative = c .before .before .before .before .before in
+    let at-loop-test = at-alternative .before .before in
+    let at-loop = at-loop-test .before in
+    let start = at-loop .before .before .before .before .before .before .before in
+    rw (c .wide2 .ensures) (
+      omega (arith, at-loop .loop .inv .0, link-less (start .pre .0 .ground .linked) (start .pre .1) (at-loop-test .loop-test .taken) (at-loop .loop .inv .1)),
+      link-next (start .pre .0 .ground .linked) (start .pre .1) (at-loop-test .loop-test .taken) (at-loop .loop .inv .1),
+      tried-next (start .pre .0 .ground) (link-here (start .pre .0 .ground .linked) (start .pre .1) (at-loop-test .loop-test .taken) (at-loop .loop .inv .1)) (at-loop .loop .inv .2)
+          (at-alternative .alternative .ensures),
+    )
 
 same-length : tie.Need-same-length Inv-loop μ-loop
 same-length c = c .before .loop .inv .2 .long

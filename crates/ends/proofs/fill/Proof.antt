@@ -29,27 +29,52 @@ sub-m : tie.Need-sub-m Inv-loop μ-loop
 sub-m c = omega (arith, c .loop-test .taken)
 
 begin-requires : tie.Need-begin-requires Inv-loop μ-loop
-begin-requires c κs = (c .before .before .before .before .before .before .before .before .before .pre .0 .marks-long, c .before .before .before .before .before .before .before .before .before .pre .0 .shape .small, c .before .before .before .before .before .before .before .before .before .pre .0 .short, omega (arith, c .before .before .before .loop .inv .0, c .before .before .loop-test .taken), subst (λ (k : ℕ). c .before .before .before .before .before .before .before .before .before .args .size * stretches (c .before .before .before .before .before .before .before .before .before .args .n) ≤ k) (sym (c .before .before .before .loop .inv .1)) (c .before .before .before .before .before .before .before .before .before .pre .0 .room))
+begin-requires c κs =
+    let at-loop = c .before .before .before in
+    let start = at-loop .before .before .before .before .before .before in (
+      start .pre .0 .marks-long,
+      start .pre .0 .shape .small,
+      start .pre .0 .short,
+      omega (arith, at-loop .loop .inv .0, c .before .before .loop-test .taken),
+      subst
+          (λ (k : ℕ). start .args .size * stretches (start .args .n) ≤ k) (sym (at-loop .loop .inv .1)) (start .pre .0 .room),
+    )
 
 settle-requires : tie.Need-settle-requires Inv-loop μ-loop
 settle-requires c κs =
-    (record {
-      ground = ground-as (c .before .before .before .before .begin .ensures .long ∙ c .before .before .before .before .before .before .before .before .loop .inv .1) (c .before .before .before .before .before .before .before .before .before .before .before .before .before .before .pre .0);
-      sound = c .before .before .before .before .begin .ensures .sound _ _ (sound-down (subst (λ (k : ℕ). SoundFrom (c .before .before .before .before .before .before .before .before .before .before .before .before .before .before .args .code .now) (c .before .before .before .before .before .before .before .before .before .before .before .before .before .before .args .firsts .now) (c .before .before .before .before .before .before .before .before .before .before .before .before .before .before .args .marks .now) (c .before .before .before .before .before .before .before .before .before .before .before .before .before .before .args .size) (c .before .before .before .before .before .before .before .before .before .before .before .before .before .before .args .n) k (c .before .before .before .before .before .before .before .before .loop .main)) (omega (arith, c .before .before .before .before .before .before .before .loop-test .taken)) (c .before .before .before .before .before .before .before .before .loop .inv .2)));
-      on = omega (arith, c .before .before .before .before .before .before .before .before .loop .inv .0, c .before .before .before .before .before .before .before .loop-test .taken);
-    }, c .before .before .before .before .before .before .before .before .before .before .before .before .before .before .pre .1)
+    let at-begin = c .before .before .before .before in
+    let at-loop-test = at-begin .before .before .before in
+    let at-loop = at-loop-test .before in
+    let start = at-loop .before .before .before .before .before .before in (
+      record {
+        ground = ground-as (at-begin .begin .ensures .long ∙ at-loop .loop .inv .1) (start .pre .0);
+        sound = at-begin .begin .ensures .sound _ _ (sound-down (subst (λ (k : ℕ). SoundFrom (start .args .code .now) (start .args .firsts .now) (start .args .marks .now)
+            (start .args .size) (start .args .n) k (at-loop .loop .main)) (omega (arith, at-loop-test .loop-test .taken)) (at-loop .loop .inv .2)));
+        on = omega (arith, at-loop .loop .inv .0, at-loop-test .loop-test .taken);
+      },
+      start .pre .1,
+    )
 
 loop-less : tie.Need-loop-less Inv-loop μ-loop
 loop-less c = omega (arith, c .before .before .before .before .before .before .before .before .before .before .loop-test .taken)
 
 loop-again : tie.Need-loop-again Inv-loop μ-loop
-loop-again c = (omega (arith, c .before .before .before .before .before .before .before .before .before .before .before .loop .inv .0), c .before .before .settle .ensures .long ∙ c .before .before .before .before .before .before .before .begin .ensures .long ∙ c .before .before .before .before .before .before .before .before .before .before .before .loop .inv .1, sound-up (c .before .before .settle .ensures .sound))
+loop-again c =
+    let at-begin = c .before .before .before .before .before .before .before in
+    let at-loop = at-begin .before .before .before .before in
+    (omega (arith, at-loop .loop .inv .0), c .before .before .settle .ensures .long ∙ at-begin .begin .ensures .long ∙ at-loop .loop .inv .1, sound-up (c .before .before .settle .ensures .sound))
 
 same-length : tie.Need-same-length Inv-loop μ-loop
 same-length c = c .before .loop .inv .1
 
 returns : tie.Need-returns Inv-loop μ-loop
-returns c = record { long = c .before .loop .inv .1; sound = subst (λ (k : ℕ). SoundFrom (c .before .before .before .before .before .before .before .args .code .now) (c .before .before .before .before .before .before .before .args .firsts .now) (c .before .before .before .before .before .before .before .args .marks .now) (c .before .before .before .before .before .before .before .args .size) (c .before .before .before .before .before .before .before .args .n) k (c .before .loop .main)) (omega (arith, c .loop-test .left)) (c .before .loop .inv .2) }
+returns c =
+    let start = c .before .before .before .before .before .before .before in
+    record {
+      long = c .before .loop .inv .1;
+      sound = subst (λ (k : ℕ). SoundFrom (start .args .code .now) (start .args .firsts .now) (start .args .marks .now) (start .args .size)
+          (start .args .n) k (c .before .loop .main)) (omega (arith, c .loop-test .left)) (c .before .loop .inv .2);
+    }
 
 pub fill-spec : {M : Type 1} → statement M
 fill-spec = tie.close (tie.spec Inv-loop μ-loop add-m loop-holds sub-m begin-requires settle-requires loop-less loop-again same-length returns)

@@ -25,13 +25,25 @@ column-requires : tie.Need-column-requires Inv-loop μ-loop
 column-requires c κs = (c .before .before .before .pre .0 .short, c .loop-test .taken)
 
 cell-requires : tie.Need-cell-requires Inv-loop μ-loop
-cell-requires c κs = let z = column-on _ _ _ (c .before .loop-test .taken) (c .before .before .before .before .pre .1) (c .before .before .loop .inv .0) in (c .before .before .before .before .pre .0 .short, c .before .before .before .before .pre .0 .small, omega (arith, c .column .ensures, z .0), omega (arith, c .column .ensures, z .1))
+cell-requires c κs =
+    let start = c .before .before .before .before in
+    let z = column-on _ _ _ (c .before .loop-test .taken) (start .pre .1) (c .before .before .loop .inv .0) in
+    (start .pre .0 .short, start .pre .0 .small, omega (arith, c .column .ensures, z .0), omega (arith, c .column .ensures, z .1))
 
 mul-old : tie.Need-mul-old Inv-loop μ-loop
-mul-old c = let z = cell-inside (c .before .before .before .before .before .pre .0) (c .before .before .loop-test .taken) (c .before .before .before .before .before .pre .1) (c .before .before .before .loop .inv .0) (rw (c .before .column .ensures) at (c .cell .ensures)) in omega (arith, z, c .before .before .before .loop .inv .1 .long)
+mul-old c =
+    let at-loop = c .before .before .before in
+    let start = at-loop .before .before in
+    let z = cell-inside (start .pre .0) (c .before .before .loop-test .taken) (start .pre .1) (at-loop .loop .inv .0) (rw (c .before .column .ensures) at (c .cell .ensures)) in omega
+    (arith, z, at-loop .loop .inv .1 .long)
 
 slice-read-old : tie.Need-slice-read-old Inv-loop μ-loop
-slice-read-old c = let z = cell-inside (c .before .before .before .before .before .before .pre .0) (c .before .before .before .loop-test .taken) (c .before .before .before .before .before .before .pre .1) (c .before .before .before .before .loop .inv .0) (rw (c .before .before .column .ensures) at (c .before .cell .ensures)) in omega (arith, z, c .before .before .before .before .loop .inv .1 .long)
+slice-read-old c =
+    let at-loop-test = c .before .before .before in
+    let at-loop = at-loop-test .before in
+    let start = at-loop .before .before in
+    let z = cell-inside (start .pre .0) (at-loop-test .loop-test .taken) (start .pre .1) (at-loop .loop .inv .0)
+    (rw (c .before .before .column .ensures) at (c .before .cell .ensures)) in omega (arith, z, at-loop .loop .inv .1 .long)
 
 mul-join : tie.Need-mul-join Inv-loop μ-loop
 mul-join c = search needs
@@ -43,10 +55,24 @@ join-requires : tie.Need-join-requires Inv-loop μ-loop
 join-requires c κs = search needs
 
 mul-main : tie.Need-mul-main Inv-loop μ-loop
-mul-main c = let z = cell-inside (c .before .before .before .before .before .before .before .before .pre .0) (c .before .before .before .before .before .loop-test .taken) (c .before .before .before .before .before .before .before .before .pre .1) (c .before .before .before .before .before .before .loop .inv .0) (rw (c .before .before .before .before .column .ensures) at (c .before .before .before .cell .ensures)) in omega (arith, z, c .before .before .before .before .before .before .loop .inv .1 .long)
+mul-main c =
+    let at-cell = c .before .before .before in
+    let at-column = at-cell .before in
+    let at-loop-test = at-column .before in
+    let at-loop = at-loop-test .before in
+    let start = at-loop .before .before in
+    let z = cell-inside (start .pre .0) (at-loop-test .loop-test .taken) (start .pre .1) (at-loop .loop .inv .0) (rw (at-column .column .ensures) at (at-cell .cell .ensures)) in omega
+    (arith, z, at-loop .loop .inv .1 .long)
 
 slice-write-main : tie.Need-slice-write-main Inv-loop μ-loop
-slice-write-main c = let z = cell-inside (c .before .before .before .before .before .before .before .before .pre .0) (c .before .before .before .before .before .loop-test .taken) (c .before .before .before .before .before .before .before .before .pre .1) (c .before .before .before .before .before .before .loop .inv .0) (rw (c .before .before .before .before .column .ensures) at (c .before .before .before .cell .ensures)) in omega (arith, z, c .before .before .before .before .before .before .loop .inv .1 .long)
+slice-write-main c =
+    let at-cell = c .before .before .before in
+    let at-column = at-cell .before in
+    let at-loop-test = at-column .before in
+    let at-loop = at-loop-test .before in
+    let start = at-loop .before .before in
+    let z = cell-inside (start .pre .0) (at-loop-test .loop-test .taken) (start .pre .1) (at-loop .loop .inv .0) (rw (at-column .column .ensures) at (at-cell .cell .ensures)) in omega
+    (arith, z, at-loop .loop .inv .1 .long)
 
 either-requires : tie.Need-either-requires Inv-loop μ-loop
 either-requires c κs = search needs
@@ -58,7 +84,16 @@ loop-less : tie.Need-loop-less Inv-loop μ-loop
 loop-less c = search needs
 
 loop-again : tie.Need-loop-again Inv-loop μ-loop
-loop-again c = (omega (arith, c .before .before .before .before .before .before .before .loop .inv .0), finish-step (c .before .before .before .before .before .before .before .before .before .pre .1) (c .before .before .before .before .before .before .loop-test .taken) (c .before .before .before .before .before .before .before .loop .inv .0) (rw (c .before .before .before .before .before .column .ensures) at (c .before .before .before .before .cell .ensures)) (c .before .before .before .before .before .before .before .loop .inv .1) (c .before .join .ensures))
+loop-again c =
+    let at-cell = c .before .before .before .before in
+    let at-column = at-cell .before in
+    let at-loop-test = at-column .before in
+    let at-loop = at-loop-test .before in
+    let start = at-loop .before .before in (
+      omega (arith, at-loop .loop .inv .0),
+      finish-step (start .pre .1) (at-loop-test .loop-test .taken) (at-loop .loop .inv .0)
+          (rw (at-column .column .ensures) at (at-cell .cell .ensures)) (at-loop .loop .inv .1) (c .before .join .ensures),
+    )
 
 same-length : tie.Need-same-length Inv-loop μ-loop
 same-length c = c .before .loop .inv .1 .long

@@ -49,7 +49,8 @@ loop-again : tie.Need-loop-again Inv-loop μ-loop
 loop-again c = (omega (arith, c .before .before .before .loop-test .taken), gathered-next (c .before .before .before .before .loop .inv .1) (c .join-by .ensures))
 
 returns : tie.Need-returns Inv-loop μ-loop
-returns c = subst (λ (k : ℕ). Gathered (c .before .before .before .args .main .now) (c .before .before .before .args .at) (c .before .before .before .args .on .now) k (c .before .loop .acc)) (omega (arith, c .before .loop .inv .0, c .loop-test .left)) (c .before .loop .inv .1)
+returns c = subst (λ (k : ℕ). Gathered (c .before .before .before .args .main .now) (c .before .before .before .args .at) (c .before .before .before .args .on .now) k
+    (c .before .loop .acc)) (omega (arith, c .before .loop .inv .0, c .loop-test .left)) (c .before .loop .inv .1)
 
 pub gather-spec : {M : Type 1} → statement M
 gather-spec =

@@ -37,7 +37,10 @@ loop-less : tie.Need-loop-less Inv-loop μ-loop
 loop-less c = search needs
 
 loop-again : tie.Need-loop-again Inv-loop μ-loop
-loop-again c = λ x h. ⊎-elim (c .before .before .before .before .loop .inv x) (λ z. inr (word-passed (c .before .before .before .before .before .before .args .cur .now) z)) (c .add-word .ensures x h)
+loop-again c =
+    let at-loop = c .before .before .before .before in
+    let start = at-loop .before .before in
+    λ x h. ⊎-elim (at-loop .loop .inv x) (λ z. inr (word-passed (start .args .cur .now) z)) (c .add-word .ensures x h)
 
 returns : tie.Need-returns Inv-loop μ-loop
 returns c = c .before .loop .inv

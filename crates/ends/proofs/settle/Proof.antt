@@ -31,7 +31,10 @@ returns : tie.Need-returns Inv-loop μ-loop
 returns c = c .before .before .before .before .loop .inv
 
 turn-requires : tie.Need-turn-requires Inv-loop μ-loop
-turn-requires c κs = (settling-as (c .before .before .before .before .before .before .before .before .before .before .before .before .pre .0) (c .before .before .before .before .before .before .loop .inv), c .before .before .if1 .left, c .before .before .before .before .before .before .before .before .before .before .before .before .pre .1)
+turn-requires c κs =
+    let at-loop = c .before .before .before .before .before .before in
+    let start = at-loop .before .before .before .before .before .before in
+    (settling-as (start .pre .0) (at-loop .loop .inv), c .before .before .if1 .left, start .pre .1)
 
 add-turns : tie.Need-add-turns Inv-loop μ-loop
 add-turns c = search needs

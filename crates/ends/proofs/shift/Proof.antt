@@ -37,7 +37,10 @@ loop-less : tie.Need-loop-less Inv-loop μ-loop
 loop-less c = search needs
 
 loop-again : tie.Need-loop-again Inv-loop μ-loop
-loop-again c = λ z h. ⊎-elim (c .before .before .before .before .loop .inv z) (λ y. inr (word-shifted (c .before .before .before .before .before .before .args .cur .now) y)) (c .shift-word .ensures z h)
+loop-again c =
+    let at-loop = c .before .before .before .before in
+    let start = at-loop .before .before in
+    λ z h. ⊎-elim (at-loop .loop .inv z) (λ y. inr (word-shifted (start .args .cur .now) y)) (c .shift-word .ensures z h)
 
 returns : tie.Need-returns Inv-loop μ-loop
 returns c = c .before .loop .inv

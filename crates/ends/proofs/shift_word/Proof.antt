@@ -36,7 +36,10 @@ lit-requires : tie.Need-lit-requires Inv-loop μ-loop
 lit-requires c κs = search needs
 
 land-requires : tie.Need-land-requires Inv-loop μ-loop
-land-requires c κs = (c .before .before .before .before .before .before .before .pre .0, omega (arith, c .before .before .before .loop-test .taken, c .before .before .before .before .before .before .before .pre .1, c .before .before .wide .ensures))
+land-requires c κs =
+    let at-loop-test = c .before .before .before in
+    let start = at-loop-test .before .before .before .before in
+    (start .pre .0, omega (arith, at-loop-test .loop-test .taken, start .pre .1, c .before .before .wide .ensures))
 
 add-b : tie.Need-add-b Inv-loop μ-loop
 add-b c = search needs
@@ -45,7 +48,15 @@ loop-less : tie.Need-loop-less Inv-loop μ-loop
 loop-less c = search needs
 
 loop-again : tie.Need-loop-again Inv-loop μ-loop
-loop-again c = (omega (arith, c .before .before .before .before .loop-test .taken), λ z h. ⊎-elim (c .before .before .before .before .before .loop .inv .1 z) (λ y. inr (record { b = c .before .before .before .before .before .loop .b; low = c .before .before .before .before .loop-test .taken; lit = c .before .before .lit .ensures (y .0); landed = rw (c .before .before .before .wide .ensures) at (y .1) })) (c .land .ensures z h))
+loop-again c =
+    let at-wide = c .before .before .before in
+    let at-loop-test = at-wide .before in
+    let at-loop = at-loop-test .before in (
+      omega (arith, at-loop-test .loop-test .taken),
+      λ z h. ⊎-elim (at-loop .loop .inv .1 z)
+          (λ y. inr (record { b = at-loop .loop .b; low = at-loop-test .loop-test .taken; lit = c .before .before .lit .ensures (y .0); landed = rw (at-wide .wide .ensures) at (y .1) }))
+          (c .land .ensures z h),
+    )
 
 returns-2 : tie.Need-returns-2 Inv-loop μ-loop
 returns-2 c = c .before .loop .inv .1

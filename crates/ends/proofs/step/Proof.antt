@@ -37,10 +37,20 @@ wide-requires : tie.Need-wide-requires
 wide-requires c κs = search needs
 
 shift-requires : tie.Need-shift-requires
-shift-requires c κs = record { long = c .before .before .before .before .before .before .before .before .pre .0 .marks-long; small = omega (arith, c .before .before .before .before .before .before .before .before .pre .0 .inside, c .before .before .before .before .before .before .before .before .pre .0 .shape .small); short = c .before .before .before .before .before .before .before .before .pre .0 .short }
+shift-requires c κs =
+    let start = c .before .before .before .before .before .before .before .before in
+    record { long = start .pre .0 .marks-long; small = omega (arith, start .pre .0 .inside, start .pre .0 .shape .small); short = start .pre .0 .short }
 
 returns : tie.Need-returns
-returns c = λ z h. ⊎-elim (λ e. absurd (c .before .before .before .before .before .before .before .before .before .pre .1 z e)) (λ y. record { from = y .from; has = y .has; move = move-terminal (c .before .before .before .before .if1 .taken) (rw (c .before .before .wide .ensures) at (y .landed)) }) (c .shift .ensures z h)
+returns c =
+    let at-if1 = c .before .before .before .before in
+    let start = at-if1 .before .before .before .before .before in
+    λ z h. ⊎-elim (λ e. absurd (start .pre .1 z e)) (λ y. record {
+      from = y .from;
+      has = y .has;
+      move = move-terminal (at-if1 .if1 .taken)
+          (rw (c .before .before .wide .ensures) at (y .landed));
+    }) (c .shift .ensures z h)
 
 mul-wide-3 : tie.Need-mul-wide-3
 mul-wide-3 c = search needs
@@ -52,16 +62,30 @@ mul-wide-4 : tie.Need-mul-wide-4
 mul-wide-4 c = search needs
 
 shared-slice-read-wide-2 : tie.Need-shared-slice-read-wide-2
-shared-slice-read-wide-2 c = omega (arith, c .before .before .before .before .before .before .before .pre .0 .inside, c .before .before .before .before .before .before .before .pre .0 .shape .room)
+shared-slice-read-wide-2 c =
+    let start = c .before .before .before .before .before .before .before in
+    omega (arith, start .pre .0 .inside, start .pre .0 .shape .room)
 
 wide-requires-2 : tie.Need-wide-requires-2
 wide-requires-2 c κs = search needs
 
 pass-requires : tie.Need-pass-requires
-pass-requires c κs = rw (c .before .wide2 .ensures) (row-of (c .before .before .before .before .before .before .before .before .before .pre .0 .shape .small) (c .before .before .before .before .before .before .before .before .before .pre .0 .shape .names _ (c .before .before .before .before .before .before .before .before .before .pre .0 .inside) (c .before .before .before .if2 .taken) .0) (c .before .before .before .before .before .before .before .before .before .pre .0 .short) (c .before .before .before .before .before .before .before .before .before .pre .0 .room))
+pass-requires c κs =
+    let at-if2 = c .before .before .before in
+    let start = at-if2 .before .before .before .before .before .before in
+    rw (c .before .wide2 .ensures) (row-of (start .pre .0 .shape .small) (start .pre .0 .shape .names _ (start .pre .0 .inside) (at-if2 .if2 .taken) .0) (start .pre .0 .short)
+    (start .pre .0 .room))
 
 returns-2 : tie.Need-returns-2
-returns-2 c = λ z h. ⊎-elim (λ e. absurd (c .before .before .before .before .before .before .before .before .before .before .pre .1 z e)) (λ y. record { from = y .from; has = y .has; move = move-symbol (c .before .before .before .before .if2 .taken) (y .on) (rw (c .before .before .wide2 .ensures) at (y .derived)) }) (c .pass .ensures z h)
+returns-2 c =
+    let at-if2 = c .before .before .before .before in
+    let start = at-if2 .before .before .before .before .before .before in
+    λ z h. ⊎-elim (λ e. absurd (start .pre .1 z e)) (λ y. record {
+      from = y .from;
+      has = y .has;
+      move = move-symbol (at-if2 .if2 .taken) (y .on)
+          (rw (c .before .before .wide2 .ensures) at (y .derived));
+    }) (c .pass .ensures z h)
 
 returns-3 : tie.Need-returns-3
 returns-3 c = λ z h. absurd (c .before .before .before .before .before .before .pre .1 z h)

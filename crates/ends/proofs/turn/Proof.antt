@@ -18,19 +18,27 @@ add-if1 : tie.Need-add-if1
 add-if1 c = omega (arith, c .before .before .before .before .before .pre .1, c .before .before .before .before .before .pre .0 .ground .shape .small)
 
 add-if1-2 : tie.Need-add-if1-2
-add-if1-2 c = omega (arith, c .before .before .before .before .before .pre .1, c .before .before .before .before .before .pre .0 .ground .shape .small, c .before .before .before .before .before .pre .0 .on, c .before .before .before .before .before .pre .0 .ground .short)
+add-if1-2 c =
+    let start = c .before .before .before .before .before in
+    omega (arith, start .pre .1, start .pre .0 .ground .shape .small, start .pre .0 .on, start .pre .0 .ground .short)
 
 shared-slice-read-if1 : tie.Need-shared-slice-read-if1
-shared-slice-read-if1 c = omega (arith, c .before .before .before .before .before .before .pre .1, c .before .before .before .before .before .before .pre .0 .ground .shape .small, c .before .before .before .before .before .before .pre .0 .on, c .before .before .before .before .before .before .pre .0 .ground .short, c .before .before .before .before .before .before .pre .0 .ground .marks-long)
+shared-slice-read-if1 c =
+    let start = c .before .before .before .before .before .before in
+    omega (arith, start .pre .1, start .pre .0 .ground .shape .small, start .pre .0 .on, start .pre .0 .ground .short, start .pre .0 .ground .marks-long)
 
 returns : tie.Need-returns
 returns c = settled-start (c .before .before .before .before .before .before .before .pre .0)
 
 derive-requires : tie.Need-derive-requires
-derive-requires c κs = (c .before .before .before .before .before .before .before .before .pre .0, c .before .before .before .before .before .before .before .before .pre .1, omega (arith, c .before .if1 .left))
+derive-requires c κs =
+    let start = c .before .before .before .before .before .before .before .before in
+    (start .pre .0, start .pre .1, omega (arith, c .before .if1 .left))
 
 wake-requires : tie.Need-wake-requires
-wake-requires c κs = (c .before .before .before .before .before .before .before .before .before .before .before .before .before .pre .2, c .before .before .before .before .before .before .before .before .before .before .before .before .before .pre .0 .ground .marks-long, omega (arith, c .before .before .before .before .before .before .before .before .before .before .before .before .before .pre .0 .on, c .before .before .before .before .before .before .before .before .before .before .before .before .before .pre .0 .ground .short), omega (arith, c .before .before .before .before .before .before .before .before .before .before .before .before .before .pre .1, c .before .before .before .before .before .before .before .before .before .before .before .before .before .pre .0 .ground .shape .small))
+wake-requires c κs =
+    let start = c .before .before .before .before .before .before .before .before .before .before .before .before .before in
+    (start .pre .2, start .pre .0 .ground .marks-long, omega (arith, start .pre .0 .on, start .pre .0 .ground .short), omega (arith, start .pre .1, start .pre .0 .ground .shape .small))
 
 same-length : tie.Need-same-length
 same-length c = c .before .before .before .before .before .derive .ensures .long
