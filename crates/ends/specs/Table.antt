@@ -1,0 +1,83 @@
+-- What the rows of the table of ends say, while they are filled.
+use mathlib.Core.List.{List}
+use mathlib.Core.Logic.{_⊎_}
+use mathlib.Core.Path.{_≡_}
+use Prim.Native.Nat.{ℕ, _+_, _*_, _<_, _≤_}
+use lib.ListN.{length}
+use Rattle.bits.specs.Bits.{Has}
+use Rattle.chart.specs.Heights.{stretches}
+use Rattle.reach.specs.Flags.{Begins}
+use Rattle.reach.specs.Work.{Linked}
+use Rattle.sparse.specs.Cells.{Shape}
+use Rattle.moves.specs.Moves.{Derived, Row}
+use Rattle.ends.specs.Spans.{Spans, Flows, OnList}
+
+-- what the tables are, for all steps
+pub record Ground (c L M : List ℕ) (size n main : ℕ) : Type 0 where
+  pub shape : Shape c size
+  pub linked : Linked size L
+  pub flows : Flows c L M size n
+  pub short : n ≤ 200
+  pub marks-long : length M ≡ 308736
+  pub room : size * stretches n ≤ main
+
+-- rows that have been begun: of rules before b at m, and of all after it
+abbrev pub Begun : ℕ → ℕ → ℕ → ℕ → Type 0
+Begun m b e x = (m < x) ⊎ ((x ≡ m) × (e < b))
+
+-- what the rows say is so
+pub record Sound (c L M : List ℕ) (size n m b : ℕ) (t : List ℕ) : Type 0 where
+  pub is : (e x j : ℕ) → e < size → x ≤ n → Begins M e x → Begun m b e x → Derived n t e x j → Spans c L M n e x j
+
+-- the rule's row at m takes in a set
+pub record Finished (n : ℕ) (t t' : List ℕ) (e m : ℕ) (S : List ℕ) : Type 0 where
+  pub long : length t' ≡ length t
+  pub is : (e' x j : ℕ) → x ≤ n → Derived n t' e' x j → Derived n t e' x j ⊎ ((e' ≡ e) × (x ≡ m) × Has S j)
+
+-- the rule's row at m is empty, and no other is changed
+pub record Cleared (n : ℕ) (t t' : List ℕ) (e m : ℕ) : Type 0 where
+  pub long : length t' ≡ length t
+  pub none : (j : ℕ) → Derived n t' e m j → ⊥
+  pub same : (e' x j : ℕ) → x ≤ n → Derived n t' e' x j → Derived n t e' x j
+
+-- an alternative of the rule e that begins at q is tried at m
+pub record Trying (c M : List ℕ) (size n m e q : ℕ) (t : List ℕ) : Type 0 where
+  pub lists : List ℕ
+  pub ground : Ground c lists M size n (length t)
+  pub sound : Sound c lists M size n m size t
+  pub listed : OnList lists e q
+  pub on : m ≤ n
+  pub inside : e < size
+  pub begins : Begins M e m
+
+pub record Tried (c M : List ℕ) (size n m e q : ℕ) (t t' : List ℕ) : Type 0 where
+  pub long : length t' ≡ length t
+  pub sound : (L : List ℕ) → Ground c L M size n (length t) → OnList L e q → Sound c L M size n m size t → Sound c L M size n m size t'
+
+-- a place is settled: a rule's rows at m, by the alternatives on its list
+pub record Settling (c L M : List ℕ) (size n m : ℕ) (t : List ℕ) : Type 0 where
+  pub ground : Ground c L M size n (length t)
+  pub sound : Sound c L M size n m size t
+  pub on : m ≤ n
+
+pub record Settled (c L M : List ℕ) (size n m : ℕ) (t t' : List ℕ) : Type 0 where
+  pub long : length t' ≡ length t
+  pub sound : Sound c L M size n m size t'
+
+-- the row of the rule e at m is begun
+pub record Opening (M : List ℕ) (size n m e : ℕ) (main : ℕ) : Type 0 where
+  pub row : Row n e main
+  pub long : length M ≡ 308736
+  pub on : m ≤ n
+
+pub record Opened (M : List ℕ) (size n m a b : ℕ) (t t' : List ℕ) : Type 0 where
+  pub long : length t' ≡ length t
+  pub sound : (c L : List ℕ) → Sound c L M size n m a t → Sound c L M size n m b t'
+
+-- the rows from the place m on say what is so
+pub record SoundFrom (c L M : List ℕ) (size n m : ℕ) (t : List ℕ) : Type 0 where
+  pub is : (e x j : ℕ) → e < size → x ≤ n → Begins M e x → m ≤ x → Derived n t e x j → Spans c L M n e x j
+
+pub record Filled (c L M : List ℕ) (size n : ℕ) (t t' : List ℕ) : Type 0 where
+  pub long : length t' ≡ length t
+  pub sound : SoundFrom c L M size n 0 t'
