@@ -112,7 +112,7 @@ module _ (c f : List ℕ) (g : Grammar) (r : Text) (size top first : ℕ) (k : C
       → Offer c f size n (height o) t e i j
   offered-rule e q s w o a i j la dc hj lb = rule-offer e i j (height o) (alternative g s a) (find w a la) (λ p hp b. low dc lb p hp b hj)
 
-  pub low-symbol : (e q : ℕ) (s : Symbol) → Chain c dots e q (alts g s) → {d : Row} {i j : ℕ} → Derives g r d (s ∷ []) i j → j ≤ n → height d ≤ h → cellOf n t e i j < h
+  pub low-symbol : (e q : ℕ) (s : Symbol) → Chain c dots e q (alts g s) → {d : Row} {i j : ℕ} → Derives g r d (s ∷ []) i j → j ≤ n → height d ≤ h → cellOf n t e i j < height d
   low-symbol e q s w (d-leaf fit dd) hj lb = absurd (none-in w refl)
   low-symbol e q s w (d-node {c = o} {a = a} {i = i} {m = m} la dc d-end) hj lb =
       omega (arith, low-rule e i m (height o) (alternative g s a) (forward g r dc) hj (omega arith) (find w a la) (λ p hp b. low dc (omega arith) p hp b hj))
@@ -120,5 +120,5 @@ module _ (c f : List ℕ) (g : Grammar) (r : Text) (size top first : ℕ) (k : C
   pub says-upto : {t₀ : List ℕ} → h ≤ none → Clear (size * stretches n) t₀ → Steps c f size n Any t₀ t → SaysUpto c f g r size top first k h t
   says-upto b z s = record {
     has = λ p e i j hp o hi hj l. let u = rule-sound c f g r size top first k z s p e i j hp o hi hj (omega arith) in (u .row, u .derives, omega (arith, u .low));
-    only = λ p e i j hp o hi hj d dd l. let own = k .owned p e hp o in low-symbol e (own .first) (headOf g (k .heads) e) (own .chain) dd hj l;
+    only = λ p e i j hp o hi hj d dd l. let own = k .owned p e hp o in omega (arith, low-symbol e (own .first) (headOf g (k .heads) e) (own .chain) dd hj l);
   }
