@@ -103,6 +103,9 @@ module _ {At Bt : ℕ → Terminal → Type 0} {c : List ℕ} {g : Grammar} wher
     only = k .only;
     within = k .within;
     few = k .few;
+    laid = k .laid;
+    named = k .named;
+    names = k .names;
   }
 
 -- the rows of tests tell where the code's terminals fit
