@@ -31,7 +31,7 @@ tree-row : {g : Grammar} {r : Text} {s : Symbol} {i j h : ℕ} (d : Row) → Der
 tree-row _ (d-leaf f d-end) e = absurd (omega arith)
 tree-row _ (d-node {c = o} {a = a} la dc d-end) e = record { number = a; exists = la; low = record { row = o; derives = dc; low = omega arith } }
 
-row-tree : {g : Grammar} {r : Text} {s : Symbol} {i j h : ℕ} → RuleLow g r h s i j → Low g r (suc h) (s ∷ []) i j
+pub row-tree : {g : Grammar} {r : Text} {s : Symbol} {i j h : ℕ} → RuleLow g r h s i j → Low g r (suc h) (s ∷ []) i j
 row-tree {j = j} u = record { row = node (u .number) j (u .low .row) end; derives = d-node (u .exists) (u .low .derives) d-end; low = omega (arith, u .low .low) }
 
 module _ (c f : List ℕ) (g : Grammar) (r : Text) (size top first : ℕ) (k : Coded c f g r size top first) (m : Numbered c g (k .dots) (k .heads) size) where
@@ -65,7 +65,7 @@ module _ (c f : List ℕ) (g : Grammar) (r : Text) (size top first : ℕ) (k : C
   abbrev Named : List ℕ → Type 0
   Named t = (p i j : ℕ) → Place size n p i j → nextKind c p ≡ 0 → cellOf n t p i j < none → (q : ℕ) × (q < size) × (ownerAt c q ≡ p + 1)
 
-  given-named : {t : List ℕ} {p i j v : ℕ} → nextKind c p ≡ 0 → Gives c f size n t p i j v → (q : ℕ) × (q < size) × (ownerAt c q ≡ p + 1)
+  pub given-named : {t : List ℕ} {p i j v : ℕ} → nextKind c p ≡ 0 → Gives c f size n t p i j v → (q : ℕ) × (q < size) × (ownerAt c q ≡ p + 1)
   given-named z (by-terminal y _ _ _) = absurd (omega arith)
   given-named z (by-split _ y _ _ _) = absurd (omega arith)
   given-named z (by-owned q hq w _) = (q, hq, w)
