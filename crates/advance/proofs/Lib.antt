@@ -1,2 +1,3 @@
 pub mod Layered
 pub mod Finishing
+pub mod Rounded
