@@ -40,7 +40,7 @@ use Rattle.full.specs.Whole.{Marked}
 use Rattle.full.proofs.Marks.{flag-other, flag-fits, flag-misfits}
 
 -- what the plain engine is given
-pub coded : {c f : List ℕ} {g : Grammar} {r : Text} {size top first : ℕ} → Ruled (Fitting f r) c g size top first → size ≤ mostSize
+unfoldable pub coded : {c f : List ℕ} {g : Grammar} {r : Text} {size top first : ℕ} → Ruled (Fitting f r) c g size top first → size ≤ mostSize
     → 4 * size ≤ length c → length r ≤ recordChars → size * (recordChars + 1) ≤ length f → Coded c f g r size top first
 coded w small room short fits-room = record {
   dots = w .dots;
