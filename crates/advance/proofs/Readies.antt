@@ -2,7 +2,7 @@
 use mathlib.Core.Bool.{Bool, true}
 use mathlib.Core.Path.{_≡_, sym, ap, subst, _∙_}
 use mathlib.Core.List.{List}
-use Prim.Native.Nat.{ℕ, _+_, _*_, _<_, _≤_}
+use Prim.Native.Nat.{ℕ, zero, suc, _+_, _*_, _<_, _≤_}
 use native.Mathlib.Nat.{mul-le-mul}
 use native.Mathlib.Omega.{arith}
 use lib.ListN.{length, getD}
@@ -13,15 +13,20 @@ use Rattle.layout.proofs.Sums.{layout-length}
 use Rattle.chart.specs.Code.{Fitting, Ruled, Coded}
 use Rattle.chart.specs.Heights.{stretches, none}
 use Rattle.rules.specs.Ready.{Ready}
-use Rattle.numbering.specs.Names.{nameCount}
+use Rattle.numbering.specs.Names.{isName, nameCount}
 use Rattle.numbering.proofs.Names.{names-count}
 use Rattle.numbering.proofs.Stand.{all-stand}
 use Rattle.sweeps.specs.Layers.{Upto}
 use Rattle.full.proofs.Whole.{coded}
+use Rattle.fixpoint.specs.Fixed.{Fixpoint}
 use Rattle.rounds.specs.Rounds.{mostRounds}
+use Rattle.rounds.specs.After.{Finished}
 use Rattle.advance.specs.Numbered.{Numbered}
 use Rattle.advance.specs.Advanced.{Advanced}
 use Rattle.advance.specs.Round.{Rounded}
+use Rattle.advance.proofs.Layered.{layered-of}
+use Rattle.advance.proofs.Finishing.{full-fixed}
+use Rattle.advance.proofs.Turns.{flag-most}
 use Rattle.advance.proofs.Rounded.{numbered-of, listed-of, rounded, enough-rounds}
 
 pub few-rounds : (a b : ℕ) → a ≤ 512 → b ≤ 201 → a * b ≤ 102912
@@ -52,3 +57,13 @@ module _ {Tb c : List ℕ} (f : List ℕ) {g : Grammar} {r : Text} {size top roo
   round-by h t u last room most l a =
       rounded c f g r size top root the-code the-numbers (all-stand g (ready .proper)) (listed-of w) few h t u last room most (omega (arith, most-is))
       (subst (λ (x : ℕ). Upto c f size (length r) h t → Advanced c f size (length r) h x t u last) most-is a)
+
+  -- the table of a finished read is a fixed point
+  pub finished-fixed : (t : List ℕ) → ((x : ℕ) → getD t x 0 ≤ none) → Finished g r t → Fixpoint c f size (length r) t
+  finished-fixed t most a =
+      full-fixed c f g r size top root the-code the-numbers (all-stand g (ready .proper)) (listed-of w) (omega (arith, few))
+      (layered-of c f g r size top root the-code the-numbers (suc (mostRounds g r)) t a (omega (arith, few)) most)
+
+pub name-most : (c : List ℕ) (n : ℕ) → nameCount c n ≤ n
+name-most c zero = omega arith
+name-most c (suc n) = omega (arith, name-most c n, flag-most (isName c n))
