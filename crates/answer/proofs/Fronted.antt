@@ -159,7 +159,8 @@ checks-fronted gs gs' f a a' c c' z z' =
     let o = outcome [] (mismatch gs) (valuesOf gs [] []) (firstOf (grammarTests gs [])) x in
     let o' = outcome [] (mismatch gs') (valuesOf gs' [] []) (firstOf (grammarTests gs' [])) x in
     alike-by a a' o o' e e'
-    (call-alike gs gs' f [] [] [] [] [] [] x x (λ t. (refl, refl, refl)) (past-of a o (firstOf (grammarTests gs [])) e (number-of [] (mismatch gs) (valuesOf gs [] []) (firstOf (grammarTests gs [])) x) z)
+    (call-alike gs gs' f [] [] [] [] [] [] x x (λ t. (refl, refl, refl)) (past-of a o (firstOf (grammarTests gs [])) e
+    (number-of [] (mismatch gs) (valuesOf gs [] []) (firstOf (grammarTests gs [])) x) z)
     (past-of a' o' (firstOf (grammarTests gs' [])) e' (number-of [] (mismatch gs') (valuesOf gs' [] []) (firstOf (grammarTests gs' [])) x) z'))
 
 module _ (gs gs' rs : List ℕ) (main second : ℕ) (f : Fronts gs gs') (old new new' : List ℕ) (a a' : Answer) (ts : Job → List Test) (F : Shown) where
@@ -180,7 +181,8 @@ module _ (gs gs' rs : List ℕ) (main second : ℕ) (f : Fronts gs gs') (old new
       let v = inputValues rs [] in
       let n = firstOf (grammarTests gs (recordTests first (ts first))) in
       let n' = firstOf (grammarTests gs' (recordTests next (ts next))) in
-      let s = call-alike gs gs' f old v (readingValues first []) (readingValues next []) (recordTests first (ts first)) (recordTests next (ts next)) (resultOf first (resultBy F)) (resultOf next (resultBy F))
+      let s = call-alike gs gs' f old v (readingValues first []) (readingValues next []) (recordTests first (ts first)) (recordTests next (ts next)) (resultOf first (resultBy F))
+      (resultOf next (resultBy F))
       (λ t. (h t, rw (t .first, t .second), ap (λ (p : Parsed). value 16 (λ _. placeTree p (λ g. placeText (decode rs) (faultOf g))) ∷ []) (t .first ∙ sym (t .second))))
       (past-of a (madeOf first) n (e .0) (number-of old (mismatch gs) (valuesOf gs v (readingValues first [])) n (resultOf first (resultBy F))) z)
       (past-of a' (madeOf next) n' (e' .0) (number-of old (mismatch gs') (valuesOf gs' v (readingValues next [])) n' (resultOf next (resultBy F))) z') in

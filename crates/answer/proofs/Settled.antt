@@ -257,11 +257,13 @@ module _ (j : Job) (old : List ℕ) where
 
   pub read-answers : Reads j old (readOf j old .answer) (readOf j old .buffer)
   unfolding readOf lines made longest tests
-  read-answers = call-answers chosen-finds j asNumbers mainNeed 16 (longest ∷ longTest asNumbers j old ∷ []) old (readingLines j (tooLong j asNumbers old ∷ [])) tt tt read-lines (reading-fault j (tooLong j asNumbers old ∷ []) tt)
+  read-answers = call-answers chosen-finds j asNumbers mainNeed 16 (longest ∷ longTest asNumbers j old ∷ []) old (readingLines j (tooLong j asNumbers old ∷ [])) tt tt read-lines
+      (reading-fault j (tooLong j asNumbers old ∷ []) tt)
 
   pub read-settled : (a : Answer) (new : List ℕ) → Reads j old a new → (a ≡ readOf j old .answer) × (new ≡ readOf j old .buffer)
   unfolding readOf lines made longest tests
-  read-settled a new p = call-settled chosen-finds j asNumbers mainNeed 16 (longest ∷ longTest asNumbers j old ∷ []) old (readingLines j (tooLong j asNumbers old ∷ [])) tt tt read-lines (reading-fault j (tooLong j asNumbers old ∷ []) tt) a new p
+  read-settled a new p = call-settled chosen-finds j asNumbers mainNeed 16 (longest ∷ longTest asNumbers j old ∷ []) old (readingLines j (tooLong j asNumbers old ∷ [])) tt tt read-lines
+      (reading-fault j (tooLong j asNumbers old ∷ []) tt) a new p
 
   abbrev convertLines : List Line
   convertLines = readingLines j (documentLines j (tooLong j asXml old ∷ []))
@@ -273,11 +275,13 @@ module _ (j : Job) (old : List ℕ) where
 
   pub convert-answers : Converts j old (convertOf j old .answer) (convertOf j old .buffer)
   unfolding convertOf lines made longest tests
-  convert-answers = call-answers chosen-finds j asXml mainNeed 16 (longest ∷ documentTests j (longTest asXml j old ∷ [])) old convertLines tt tt convert-lines (reading-fault j (documentLines j (tooLong j asXml old ∷ [])) tt)
+  convert-answers = call-answers chosen-finds j asXml mainNeed 16 (longest ∷ documentTests j (longTest asXml j old ∷ [])) old convertLines tt tt convert-lines
+      (reading-fault j (documentLines j (tooLong j asXml old ∷ [])) tt)
 
   pub convert-settled : (a : Answer) (new : List ℕ) → Converts j old a new → (a ≡ convertOf j old .answer) × (new ≡ convertOf j old .buffer)
   unfolding convertOf lines made longest tests
-  convert-settled a new p = call-settled chosen-finds j asXml mainNeed 16 (longest ∷ documentTests j (longTest asXml j old ∷ [])) old convertLines tt tt convert-lines (reading-fault j (documentLines j (tooLong j asXml old ∷ [])) tt) a new p
+  convert-settled a new p = call-settled chosen-finds j asXml mainNeed 16 (longest ∷ documentTests j (longTest asXml j old ∷ [])) old convertLines tt tt convert-lines
+      (reading-fault j (documentLines j (tooLong j asXml old ∷ [])) tt) a new p
 
   module _ (q : List ℕ) where
     abbrev judgeLines : List Line

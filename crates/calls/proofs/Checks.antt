@@ -17,8 +17,9 @@ use Rattle.accept.specs.declared.Rules.{Rules}
 use Rattle.accept.specs.declared.Accepted.{Accepted}
 use Rattle.accept.specs.declared.Accepted.the-variants.{Grammar as A-grammar, Refused}
 use Rattle.accept.specs.Accepted.{stageOf, Kept, Accepts}
-use Rattle.calls.specs.declared.Answer.{Answer}
-use Rattle.calls.specs.Calls.{shown, done, refusalOf, Checked}
+use Rattle.outcome.specs.declared.Answer.{Answer}
+use Rattle.outcome.specs.Outcome.{shown, done, refusalOf}
+use Rattle.calls.specs.Calls.{Checked}
 
 refused-answer : (m : Bool) (vs : Values) (d : Diagnostic) → eqb (d .number) 0 ≡ false → eqb (d .number) 16 ≡ false → placesOf (d .places) ≡ placesAt vs (d .number)
     → outcome [] m vs (d .number) (result [] false) .answer ≡ shown (refusalOf (record { why = d; mismatch = false }))
@@ -47,5 +48,5 @@ refuses bs T j k d a q e l z =
     let u : a ≡ refusalOf (record { why = k; mismatch = false }) = z ∙ ap (λ (x : Diagnostic). refusalOf (record { why = x; mismatch = false })) w in
     subst (Checked bs) (sym u) (checked bs (refusalOf (record { why = k; mismatch = false })) (sym (refused-is bs k (subst (Accepts bs T) q l))))
 
-pub accepts : (bs T : List ℕ) (j : Accepted) (p : Rules) → j ≡ A-grammar p → Accepts bs T j → Checked bs (done 0 false (p .mismatch))
-accepts bs T j p e l = checked bs (done 0 false (p .mismatch)) (sym (kept-is bs T p (subst (Accepts bs T) e l)))
+pub accepts : (bs T : List ℕ) (j : Accepted) (p : Rules) (a : Answer) → j ≡ A-grammar p → Accepts bs T j → a ≡ done 0 false (p .mismatch) → Checked bs a
+accepts bs T j p a e l z = subst (Checked bs) (sym z) (checked bs (done 0 false (p .mismatch)) (sym (kept-is bs T p (subst (Accepts bs T) e l))))

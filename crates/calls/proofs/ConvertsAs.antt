@@ -17,20 +17,22 @@ use Rattle.answer.specs.Answer.{Job, Converts, asXml}
 use Rattle.answer.specs.Compute.{Outcome, Test, documentTests, longTest, convertOf}
 use Rattle.answer.proofs.Settled.{convert-answers}
 use Rattle.job.specs.declared.LeftParse.{LeftParse}
-use Rattle.job.specs.declared.Refusal.{Refusal}
 use Rattle.job.specs.declared.Parse.{Parse}
-use Rattle.job.specs.declared.Parse.the-variants.{Refused}
-use Rattle.job.specs.Parses.{whyRefused, IsChosen, Parses}
+use Rattle.job.specs.declared.Parse.the-variants.{Chosen, Refused}
+use Rattle.job.specs.Parses.{IsChosen, Parses}
+use Rattle.job.proofs.Texts.{got-part}
 use Rattle.convert.specs.declared.Converted.{Converted}
 use Rattle.convert.specs.Concluded.{Parsing, Ready, Concludes}
-use Rattle.calls.specs.declared.Answer.{Answer}
-use Rattle.calls.specs.Calls.{shown, refusalOf, answerOf, ConvertedAs}
-use Rattle.calls.proofs.Outcomes.{call-not-chosen}
-use Rattle.calls.proofs.Documents.{Spoken, concluded}
+use Rattle.outcome.specs.declared.Answer.{Answer}
+use Rattle.outcome.specs.Outcome.{shown, refusalOf, answerOf}
+use Rattle.outcome.specs.Given.{Named, GivesXml}
+use Rattle.calls.specs.Calls.{ConvertedAs}
+use Rattle.outcome.proofs.Outcomes.{call-refused}
+use Rattle.outcome.proofs.Documents.{Spoken, concluded}
 
 -- the numbers of a left parse name a derivation of the record's characters
 module _ (j : Job) (T new P : List ℕ) (f : LeftParse) (y : IsChosen j T new P f) where
-  pub parsing : Parsing T (f .root) (take (f .count) P) (take (f .chars .0) new) (y .tree) (y .row)
+  parsing : Parsing T (f .root) (take (f .count) P) (take (f .chars .0) new) (y .tree) (y .row)
   parsing =
       subst (λ (x : Text). Parsing T (f .root) (take (f .count) P) x (y .tree) (y .row)) (sym (y .input .stored)) (record {
         parsed = record {
@@ -42,13 +44,10 @@ module _ (j : Job) (T new P : List ℕ) (f : LeftParse) (y : IsChosen j T new P 
         tokens = y .tokens;
       })
 
-  pub convertible : length T ≡ grammarTable → Ready T (f .root) (take (f .count) P) (take (f .chars .0) new)
+  convertible : length T ≡ grammarTable → Ready T (f .root) (take (f .count) P) (take (f .chars .0) new)
   convertible l = record { table = l; few = omega (arith, length-take (f .count) P, y .short); g = y .tree; t = y .row; parsing = parsing }
 
-  pub numbers-in : f .count ≤ length P
-  numbers-in = omega (arith, length-take (f .count) P, ap length (y .list), y .count)
-
-  pub numbers-part : f .count ≡ length (take (f .count) P)
+  numbers-part : f .count ≡ length (take (f .count) P)
   numbers-part = y .count ∙ sym (ap length (y .list))
 
 module _ (j : Job) (old : List ℕ) where
@@ -62,19 +61,20 @@ module _ (j : Job) (old : List ℕ) where
     defines = subst (λ (o : Outcome). Converts j old (o .answer) (o .buffer)) e (convert-answers j old);
   }
 
-  pub convert-not-chosen : (T new P : List ℕ) (p : Parse) (k r : Refusal) (a : Answer) → p ≡ Refused k → r ≡ whyRefused p → Parses j T new P p → a ≡ refusalOf r
-      → ConvertedAs j old a old
+  -- whatever is given of a parse
+  pub convert-given : (T new P : List ℕ) (p : Parse) → Parses j T new P p → (new′ : List ℕ) (a : Answer) → GivesXml p T new P old new′ a → ConvertedAs j old a new′
   unfolding convertOf
-  convert-not-chosen T new P p k r a q e w z = rw z (convert-as (refusalOf r) old (call-not-chosen j old asXml tests T new P p k r q e w))
-
-  pub convert-concluded : (T new P : List ℕ) (f : LeftParse) (y : IsChosen j T new P f) (new′ : List ℕ) (v : Converted)
-      → ((g : Grammar) (t : Row) → Parsing T (f .root) (take (f .count) P) (take (f .chars .0) new) g t
-      → Concludes g (take (f .chars .0) new) t (f .ambiguous) (f .mismatch) old new′ v)
-      → (a : Answer) → a ≡ answerOf v (f .ambiguous) (f .mismatch) → ConvertedAs j old a new′
-  unfolding convertOf
-  convert-concluded T new P f y new′ v h a z =
+  convert-given T new P (Refused k) w new′ a h =
+      rw (h .0, h .1) (convert-as (refusalOf k) old (call-refused j old asXml tests k (w .is tests) (w .some) (w .version) (w .places)))
+  convert-given T new P (Chosen f) y new′ a h =
       let s : Spoken chosenOf j (y .tree) (y .input .chars) (y .row) = record { is = y .is; decoded = y .input .decoded; choice = y .choice } in
+      let v = h .converted in
       let c : Concludes (y .tree) (y .input .chars) (y .row) (f .ambiguous) (f .mismatch) old new′ v = subst
-      (λ (u : Text). Concludes (y .tree) u (y .row) (f .ambiguous) (f .mismatch) old new′ v) (y .input .stored) (h (y .tree) (y .row) (parsing j T new P f y)) in
-      rw z (convert-as (answerOf v (f .ambiguous) (f .mismatch)) new′
+      (λ (u : Text). Concludes (y .tree) u (y .row) (f .ambiguous) (f .mismatch) old new′ v) (y .input .stored) (h .concludes (y .tree) (y .row) (parsing j T new P f y)) in
+      rw (h .answer) (convert-as (answerOf v (f .ambiguous) (f .mismatch)) new′
       (concluded s ambiguousOf old (f .mismatch) (f .ambiguous) (y .version) (y .mark) new′ v c _ (y .first tests)))
+
+-- what stands in the buffers can be written
+pub named : (j : Job) (T new P : List ℕ) (p : Parse) → Parses j T new P p → length T ≡ grammarTable → Named p T new P
+named j T new P (Refused k) w l = tt
+named j T new P (Chosen f) y l = record { numbers = numbers-part j T new P f y; chars = got-part (y .input); ready = convertible j T new P f y l }

@@ -29,11 +29,12 @@ use Rattle.job.specs.declared.Begun.the-variants.{At, Refused as Ended}
 use Rattle.job.specs.Stages.{begunOf, StartedBy, BeginsBy}
 use Rattle.job.proofs.Texts.{got-part}
 use Rattle.judge.specs.Due.{Named}
-use Rattle.calls.specs.declared.Answer.{Answer}
-use Rattle.calls.specs.Calls.{shown, refusalOf, answerOf, JudgedAs}
-use Rattle.calls.specs.Judging.{Stands, Judgeable, Accepted, Declined, Verdict, accepted, declined, Concluded}
-use Rattle.calls.proofs.Outcomes.{refusing, refused-outcome}
-use Rattle.calls.proofs.Documents.{Spoken, nowhere, concluded}
+use Rattle.outcome.specs.declared.Answer.{Answer}
+use Rattle.outcome.specs.Outcome.{shown, refusalOf, answerOf}
+use Rattle.calls.specs.Calls.{JudgedAs}
+use Rattle.outcome.specs.Judging.{Stands, Judgeable, Accepted, Declined, Verdict, accepted, declined, Concluded}
+use Rattle.outcome.proofs.Outcomes.{refusing, refused-outcome}
+use Rattle.outcome.proofs.Documents.{Spoken, nowhere, concluded}
 
 module _ (q : List ℕ) (j : Job) (old : List ℕ) where
   abbrev last : List Test

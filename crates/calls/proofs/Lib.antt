@@ -1,10 +1,6 @@
 pub mod Checks
-pub mod Outcomes
 pub mod ReadsAs
-pub mod Documents
 pub mod ConvertsAs
-pub mod Copies
 pub mod Agree
 pub mod TidiesAs
-pub mod Lists
 pub mod JudgesAs

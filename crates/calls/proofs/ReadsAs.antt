@@ -1,9 +1,10 @@
 -- From the stages of a job to the answer of reading.
 use mathlib.Core.Path.{_≡_, refl, sym, ap, _∙_, subst}
+use mathlib.Core.Logic.{inl, inr}
 use mathlib.Core.List.{List, [], _∷_, _++_}
-use Prim.Native.Nat.{ℕ, _≤_, _<_}
+use Prim.Native.Nat.{ℕ}
 use native.Mathlib.Omega.{arith}
-use lib.ListN.{length, drop, take}
+use lib.ListN.{length, drop}
 use Rattle.derive.specs.Derive.{leftParse}
 use Rattle.derive.specs.Another.{ambiguousOf}
 use Rattle.answer.specs.Answer.{Job, Reads, asNumbers}
@@ -12,13 +13,14 @@ use Rattle.answer.proofs.Settled.{read-answers}
 use Rattle.job.specs.declared.LeftParse.{LeftParse}
 use Rattle.job.specs.declared.Refusal.{Refusal}
 use Rattle.job.specs.declared.Parse.{Parse}
-use Rattle.job.specs.declared.Parse.the-variants.{Refused}
-use Rattle.job.specs.Parses.{whyRefused, IsChosen, Parses}
-use Rattle.calls.specs.declared.Answer.{Answer}
+use Rattle.job.specs.declared.Parse.the-variants.{Chosen, Refused}
+use Rattle.job.specs.Parses.{IsChosen, Parses}
+use Rattle.outcome.specs.declared.Answer.{Answer}
 use Rattle.text.specs.Stages.{plainly}
-use Rattle.text.specs.declared.Diagnostic.{Diagnostic}
-use Rattle.calls.specs.Calls.{done, shown, refusalOf, ReadAs}
-use Rattle.calls.proofs.Outcomes.{refusing, call-refused, call-answered, call-not-chosen, result-is, too-long, fitting, done-is}
+use Rattle.outcome.specs.Outcome.{done, shown, refusalOf}
+use Rattle.outcome.specs.Given.{Counted, Fitting, GivesNumbers}
+use Rattle.calls.specs.Calls.{ReadAs}
+use Rattle.outcome.proofs.Outcomes.{refusing, call-refused, call-answered, numbers-in, result-is, too-long, fitting, done-is}
 
 module _ (j : Job) (old : List ℕ) where
   abbrev tests : List Test
@@ -34,27 +36,28 @@ module _ (j : Job) (old : List ℕ) where
   refused-as : (a : Answer) (r : Refusal) → a ≡ refusalOf r → readOf j old ≡ refusing old r → ReadAs j old a old
   refused-as a r e q = rw e (read-as (refusalOf r) old q)
 
-  pub read-refused : (T new P : List ℕ) (p : Parse) (k r : Refusal) (a : Answer) → p ≡ Refused k → r ≡ whyRefused p → Parses j T new P p → a ≡ refusalOf r → ReadAs j old a old
+  read-fits : (T new P : List ℕ) (f : LeftParse) → IsChosen j T new P f → (new′ : List ℕ) (a : Answer) → Fitting f P old new′ a → ReadAs j old a new′
   unfolding readOf
-  read-refused T new P p k r a q e w z = refused-as a r z (call-not-chosen j old asNumbers tests T new P p k r q e w)
+  read-fits T new P f y new′ a h =
+      let e = y .first tests ∙ fitting j T new P f y asNumbers old (omega (arith, y .count, h .fits)) in
+      let o = call-answered j old asNumbers tests (f .mismatch) _ e (y .version) (result-is j T new P f y asNumbers) in
+      let cells : new′ ≡ leftParse (y .row) ++ drop (length (leftParse (y .row))) old =
+      h .buffer ∙ ap (λ (q : List ℕ). q ++ drop (f .count) old) (y .list) ∙ ap (λ (n : ℕ). leftParse (y .row) ++ drop n old) (y .count) in
+      let mark = ambiguousOf (y .tree) (y .input .chars) (y .row) in
+      let b = done-is old new′ (leftParse (y .row)) (f .mismatch) mark (f .ambiguous) (f .count) cells (y .count) (y .mark) in
+      rw (h .answer) (read-as (done (f .count) (f .ambiguous) (f .mismatch)) new′ (o ∙ b))
 
-  module _ (T new P : List ℕ) (f : LeftParse) (y : IsChosen j T new P f) where
-    pub read-long : (d : Diagnostic) (a : Answer) → d ≡ plainly 23 → a ≡ refusalOf (record { why = d; mismatch = f .mismatch }) → length old < f .count → ReadAs j old a old
-    unfolding readOf
-    read-long d a p z l =
-        let e = y .first tests ∙ too-long j T new P f y asNumbers old (omega (arith, y .count)) in
-        let r : Refusal = record { why = plainly 23; mismatch = f .mismatch } in
-        refused-as a r (z ∙ ap (λ (x : Diagnostic). refusalOf (record { why = x; mismatch = f .mismatch })) p)
-        (call-refused j old asNumbers tests r e (λ e. omega arith) refl refl)
+  -- whatever is given of a parse
+  pub read-given : (T new P : List ℕ) (p : Parse) → Parses j T new P p → (new′ : List ℕ) (a : Answer) → GivesNumbers p P old new′ a → ReadAs j old a new′
+  unfolding readOf
+  read-given T new P (Refused k) w new′ a h = rw (h .1) (refused-as a k (h .0) (call-refused j old asNumbers tests k (w .is tests) (w .some) (w .version) (w .places)))
+  read-given T new P (Chosen f) y new′ a (inl h) = read-fits T new P f y new′ a h
+  read-given T new P (Chosen f) y new′ a (inr h) =
+      let e = y .first tests ∙ too-long j T new P f y asNumbers old (omega (arith, y .count, h .longer)) in
+      let r : Refusal = record { why = plainly 23; mismatch = f .mismatch } in
+      rw (h .buffer) (refused-as a r (h .answer) (call-refused j old asNumbers tests r e (λ e. omega arith) refl refl))
 
-    pub read-done : (new′ : List ℕ) → new′ ≡ take (f .count) P ++ drop (f .count) old → f .count ≤ length old
-        → ReadAs j old (done (f .count) (f .ambiguous) (f .mismatch)) new′
-    unfolding readOf
-    read-done new′ e l =
-        let h = y .first tests ∙ fitting j T new P f y asNumbers old (omega (arith, y .count)) in
-        let o = call-answered j old asNumbers tests (f .mismatch) _ h (y .version) (result-is j T new P f y asNumbers) in
-        let cells : new′ ≡ leftParse (y .row) ++ drop (length (leftParse (y .row))) old =
-        e ∙ ap (λ (q : List ℕ). q ++ drop (f .count) old) (y .list) ∙ ap (λ (n : ℕ). leftParse (y .row) ++ drop n old) (y .count) in
-        let mark = ambiguousOf (y .tree) (y .input .chars) (y .row) in
-        let b = done-is old new′ (leftParse (y .row)) (f .mismatch) mark (f .ambiguous) (f .count) cells (y .count) (y .mark) in
-        read-as (done (f .count) (f .ambiguous) (f .mismatch)) new′ (o ∙ b)
+-- its numbers stand in the buffer
+pub counted : (j : Job) (T new P : List ℕ) (p : Parse) → Parses j T new P p → Counted p P
+counted j T new P (Refused k) w = tt
+counted j T new P (Chosen f) y = numbers-in j T new P f y

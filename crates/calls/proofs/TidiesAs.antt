@@ -9,7 +9,7 @@ use lib.Dec.{ltb, eqb}
 use lib.ListN.{length}
 use borrow.Author.Tests.{ne-eqb, lt-ltb, le-ltb}
 use Rattle.text.specs.Limits.{grammarBytes, grammarTable}
-use Rattle.text.specs.Stages.{diagnosticOf, plainly}
+use Rattle.text.specs.Stages.{plainly}
 use Rattle.text.specs.declared.Diagnostic.{Diagnostic}
 use Rattle.text.proofs.Tests.{T-false}
 use Rattle.tree.specs.Tree.{Grammar}
@@ -23,12 +23,12 @@ use Rattle.answer.specs.Compute.{Test, firstOf, treeOf, grammarTests, Result, r
 use Rattle.answer.specs.Demands.{None}
 use Rattle.answer.proofs.Agree.{grammar-agrees, tree-sound}
 use Rattle.answer.proofs.Lines.{first-topmost, none-given}
-use Rattle.load.specs.Loaded.{Turned, placesOf}
+use Rattle.load.specs.Loaded.{placesOf}
 use Rattle.load.proofs.Stages.{to-size}
 use Rattle.accept.specs.declared.Rules.{Rules}
 use Rattle.accept.specs.declared.Accepted.{Accepted}
 use Rattle.accept.specs.declared.Accepted.the-variants.{Grammar as A-grammar, Refused}
-use Rattle.accept.specs.Accepted.{stageOf, Kept, Accepts}
+use Rattle.accept.specs.Accepted.{Kept, Accepts}
 use Rattle.job.specs.declared.Refusal.{Refusal}
 use Rattle.tidy.specs.Scan.{scan}
 use Rattle.tidy.specs.Call.{tidyBytes, tidyTests, Tidies, tidyOf}
@@ -37,12 +37,14 @@ use Rattle.tidy.proofs.Same.{known-text}
 use Rattle.tidy_writer.specs.Walk.{SomeLeft}
 use Rattle.tidy_text.specs.declared.Tidied.{Tidied}
 use Rattle.tidy_text.specs.declared.Tidied.the-variants.{Text as Tidied-text, Refused as Not-tidied}
-use Rattle.tidy_text.specs.Whole.{AllFit, tidiedNumber, Written, NotWritten, Concludes}
+use Rattle.tidy_text.specs.Whole.{AllFit, Written, NotWritten, Concludes}
 use Rattle.tidy_text.proofs.Fits.{grammar-fits}
 use Rattle.tidy_text.proofs.Encoded.{tidy-encoded}
-use Rattle.calls.specs.declared.Answer.{Answer}
-use Rattle.calls.specs.Calls.{shown, done, refusalOf, TidiedAs}
-use Rattle.calls.proofs.Outcomes.{answering, refused-outcome, done-is}
+use Rattle.outcome.specs.declared.Answer.{Answer}
+use Rattle.outcome.specs.Outcome.{shown, done, refusalOf}
+use Rattle.outcome.specs.Given.{Tokened, tidiedOf, GivesTidy}
+use Rattle.calls.specs.Calls.{TidiedAs}
+use Rattle.outcome.proofs.Outcomes.{answering, refused-outcome, done-is}
 
 module _ (bs old : List ℕ) where
   abbrev made : Result
@@ -66,16 +68,6 @@ module _ (bs old : List ℕ) where
       let r : Refusal = record { why = d; mismatch = false } in
       let v : (eqb (d .number) 16 && false) ≡ (eqb (d .number) 16 && mismatch bs) = rw (ne-eqb (d .number) 16 s) in
       rw q (tidied-as (refusalOf r) old (ap (λ (k : ℕ). outcome old (mismatch bs) (checkValues bs) k made) e ∙ refused-outcome old (mismatch bs) (checkValues bs) r made z v p))
-
-  pub tidy-not-accepted : (U : List ℕ) (j : Accepted) (k d : Diagnostic) (a : Answer) → j ≡ Refused k → d ≡ diagnosticOf (stageOf j) → Accepts bs U j
-      → a ≡ refusalOf (record { why = d; mismatch = false }) → TidiedAs bs old a old
-  tidy-not-accepted U j k d a q e l z =
-      let w : d ≡ k = e ∙ ap (λ (x : Accepted). diagnosticOf (stageOf x)) q in
-      let t : Turned bs d = subst (Turned bs) (sym w) (subst (Accepts bs U) q l) in
-      refused-as d (t .first (tidyTests bs old)) (t .some) (λ q. ⊎-elim (λ l. omega arith) (λ l. omega arith) (t .early)) (t .places) a z
-
-pub is-kept : (bs U : List ℕ) (j : Accepted) (p : Rules) → j ≡ A-grammar p → Accepts bs U j → Kept bs U p
-is-kept bs U j p e l = subst (Accepts bs U) e l
 
 -- the tokens of an accepted grammar
 module _ {bs U : List ℕ} {p : Rules} (y : Kept bs U p) where
@@ -124,22 +116,30 @@ module _ {bs U : List ℕ} {p : Rules} (y : Kept bs U p) where
             → a ≡ refusalOf (record { why = plainly k; mismatch = false }) → TidiedAs bs old a old
         at k n e f z s r q = refused-as bs old (plainly n) (y .first (tidyTests bs old) ∙ f) z s r a (q ∙ ap (λ (m : ℕ). refusalOf (record { why = plainly m; mismatch = false })) e)
 
-    pub tidy-refused : (k n : ℕ) (d : Diagnostic) (a : Answer) → v ≡ Not-tidied k → n ≡ tidiedNumber v → d ≡ plainly n
-        → a ≡ refusalOf (record { why = d; mismatch = false }) → TidiedAs bs old a new
-    tidy-refused k n d a e i f z =
-        let o : n ≡ k = i ∙ ap tidiedNumber e in
-        let q : d ≡ plainly k = f ∙ ap plainly o in
-        refused-at k (subst (Concludes cells old new) e concludes) a (z ∙ ap (λ (x : Diagnostic). refusalOf (record { why = x; mismatch = false })) q)
-
-    pub tidy-done : (n : ℕ) → v ≡ Tidied-text n → TidiedAs bs old (done n false (p .mismatch)) new
+    tidied : (n : ℕ) (a : Answer) → v ≡ Tidied-text n → a ≡ done n false (p .mismatch) → TidiedAs bs old a new
     unfolding tidyOf
-    tidy-done n e =
+    tidied n a e z =
         let w : Written cells old new n = subst (Concludes cells old new) e concludes in
         let first : firstOf (tests bs old) ≡ 0 = y .first (tidyTests bs old) ∙ long-is
         ∙ rw (le-ltb grammarBytes (length cells) (w .short), le-ltb (length old) (length cells) (w .fits)) in
         let m : made bs old ≡ result cells false = rw (y .is) in
-        tidied-as bs old (done n false (p .mismatch)) new
+        rw z (tidied-as bs old (done n false (p .mismatch)) new
         (ap (λ (k : ℕ). outcome old (mismatch bs) (checkValues bs) k (made bs old)) first
         ∙ ap (answering old (mismatch bs)) m
         ∙ ap (λ (b : Bool). answering old b (result cells false)) (sym (y .version))
-        ∙ done-is old new cells (p .mismatch) false false n (w .buffer) (w .count) refl)
+        ∙ done-is old new cells (p .mismatch) false false n (w .buffer) (w .count) refl))
+
+-- the tokens stand in the table
+pub tokened : (bs U : List ℕ) (q : Accepted) → Accepts bs U q → length U ≡ grammarTable → Tokened q U
+tokened bs U (Refused d) t l = tt
+tokened bs U (A-grammar p) y l = some-left y l
+
+-- whatever is given of a grammar
+pub tidy-given : (bs old U : List ℕ) (q : Accepted) → Accepts bs U q → (new : List ℕ) (a : Answer) → GivesTidy q U old new a → TidiedAs bs old a new
+tidy-given bs old U (Refused d) t new a h =
+    rw (h .1) (refused-as bs old d (t .first (tidyTests bs old)) (t .some) (λ q. ⊎-elim (λ l. omega arith) (λ l. omega arith) (t .early)) (t .places) a (h .0))
+tidy-given bs old U (A-grammar p) y new a h = go (h .tidied) (h .concludes) (h .answer)
+  where
+    go : (v : Tidied) → ((ts : List Token) → Left U (p .end) 0 ts → AllFit ts → Concludes (enc (scan true ts)) old new v) → a ≡ tidiedOf v (p .mismatch) → TidiedAs bs old a new
+    go (Tidied-text n) c z = tidied y old new (Tidied-text n) c n a refl z
+    go (Not-tidied k) c z = refused-at y old new (Not-tidied k) c k (concludes y old new (Not-tidied k) c) a z

@@ -14,7 +14,8 @@ use Rattle.text.specs.Lists.{Text, all}
 use Rattle.text.proofs.Tests.{split, and-left, and-right, clash}
 use Rattle.viable.specs.Fault.{FaultAt}
 use Rattle.answer.proofs.Lines.{unapplied}
-use Rattle.answer.specs.Answer.{ofJob, inputLines, readingLines, Note, Noted, Places, placeNotes, jobNotes, Line, Topmost, Job, Answer, Converts, grammarLines, recordLines, documentLines, tooLong, asXml}
+use Rattle.answer.specs.Answer.{ofJob, inputLines, readingLines, Note, Noted, Places, placeNotes, jobNotes, Line}
+use Rattle.answer.specs.Answer.{Topmost, Job, Answer, Converts, grammarLines, recordLines, documentLines, tooLong, asXml}
 use Rattle.answer.specs.Compute.{convertOf}
 use Rattle.answer.specs.Program.{File, bytes, shows, programJob, Writes, no-grammar, no-record, long-record, job}
 use Rattle.answer.proofs.Settled.{convert-settled, convert-answers}
@@ -73,7 +74,8 @@ long-grammar g h r old a new k l c =
       );
       places = record {
         byte = no-place (jobNotes (programJob g r) .bytes) (jobNotes (programJob h r) .bytes) (a .number) (a .places .byte) (apart e) (apart e) (c .places .byte);
-        fault = no-place (jobNotes (programJob g r) .faults) (jobNotes (programJob h r) .faults) (a .number) (a .places .fault) (λ z. omega (arith, e, z), tt) (λ z. omega (arith, e, z), tt) (c .places .fault);
+        fault = no-place (jobNotes (programJob g r) .faults) (jobNotes (programJob h r) .faults) (a .number) (a .places .fault) (λ z. omega (arith, e, z), tt) (λ z. omega (arith, e, z), tt)
+            (c .places .fault);
         grammar = no-place (placeNotes g) (placeNotes h) (a .number) (a .places .grammar) (unplaced g e) (unplaced h e) (c .places .grammar);
       };
     }

@@ -41,7 +41,12 @@ pub record Agreeing (Tb : List ℕ) (at n : ℕ) (R : Text) (i k : ℕ) : Type 0
 
 module _ {Tb : List ℕ} {at n : ℕ} {R : Text} {i : ℕ} (b : Beside Tb at n R i) where
   pub agreeing-start : Agreeing Tb at n R i 0
-  agreeing-start = record { low = omega arith; on = omega (arith, b .on); is = first (alike (part Tb at n) (drop i R)) (ap (λ (x : ℕ). alike (part Tb at n) (drop x R)) (let z : i ≡ i + 0 = omega arith in z)) }
+  agreeing-start = record {
+    low = omega arith;
+    on = omega (arith, b .on);
+    is = first (alike (part Tb at n) (drop i R))
+        (ap (λ (x : ℕ). alike (part Tb at n) (drop x R)) (let z : i ≡ i + 0 = omega arith in z));
+  }
     where
       first : (x : ℕ) {y : ℕ} → x ≡ y → x ≡ 0 + y
       first x e = omega arith

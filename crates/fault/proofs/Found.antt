@@ -58,7 +58,8 @@ pub record Searched (Tb c M F H : List ℕ) (R : Text) (size top first : ℕ) (g
   pub least : (i j : ℕ) → i ≤ j → j ≤ length R → LeastOn c M F size (length R) H i j
   pub attained : (i j : ℕ) → i ≤ j → j ≤ length R → Attained (flagged k left only) R (homeOf c) (Fits M) (Reached M) (Wanted M) (ruleOf c M F (length R) H) (restOf c M F (length R) H) i j
 
-module _ {Tb c M F H : List ℕ} {R : Text} {size top first : ℕ} {g : Grammar} (k : Ruled (Token Tb) c g size top first) (s : Searched Tb c M F H R size top first g k) (tokened : Tokened Tb c size) where
+module _ {Tb c M F H : List ℕ} {R : Text} {size top first : ℕ} {g : Grammar} (k : Ruled (Token Tb) c g size top first) (s : Searched Tb c M F H R size top first g k)
+    (tokened : Tokened Tb c size) where
   abbrev n : ℕ
   n = length R
 
@@ -126,7 +127,13 @@ module _ {Tb c M F H : List ℕ} {R : Text} {size top first : ℕ} {g : Grammar}
       let live = s .wants (ruleAt c p) m (omega (arith, named (k .stands p h) (w .kind), k .count)) b (steps-over k (s .left) h is l d b r .0) in
       let y = lower (flagged k (s .left) (s .only)) R (s .tables .shape .small) (s .tables .short) (homeOf c) (Fits M) (Reached M) (Wanted M) stays
       (ruleOf c M F n H) (restOf c M F n H) (s .least) d q
-      (record { inside = hq; is = f .is ∙ ap (λ (ts : List (List Symbol)). getD ts a []) (w .same); stop = b; used = used; live = subst (λ (e : ℕ). Wanted M e m) (sym (home-first c q (ruleAt c p) (f .owned))) live }) in
+      (record {
+        inside = hq;
+        is = f .is ∙ ap (λ (ts : List (List Symbol)). getD ts a []) (w .same);
+        stop = b;
+        used = used;
+        live = subst (λ (e : ℕ). Wanted M e m) (sym (home-first c q (ruleAt c p) (f .owned))) live;
+      }) in
       let e = toward-rule c (ruleOf c M F n H) (restOf c M F n H) q (ruleAt c p) i m (f .owned) in
       omega (arith, y .some)
 
@@ -266,7 +273,8 @@ module _ {Tb c M F H : List ℕ} {R : Text} {size top first : ℕ} {g : Grammar}
           on = o .on;
           is = is;
           used = s .left .first (e .place) (ruleAt c (o .dot)) i h (o .on) (e .owned) (s .left .begin (o .dot) i (o .inside) (o .on) (w .kind) (o .used));
-          viable = onward (o .viable) (by-entering (w .kind) (alive-first k shape prod f (e .place) (ruleAt c (o .dot)) h (e .owned) (subst (λ (ss : List Symbol). T (all (productive g) ss)) (sym is) t)));
+          viable = onward (o .viable) (by-entering (w .kind) (alive-first k shape prod f (e .place) (ruleAt c (o .dot)) h (e .owned)
+              (subst (λ (ss : List Symbol). T (all (productive g) ss)) (sym is) t)));
         }
     stands-viable (past-symbol {s = u} {a = a} {i = i} {m = m} z l d b) =
         let o = stands-viable z in

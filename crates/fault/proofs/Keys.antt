@@ -64,7 +64,8 @@ module _ {c K : List ℕ} {p : ℕ} where
       getD-set-same (set K (4 * p) 2) (4 * p + 2) (ownerAt c p - 1) 0 (omega (arith, length-set K (4 * p) 2)) ∙ (let z : ownerAt c p - 1 ≡ e = omega arith in z),
     );
     none = λ h. absurd (⊎-elim n (λ z. z t) h);
-    kept = λ x h. getD-set-other (set K (4 * p) 2) (4 * p + 2) x (ownerAt c p - 1) 0 (λ z. away x h (omega arith) (omega arith)) ∙ getD-set-other K (4 * p) x 2 0 (λ z. away x h (omega arith) (omega arith));
+    kept = λ x h. getD-set-other (set K (4 * p) 2) (4 * p + 2) x (ownerAt c p - 1) 0 (λ z. away x h (omega arith) (omega arith))
+        ∙ getD-set-other K (4 * p) x 2 0 (λ z. away x h (omega arith) (omega arith));
   }
     where
       away : (x : ℕ) → (x < 4 * p) ⊎ (4 * p + 3 < x) → 4 * p ≤ x → x ≤ 4 * p + 3 → ⊥

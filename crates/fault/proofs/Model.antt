@@ -95,7 +95,8 @@ module _ {Tb c : List ℕ} {g : Grammar} {size top first : ℕ} (k : Ruled (Toke
           at-terminal y (x, a, terminal-live g x (and-left (productive g (terminal x)) ts u)) (r (omega (arith, ap length e)) (omega (arith, k .count)) (and-right (productive g (terminal x)) ts u))
       go r (on-symbol s y b e m q d) =
           let u : T (all (productive g) (s ∷ afterDot (k .dots) (p + 1))) = subst (λ (ss : List Symbol). T (all (productive g) ss)) e t in
-          at-other {p = p} (λ z. omega (arith, y, z)) (λ z. omega (arith, y, z)) (r (omega (arith, ap length e)) (omega (arith, k .count)) (and-right (productive g s) (all (productive g) (afterDot (k .dots) (p + 1))) u))
+          at-other {p = p} (λ z. omega (arith, y, z)) (λ z. omega (arith, y, z))
+          (r (omega (arith, ap length e)) (omega (arith, k .count)) (and-right (productive g s) (all (productive g) (afterDot (k .dots) (p + 1))) u))
 
   -- the dots on a rule's list begin alternatives that can be finished
   module _ {L : List ℕ} (f : Firsts Tb c size L) where

@@ -23,7 +23,8 @@ use Rattle.plain.specs.Plain.{size}
 use Rattle.derive.specs.Productive.{Unproductive}
 use Rattle.answer.specs.Answer.{GrammarText, GrammarTree, ofText, ofTree, grammarLines, Job, job, asNumbers, asXml}
 use Rattle.viable.specs.Compute.{faultOf}
-use Rattle.answer.specs.Compute.{Test, firstOf, treeOf, grammarTests, recordTests, documentTests, longTest, Values, Value, value, valueAt, grammarValues, placeValues, placesAt, inputValues, readingValues, placeTree, placeText}
+use Rattle.answer.specs.Compute.{Test, firstOf, treeOf, grammarTests, recordTests, documentTests, longTest, Values, Value}
+use Rattle.answer.specs.Compute.{value, valueAt, grammarValues, placeValues, placesAt, inputValues, readingValues, placeTree, placeText}
 use Rattle.answer.specs.Compute.{Result, result, resultTree, resultOf, resultBy, Outcome, outcome, mismatch, checkOf, readOf, convertOf}
 use Rattle.answer.specs.Demands.{None}
 use Rattle.answer.proofs.Agree.{grammar-agrees, tree-complete}

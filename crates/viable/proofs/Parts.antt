@@ -95,7 +95,8 @@ alike-take [] t = refl
 alike-take (c ∷ cs) [] = refl
 alike-take (c ∷ cs) (d ∷ t) = go (alike-take cs t) (eqb c d) refl
   where
-    go : take (alike cs t) cs ≡ take (alike cs t) t → (b : Bool) → eqb c d ≡ b → take (elim b [ true ↦ suc (alike cs t) | false ↦ 0 ]) (c ∷ cs) ≡ take (elim b [ true ↦ suc (alike cs t) | false ↦ 0 ]) (d ∷ t)
+    go : take (alike cs t) cs ≡ take (alike cs t) t → (b : Bool) → eqb c d ≡ b → take (elim b [ true ↦ suc (alike cs t) | false ↦ 0 ]) (c ∷ cs) ≡ take
+        (elim b [ true ↦ suc (alike cs t) | false ↦ 0 ]) (d ∷ t)
     go y true q = let z : c ≡ d = eqb→eq c d (rw q tt) in (λ ι. z ι ∷ y ι)
     go y false q = refl
 

@@ -97,7 +97,8 @@ module _ (g : Grammar) (r : Text) (k : ℕ) where
       beyond y =
           let w = found (past f s ss i) i (suc k - i) y in
           let m = first (past f s ss i) i (suc k - i) in
-          over m (w .low) (omega (arith, w .high)) (and-left (canOne g r (top g r) s i m) (reaching g r k f ss m) (w .holds)) (and-right (canOne g r (top g r) s i m) (reaching g r k f ss m) (w .holds))
+          over m (w .low) (omega (arith, w .high)) (and-left (canOne g r (top g r) s i m) (reaching g r k f ss m) (w .holds))
+          (and-right (canOne g r (top g r) s i m) (reaching g r k f ss m) (w .holds))
 
   module _ (l : k ≤ length r) where
     -- what is computed stands

@@ -26,8 +26,13 @@ returns c =
     let at-why = c .before in
     refuses _ _ _ _ _ _ (at-why .before .enum-told .given .1) (at-why .why-not-accepted .ensures) (at-why .before .before .before .before .accept-grammar .ensures) (c .refuse .ensures)
 
+answered-requires : tie.Need-answered-requires
+answered-requires c κs = search needs
+
 returns-2 : tie.Need-returns-2
-returns-2 c = accepts _ _ _ _ (c .before .accepted .given .1) (c .before .before .before .before .accept-grammar .ensures)
+returns-2 c =
+    let at-accepted = c .before .before in
+    accepts _ _ _ _ _ (at-accepted .accepted .given .1) (at-accepted .before .before .before .accept-grammar .ensures) (c .answered .ensures)
 
 pub ixml-check-spec : {M : Type 1} → statement M
 ixml-check-spec =
@@ -40,4 +45,5 @@ ixml-check-spec =
     why-not-accepted-requires
     refuse-requires
     returns
+    answered-requires
     returns-2)

@@ -1,97 +1,31 @@
-use Rattle.calls.proofs.TidiesAs.{tidy-not-accepted, is-kept, some-left, tidy-refused, tidy-done}
+use Rattle.calls.proofs.TidiesAs.{tokened, tidy-given}
 use borrow.Author.Needs.{needs}
 use Rattle.calls.proofs.ixml_tidy.Statement.{statement}
 use Rattle.calls.proofs.ixml_tidy.Tie as tie
 
--- src/lib.rt:268:52
 slice-aggregate-accept-grammar : tie.Need-slice-aggregate-accept-grammar
 slice-aggregate-accept-grammar c = search needs
 
--- src/lib.rt:268:9
 accept-grammar-requires : tie.Need-accept-grammar-requires
 accept-grammar-requires c κs = search needs
 
--- src/lib.rt:269:27
-enum-known-accepted : tie.Need-enum-known-accepted
-enum-known-accepted c = search needs
+slice-aggregate-give-tidy : tie.Need-slice-aggregate-give-tidy
+slice-aggregate-give-tidy c = search needs
 
--- src/lib.rt:271:18
-enum-told : tie.Need-enum-told
-enum-told c = search needs
+give-tidy-requires : tie.Need-give-tidy-requires
+give-tidy-requires c κs =
+    let done = c .before .before .before .accept-grammar in
+    tokened (c .before .before .before .before .before .before .before .args .grammar .now) (done .last .1 .0) (done .result) (done .ensures) (search needs)
 
--- src/lib.rt:271:18
-why-not-accepted-requires : tie.Need-why-not-accepted-requires
-why-not-accepted-requires c κs = search needs
-
--- src/lib.rt:270:9
-refuse-requires : tie.Need-refuse-requires
-refuse-requires c κs = search needs
-
--- src/lib.rt:270:9
-returns : tie.Need-returns
-returns c =
-    let at-enum-told = c .before .before in
-    let at-accept-grammar = at-enum-told .before .before .before in
-    tidy-not-accepted _ _ _ _ _ _ _ (at-enum-told .enum-told .given .1) (c .before .why-not-accepted .ensures) (at-accept-grammar .accept-grammar .ensures) (c .refuse .ensures)
-
--- src/lib.rt:275:34
-slice-aggregate-tidy : tie.Need-slice-aggregate-tidy
-slice-aggregate-tidy c = search needs
-
--- src/lib.rt:275:9
-tidy-requires : tie.Need-tidy-requires
-tidy-requires c κs =
-    let at-accepted = c .before .before .before in
-    let at-accept-grammar = at-accepted .before .before .before in
-    some-left (is-kept _ _ _ _ (at-accepted .accepted .given .1) (at-accept-grammar .accept-grammar .ensures)) (search needs)
-
--- src/lib.rt:276:22
-enum-known-tidied : tie.Need-enum-known-tidied
-enum-known-tidied c = search needs
-
--- src/lib.rt:278:30
-enum-told-2 : tie.Need-enum-told-2
-enum-told-2 c = search needs
-
--- src/lib.rt:278:30
-why-not-tidied-requires : tie.Need-why-not-tidied-requires
-why-not-tidied-requires c κs = search needs
-
--- src/lib.rt:278:18
-plain-requires : tie.Need-plain-requires
-plain-requires c κs = search needs
-
--- src/lib.rt:277:9
-refuse-requires-2 : tie.Need-refuse-requires-2
-refuse-requires-2 c κs = search needs
-
--- src/lib.rt:277:9
 same-length : tie.Need-same-length
 same-length c = search needs
 
--- src/lib.rt:277:9
-returns-2 : tie.Need-returns-2
-returns-2 c =
-    let at-why-not-tidied = c .before .before in
-    let at-enum-told2 = at-why-not-tidied .before in
-    let at-tidy = at-enum-told2 .before .before .before .before in
-    let at-accepted = at-tidy .before .before .before .before in
-    let at-accept-grammar = at-accepted .before .before .before in
-    let y = is-kept _ _ _ _ (at-accepted .accepted .given .1) (at-accept-grammar .accept-grammar .ensures) in
-    tidy-refused y _ _ _ (at-tidy .tidy .ensures) _ _ _ _ (at-enum-told2 .enum-told2 .given .1) (at-why-not-tidied .why-not-tidied .ensures) (c .before .plain .ensures) (c .refuse2 .ensures)
-
--- src/lib.rt:263:1
-same-length-2 : tie.Need-same-length-2
-same-length-2 c = search needs
-
--- src/lib.rt:263:1
-returns-3 : tie.Need-returns-3
-returns-3 c =
-    let at-tidy = c .before .before .before .before .before in
-    let at-accepted = at-tidy .before .before .before .before in
-    let at-accept-grammar = at-accepted .before .before .before in
-    let y = is-kept _ _ _ _ (at-accepted .accepted .given .1) (at-accept-grammar .accept-grammar .ensures) in
-    tidy-done y _ _ _ (at-tidy .tidy .ensures) _ (c .before .tidied .given .1)
+returns : tie.Need-returns
+returns c =
+    let at-give = c .before .before in
+    let at-accept = at-give .before .before .before .before in
+    let done = at-accept .accept-grammar in
+    tidy-given (at-accept .before .before .before .before .args .grammar .now) _ (done .last .1 .0) (done .result) (done .ensures) _ _ (at-give .give-tidy .ensures)
 
 pub ixml-tidy-spec : {M : Type 1} → statement M
 ixml-tidy-spec =
@@ -99,19 +33,7 @@ ixml-tidy-spec =
     (tie.spec
     slice-aggregate-accept-grammar
     accept-grammar-requires
-    enum-known-accepted
-    enum-told
-    why-not-accepted-requires
-    refuse-requires
-    returns
-    slice-aggregate-tidy
-    tidy-requires
-    enum-known-tidied
-    enum-told-2
-    why-not-tidied-requires
-    plain-requires
-    refuse-requires-2
+    slice-aggregate-give-tidy
+    give-tidy-requires
     same-length
-    returns-2
-    same-length-2
-    returns-3)
+    returns)

@@ -21,13 +21,20 @@ slice-aggregate-list-uses : tie.Need-slice-aggregate-list-uses
 slice-aggregate-list-uses c = search needs
 
 list-uses-requires : tie.Need-list-uses-requires
-list-uses-requires c κs = (c .before .before .before .before .before .before .before .before .pre .0 .shape .small, c .before .before .before .put-keys .ensures .long, c .before .before .before .before .before .before .before .before .pre .1, key-below (c .before .before .before .before .before .before .before .before .pre .0) (c .before .before .before .put-keys .ensures), c .before .before .before .before .before .before .before .before .pre .2)
+list-uses-requires c κs =
+    let at-put-keys = c .before .before .before in
+    let start = at-put-keys .before .before .before .before .before in
+    (start .pre .0 .shape .small, at-put-keys .put-keys .ensures .long, start .pre .1, key-below (start .pre .0) (at-put-keys .put-keys .ensures), start .pre .2)
 
 same-length : tie.Need-same-length
 same-length c = search needs
 
 returns : tie.Need-returns
-returns c = firsts-of (c .before .before .before .before .before .before .before .before .before .before .before .pre .0) (c .before .before .before .before .before .before .put-keys .ensures) (c .before .before .list-uses .ensures) (omega (arith, c .before .before .before .before .before .before .before .before .before .before .before .pre .1, c .before .before .list-uses .kept .1 .0))
+returns c =
+    let at-list-uses = c .before .before in
+    let at-put-keys = at-list-uses .before .before .before .before in
+    let start = at-put-keys .before .before .before .before .before in
+    firsts-of (start .pre .0) (at-put-keys .put-keys .ensures) (at-list-uses .list-uses .ensures) (omega (arith, start .pre .1, at-list-uses .list-uses .kept .1 .0))
 
 pub list-firsts-spec : {M : Type 1} → statement M
 list-firsts-spec =

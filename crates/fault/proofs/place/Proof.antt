@@ -11,7 +11,9 @@ slice-aggregate-list-firsts : tie.Need-slice-aggregate-list-firsts
 slice-aggregate-list-firsts c = search needs
 
 list-firsts-requires : tie.Need-list-firsts-requires
-list-firsts-requires c κs = (c .before .before .before .before .before .before .before .before .pre .tokened, omega (arith, length-replicate {A = ℕ} 1024 0, c .before .before .before .before .before .before .before .before .pre .tokened .shape .small), all-zero 1024)
+list-firsts-requires c κs =
+    let start = c .before .before .before .before .before .before .before .before in
+    (start .pre .tokened, omega (arith, length-replicate {A = ℕ} 1024 0, start .pre .tokened .shape .small), all-zero 1024)
 
 slice-aggregate-mark : tie.Need-slice-aggregate-mark
 slice-aggregate-mark c = search needs
@@ -20,16 +22,23 @@ slice-aggregate-mark-2 : tie.Need-slice-aggregate-mark-2
 slice-aggregate-mark-2 c = search needs
 
 mark-requires : tie.Need-mark-requires
-mark-requires c κs = (standing-of (c .before .before .before .before .before .before .before .before .before .before .before .before .pre) (c .before .before .before .list-firsts .ensures) (length-replicate {A = ℕ} 102912 2), all-free 102912, c .before .before .before .before .before .before .before .before .before .before .before .before .pre .top-inside)
+mark-requires c κs =
+    let start = c .before .before .before .before .before .before .before .before .before .before .before .before in
+    (standing-of (start .pre) (c .before .before .before .list-firsts .ensures) (length-replicate {A = ℕ} 102912 2), all-free 102912, start .pre .top-inside)
 
 slice-aggregate-farthest : tie.Need-slice-aggregate-farthest
 slice-aggregate-farthest c = search needs
 
 farthest-requires : tie.Need-farthest-requires
-farthest-requires c κs = (ranging-of (c .before .before .before .before .before .before .before .before .before .before .before .before .before .before .before .pre), omega (arith, c .before .before .mark .kept .1 .1 .1 .1 .1 .0, length-replicate {A = ℕ} 102912 2))
+farthest-requires c κs =
+    let start = c .before .before .before .before .before .before .before .before .before .before .before .before .before .before .before in
+    (ranging-of (start .pre), omega (arith, c .before .before .mark .kept .1 .1 .1 .1 .1 .0, length-replicate {A = ℕ} 102912 2))
 
 returns : tie.Need-returns
-returns c = placed-of (c .before .before .before .before .before .before .before .before .before .before .before .before .before .before .before .before .pre) (c .before .before .before .before .before .before .before .list-firsts .ensures) (c .before .before .before .mark .ensures) (c .farthest .ensures)
+returns c =
+    let at-list-firsts = c .before .before .before .before .before .before .before in
+    let start = at-list-firsts .before .before .before .before .before .before .before .before .before in
+    placed-of (start .pre) (at-list-firsts .list-firsts .ensures) (c .before .before .before .mark .ensures) (c .farthest .ensures)
 
 pub place-spec : {M : Type 1} → statement M
 place-spec =

@@ -47,7 +47,10 @@ slice-write-keys-2 : tie.Need-slice-write-keys-2
 slice-write-keys-2 c = omega (arith, c .before .before .before .pre .1, length-set (c .before .before .before .args .keys .now) (4 * c .before .before .before .args .p) 2)
 
 same-length : tie.Need-same-length
-same-length c = length-set (set (c .before .before .before .args .keys .now) (4 * c .before .before .before .args .p) 2) (4 * c .before .before .before .args .p + 2) (getD (c .before .before .before .args .code .now) (4 * c .before .before .before .args .p + 3) 0 - 1) ∙ length-set (c .before .before .before .args .keys .now) (4 * c .before .before .before .args .p) 2
+same-length c =
+    let start = c .before .before .before in
+    length-set (set (start .args .keys .now) (4 * start .args .p) 2) (4 * start .args .p + 2) (getD (start .args .code .now) (4 * start .args .p + 3) 0 - 1)
+    ∙ length-set (start .args .keys .now) (4 * start .args .p) 2
 
 returns-2 : tie.Need-returns-2
 returns-2 c = key-some (c .before .before .before .pre .1) (c .before .if1 .left) (c .if2 .taken)

@@ -21,16 +21,29 @@ sub-p : tie.Need-sub-p Inv-loop μ-loop
 sub-p c = omega (arith, c .loop-test .taken)
 
 finishes-requires : tie.Need-finishes-requires Inv-loop μ-loop
-finishes-requires c κs = (c .before .before .before .before .before .pre .0, omega (arith, c .before .loop .inv .low, c .loop-test .taken), keying-tells (c .before .before .before .before .before .pre .0 .shape) (c .before .loop .inv) (c .loop-test .taken))
+finishes-requires c κs =
+    let start = c .before .before .before .before .before in
+    (start .pre .0, omega (arith, c .before .loop .inv .low, c .loop-test .taken), keying-tells (start .pre .0 .shape) (c .before .loop .inv) (c .loop-test .taken))
 
 put-key-requires : tie.Need-put-key-requires Inv-loop μ-loop
-put-key-requires c κs = (omega (arith, c .before .before .before .loop .inv .low, c .before .before .loop-test .taken, c .before .before .before .before .before .before .before .pre .0 .shape .room), omega (arith, c .before .before .before .loop .inv .low, c .before .before .loop-test .taken, c .before .before .before .loop .inv .long, c .before .before .before .before .before .before .before .pre .1), omega (arith, c .before .before .before .loop .inv .low, c .before .before .loop-test .taken, c .before .before .before .before .before .before .before .pre .0 .shape .small))
+put-key-requires c κs =
+    let at-loop-test = c .before .before in
+    let at-loop = at-loop-test .before in
+    let start = at-loop .before .before .before .before in (
+      omega (arith, at-loop .loop .inv .low, at-loop-test .loop-test .taken, start .pre .0 .shape .room),
+      omega (arith, at-loop .loop .inv .low, at-loop-test .loop-test .taken, at-loop .loop .inv .long, start .pre .1),
+      omega (arith, at-loop .loop .inv .low, at-loop-test .loop-test .taken, start .pre .0 .shape .small),
+    )
 
 loop-less : tie.Need-loop-less Inv-loop μ-loop
 loop-less c = omega (arith, c .before .before .before .before .before .loop-test .taken)
 
 loop-again : tie.Need-loop-again Inv-loop μ-loop
-loop-again c = keying-next (c .before .before .before .before .before .before .loop .inv) (c .before .before .before .before .before .loop-test .taken) refl (c .before .before .before .before .finishes .ensures) (c .before .before .put-key .ensures)
+loop-again c =
+    let at-finishes = c .before .before .before .before in
+    let at-loop-test = at-finishes .before in
+    let at-loop = at-loop-test .before in
+    keying-next (at-loop .loop .inv) (at-loop-test .loop-test .taken) refl (at-finishes .finishes .ensures) (c .before .before .put-key .ensures)
 
 same-length : tie.Need-same-length Inv-loop μ-loop
 same-length c = c .before .loop .inv .long

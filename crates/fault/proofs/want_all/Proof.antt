@@ -16,7 +16,9 @@ loop-holds : tie.Need-loop-holds Inv-loop μ-loop
 loop-holds c = (all-none, omega arith)
 
 want-at-requires : tie.Need-want-at-requires Inv-loop μ-loop
-want-at-requires c κs = (c .before .before .before .loop .inv .0 .wanting .long ∙ c .before .before .before .before .before .pre .0, c .before .before .before .before .before .pre .1, omega (arith, c .before .before .before .before .before .pre .2, c .before .if1 .taken))
+want-at-requires c κs =
+    let start = c .before .before .before .before .before in
+    (c .before .before .before .loop .inv .0 .wanting .long ∙ start .pre .0, start .pre .1, omega (arith, start .pre .2, c .before .if1 .taken))
 
 add-j : tie.Need-add-j Inv-loop μ-loop
 add-j c = omega (arith, c .before .before .before .before .before .before .before .before .pre .2, c .before .before .before .before .if1 .taken)

@@ -25,7 +25,9 @@ add-want-2 : tie.Need-add-want-2 Inv-loop μ-loop
 add-want-2 c = omega (arith, c .before .before .before .before .pre .1, c .before .before .before .before .pre .2, c .before .loop-test .taken)
 
 want-requires : tie.Need-want-requires Inv-loop μ-loop
-want-requires c κs = omega (arith, c .before .before .before .before .pre .0, c .before .before .before .before .pre .1, c .before .before .before .before .pre .2, c .before .loop-test .taken, c .before .before .loop .inv .0 .wanting .long)
+want-requires c κs =
+    let start = c .before .before .before .before in
+    omega (arith, start .pre .0, start .pre .1, start .pre .2, c .before .loop-test .taken, c .before .before .loop .inv .0 .wanting .long)
 
 add-e : tie.Need-add-e Inv-loop μ-loop
 add-e c = omega (arith, c .before .before .before .before .before .before .before .pre .1, c .before .before .before .before .loop-test .taken)
@@ -34,7 +36,11 @@ loop-less : tie.Need-loop-less Inv-loop μ-loop
 loop-less c = omega (arith, c .before .before .before .before .loop-test .taken)
 
 loop-again : tie.Need-loop-again Inv-loop μ-loop
-loop-again c = (at-next (omega (arith, c .before .before .before .before .before .before .before .pre .1, c .before .before .before .before .loop-test .taken)) (c .before .before .before .before .before .loop .inv .0) (c .before .before .want .ensures), omega (arith, c .before .before .before .before .loop-test .taken))
+loop-again c =
+    let at-loop-test = c .before .before .before .before in
+    let at-loop = at-loop-test .before in
+    let start = at-loop .before .before in
+    (at-next (omega (arith, start .pre .1, at-loop-test .loop-test .taken)) (at-loop .loop .inv .0) (c .before .before .want .ensures), omega (arith, at-loop-test .loop-test .taken))
 
 same-length : tie.Need-same-length Inv-loop μ-loop
 same-length c = c .before .loop .inv .0 .wanting .long

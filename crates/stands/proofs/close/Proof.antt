@@ -17,13 +17,17 @@ loop-holds c = closing-start
 
 step-requires : tie.Need-step-requires Inv-loop μ-loop
 step-requires c κs =
+    let start = c .before .before .before .before .before .before .before .before .before .before .before in
     record {
-      standing = record { ground = c .before .before .before .before .before .before .before .before .before .before .before .pre .ground; on = c .before .before .before .before .before .before .before .before .before .before .before .pre .on; long = c .before .before .loop .inv .grown .long ∙ c .before .before .before .before .before .before .before .before .before .before .before .pre .long };
+      standing = record { ground = start .pre .ground; on = start .pre .on; long = c .before .before .loop .inv .grown .long ∙ start .pre .long };
       inside = c .before .loop-test .taken;
     }
 
 loop-less : tie.Need-loop-less Inv-loop μ-loop
-loop-less c = closing-less (c .before .before .before .before .before .before .before .before .before .before .before .before .before .before .pre .ground .tables .shape .small) (c .before .before .before .before .loop-test .taken) (c .before .before .step .ensures)
+loop-less c =
+    let at-loop-test = c .before .before .before .before in
+    let start = at-loop-test .before .before .before .before .before .before .before .before .before .before in
+    closing-less (start .pre .ground .tables .shape .small) (at-loop-test .loop-test .taken) (c .before .before .step .ensures)
 
 loop-again : tie.Need-loop-again Inv-loop μ-loop
 loop-again c = closing-next (c .before .before .before .before .before .loop .inv) (c .before .before .before .before .loop-test .taken) (c .before .before .step .ensures)

@@ -36,31 +36,57 @@ least-requires : tie.Need-least-requires Inv-loop μ-loop
 least-requires c κs = search needs
 
 add-set-out : tie.Need-add-set-out Inv-loop μ-loop
-add-set-out c = omega (arith, c .before .before .before .before .before .before .before .before .before .pre .on, c .before .before .before .before .before .before .before .before .before .pre .small, c .before .before .before .loop .inv .below, c .before .before .loop-test .taken)
+add-set-out c =
+    let start = c .before .before .before .before .before .before .before .before .before in
+    omega (arith, start .pre .on, start .pre .small, c .before .before .before .loop .inv .below, c .before .before .loop-test .taken)
 
 set-out-requires : tie.Need-set-out-requires Inv-loop μ-loop
-set-out-requires c κs = omega (arith, c .before .before .before .before .before .before .before .before .before .pre .on, c .before .before .before .before .before .before .before .before .before .pre .small, c .before .before .before .loop .inv .below, c .before .before .loop-test .taken, c .before .before .before .loop .inv .added .long, c .before .before .before .before .before .before .before .before .before .pre .long)
+set-out-requires c κs =
+    let at-loop = c .before .before .before in
+    let start = at-loop .before .before .before .before .before .before in
+    omega (arith, start .pre .on, start .pre .small, at-loop .loop .inv .below, c .before .before .loop-test .taken, at-loop .loop .inv .added .long, start .pre .long)
 
 mul-wide-3 : tie.Need-mul-wide-3 Inv-loop μ-loop
-mul-wide-3 c = omega (arith, c .before .before .before .before .before .before .before .before .before .before .before .before .pre .small, c .before .before .before .before .before .before .loop .inv .below)
+mul-wide-3 c =
+    let at-loop = c .before .before .before .before .before .before in
+    let start = at-loop .before .before .before .before .before .before in
+    omega (arith, start .pre .small, at-loop .loop .inv .below)
 
 sub-wide : tie.Need-sub-wide Inv-loop μ-loop
 sub-wide c = omega (arith, c .before .before .before .before .before .loop-test .taken)
 
 mul-wide-4 : tie.Need-mul-wide-4 Inv-loop μ-loop
-mul-wide-4 c = omega (arith, c .before .before .before .before .before .before .before .before .before .before .before .before .pre .small, c .before .before .before .before .before .before .loop .inv .below)
+mul-wide-4 c =
+    let at-loop = c .before .before .before .before .before .before in
+    let start = at-loop .before .before .before .before .before .before in
+    omega (arith, start .pre .small, at-loop .loop .inv .below)
 
 shared-slice-read-wide-2 : tie.Need-shared-slice-read-wide-2 Inv-loop μ-loop
-shared-slice-read-wide-2 c = omega (arith, c .before .before .before .before .before .before .before .loop .inv .below, c .before .before .before .before .before .before .loop-test .taken, c .before .before .before .before .before .before .before .before .before .before .before .before .before .pre .linked .room)
+shared-slice-read-wide-2 c =
+    let at-loop-test = c .before .before .before .before .before .before in
+    let at-loop = at-loop-test .before in
+    let start = at-loop .before .before .before .before .before .before in
+    omega (arith, at-loop .loop .inv .below, at-loop-test .loop-test .taken, start .pre .linked .room)
 
 wide-requires-2 : tie.Need-wide-requires-2 Inv-loop μ-loop
 wide-requires-2 c κs = search needs
 
 loop-less : tie.Need-loop-less Inv-loop μ-loop
-loop-less c = omega (arith, c .wide2 .ensures, enters-less (c .before .before .before .before .before .before .before .before .before .before .before .before .before .before .pre .linked) (c .before .before .before .before .before .before .before .before .before .before .before .before .before .before .pre .inside) (c .before .before .before .before .before .before .before .before .loop .inv) (c .before .before .before .before .before .before .before .loop-test .taken))
+loop-less c =
+    let at-loop-test = c .before .before .before .before .before .before .before in
+    let at-loop = at-loop-test .before in
+    let start = at-loop .before .before .before .before .before .before in
+    omega (arith, c .wide2 .ensures, enters-less (start .pre .linked) (start .pre .inside) (at-loop .loop .inv) (at-loop-test .loop-test .taken))
 
 loop-again : tie.Need-loop-again Inv-loop μ-loop
-loop-again c = rw (c .wide2 .ensures) (enters-next (c .before .before .before .before .before .before .before .before .before .before .before .before .before .before .pre .linked) (c .before .before .before .before .before .before .before .before .before .before .before .before .before .before .pre .inside) (c .before .before .before .before .before .before .before .before .loop .inv) (c .before .before .before .before .before .before .before .loop-test .taken) (c .before .before .before .before .before .before .least .ensures .0) (c .before .before .before .before .before .before .least .ensures .1) (c .before .before .before .before .set-out .ensures))
+loop-again c =
+    let at-set-out = c .before .before .before .before in
+    let at-least = at-set-out .before .before in
+    let at-loop-test = at-least .before in
+    let at-loop = at-loop-test .before in
+    let start = at-loop .before .before .before .before .before .before in
+    rw (c .wide2 .ensures) (enters-next (start .pre .linked) (start .pre .inside) (at-loop .loop .inv) (at-loop-test .loop-test .taken) (at-least .least .ensures .0)
+    (at-least .least .ensures .1) (at-set-out .set-out .ensures))
 
 same-length : tie.Need-same-length Inv-loop μ-loop
 same-length c = c .before .loop .inv .added .long

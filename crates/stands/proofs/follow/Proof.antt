@@ -103,12 +103,17 @@ same-length c = c .before .before .set-out .ensures .added .long
 
 returns : tie.Need-returns
 returns c =
-    let pre = c .before .before .before .before .before .before .before .before .before .before .before .before .before .before .before .before .before .before .before .before .pre in
+    let at-wide = c .before .before .before .before .before in
+    let at-if2 = at-wide .before .before .before in
+    let at-fits2 = at-if2 .before in
+    let at-if1 = at-fits2 .before in
+    let start = at-if1 .before .before .before .before .before .before .before .before .before .before in
+    let pre = start .pre in
     let shape = pre .standing .ground .tables .shape in
-    let fit = fit-yes _ (c .before .before .before .before .before .before .before .before .before .fits2 .ensures) (c .before .before .before .before .before .before .before .before .if2 .taken) in
-    let room = pre .standing .ground .within _ _ (pre .inside) (pre .standing .on) (c .before .before .before .before .before .before .before .before .before .before .if1 .taken) fit in
-    let next = shape .nexts _ (pre .inside) (λ z. omega (arith, c .before .before .before .before .before .before .before .before .before .before .if1 .taken)) in
-    follow-fit (omega (arith, next, shape .small)) (c .before .before .before .before .before .before .before .before .before .before .if1 .taken) fit (rw (c .before .before .before .before .before .wide .ensures) at (c .before .before .set-out .ensures))
+    let fit = fit-yes _ (at-fits2 .fits2 .ensures) (at-if2 .if2 .taken) in
+    let room = pre .standing .ground .within _ _ (pre .inside) (pre .standing .on) (at-if1 .if1 .taken) fit in
+    let next = shape .nexts _ (pre .inside) (λ z. omega (arith, at-if1 .if1 .taken)) in
+    follow-fit (omega (arith, next, shape .small)) (at-if1 .if1 .taken) fit (rw (at-wide .wide .ensures) at (c .before .before .set-out .ensures))
 
 returns-2 : tie.Need-returns-2
 returns-2 c = follow-misfit (c .before .before .if1 .taken) (fit-no _ (c .before .fits2 .ensures) (c .if2 .left))
@@ -145,12 +150,20 @@ wide-requires-2 c κs = search needs
 
 pass-requires : tie.Need-pass-requires
 pass-requires c κs =
-    let pre = c .before .before .before .before .before .before .before .before .before .before .before .before .before .before .before .pre in
+    let at-if3 = c .before .before .before .before in
+    let start = at-if3 .before .before .before .before .before .before .before .before .before .before .before in
+    let pre = start .pre in
     let shape = pre .standing .ground .tables .shape in
-    let next = shape .nexts _ (pre .inside) (λ z. omega (arith, c .before .before .before .before .if3 .left)) in
+    let next = shape .nexts _ (pre .inside) (λ z. omega (arith, at-if3 .if3 .left)) in
     record {
-      reads = record { small = shape .small; noted-long = pre .standing .ground .tables .noted .long; short = pre .standing .ground .tables .short; marks-long = pre .standing .ground .tables .marks-long; room = pre .standing .ground .tables .room };
-      inside = rw (c .before .wide2 .ensures) (shape .names _ (pre .inside) (c .before .before .before .before .if3 .left) .0);
+      reads = record {
+        small = shape .small;
+        noted-long = pre .standing .ground .tables .noted .long;
+        short = pre .standing .ground .tables .short;
+        marks-long = pre .standing .ground .tables .marks-long;
+        room = pre .standing .ground .tables .room;
+      };
+      inside = rw (c .before .wide2 .ensures) (shape .names _ (pre .inside) (at-if3 .if3 .left) .0);
       next = next;
       on = pre .standing .on;
       long = pre .standing .long;
@@ -158,25 +171,36 @@ pass-requires c κs =
 
 enter-requires : tie.Need-enter-requires
 enter-requires c κs =
-    let pre = c .before .before .before .before .before .before .before .before .before .before .before .before .before .before .before .before .before .before .before .pre in
+    let at-wide2 = c .before .before .before .before .before in
+    let at-if3 = at-wide2 .before .before .before in
+    let start = at-if3 .before .before .before .before .before .before .before .before .before .before .before in
+    let pre = start .pre in
     let shape = pre .standing .ground .tables .shape in
     record {
       linked = pre .standing .ground .linked;
       small = shape .small;
-      inside = rw (c .before .before .before .before .before .wide2 .ensures) (shape .names _ (pre .inside) (c .before .before .before .before .before .before .before .before .if3 .left) .0);
+      inside = rw (at-wide2 .wide2 .ensures) (shape .names _ (pre .inside) (at-if3 .if3 .left) .0);
       on = omega (arith, pre .standing .ground .tables .short, pre .standing .on);
-      long = c .before .before .before .pass .ensures .added (c .before .before .before .before .before .before .before .before .before .before .before .before .before .before .before .before .before .before .before .args .code .now) .long ∙ pre .standing .long;
+      long = c .before .before .before .pass .ensures .added (start .args .code .now) .long ∙ pre .standing .long;
     }
 
 same-length-2 : tie.Need-same-length-2
-same-length-2 c = c .before .before .enter .ensures .added .long ∙ c .before .before .before .before .before .before .pass .ensures .added (c .before .before .before .before .before .before .before .before .before .before .before .before .before .before .before .before .before .before .before .before .before .before .args .code .now) .long
+same-length-2 c =
+    let at-pass = c .before .before .before .before .before .before in
+    let start = at-pass .before .before .before .before .before .before .before .before .before .before .before .before .before .before .before .before in
+    c .before .before .enter .ensures .added .long ∙ at-pass .pass .ensures .added (start .args .code .now) .long
 
 returns-4 : tie.Need-returns-4
 returns-4 c =
-    let pre = c .before .before .before .before .before .before .before .before .before .before .before .before .before .before .before .before .before .before .before .before .before .before .pre in
+    let at-pass = c .before .before .before .before .before .before in
+    let at-wide2 = at-pass .before .before in
+    let at-if3 = at-wide2 .before .before .before in
+    let start = at-if3 .before .before .before .before .before .before .before .before .before .before .before in
+    let pre = start .pre in
     let shape = pre .standing .ground .tables .shape in
-    let next = shape .nexts _ (pre .inside) (λ z. omega (arith, c .before .before .before .before .before .before .before .before .before .before .before .if3 .left)) in
-    follow-symbol (omega (arith, next, shape .small)) (c .before .before .before .before .before .before .before .before .before .before .before .if3 .left) (rw (c .before .before .before .before .before .before .before .before .wide2 .ensures) at (c .before .before .before .before .before .before .pass .ensures)) (rw (c .before .before .before .before .before .before .before .before .wide2 .ensures) at (c .before .before .enter .ensures))
+    let next = shape .nexts _ (pre .inside) (λ z. omega (arith, at-if3 .if3 .left)) in
+    follow-symbol (omega (arith, next, shape .small)) (at-if3 .if3 .left) (rw (at-wide2 .wide2 .ensures) at (at-pass .pass .ensures))
+    (rw (at-wide2 .wide2 .ensures) at (c .before .before .enter .ensures))
 
 pub follow-spec : {M : Type 1} → statement M
 follow-spec =

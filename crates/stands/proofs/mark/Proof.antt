@@ -23,13 +23,20 @@ enter-requires c κs =
     }
 
 loop-holds : tie.Need-loop-holds Inv-loop μ-loop
-loop-holds c = marks-start (c .before .before .before .before .before .before .before .before .before .before .before .pre .2) (c .before .before .before .before .before .before .before .before .before .before .before .pre .0) (c .before .before .before .before .before .before .before .before .before .before .before .pre .1) (c .before .before .enter .ensures)
+loop-holds c =
+    let start = c .before .before .before .before .before .before .before .before .before .before .before in
+    marks-start (start .pre .2) (start .pre .0) (start .pre .1) (c .before .before .enter .ensures)
 
 close-requires : tie.Need-close-requires Inv-loop μ-loop
-close-requires c κs = marks-standing (c .before .before .before .before .before .before .before .before .before .before .before .before .before .before .before .pre .0) (c .before .before .before .loop .inv) (c .before .if1 .taken)
+close-requires c κs =
+    let start = c .before .before .before .before .before .before .before .before .before .before .before .before .before .before .before in
+    marks-standing (start .pre .0) (c .before .before .before .loop .inv) (c .before .if1 .taken)
 
 add-i : tie.Need-add-i Inv-loop μ-loop
-add-i c = omega (arith, c .before .before .before .before .if1 .taken, c .before .before .before .before .before .before .before .before .before .before .before .before .before .before .before .before .before .before .pre .0 .ground .tables .short)
+add-i c =
+    let at-if1 = c .before .before .before .before in
+    let start = at-if1 .before .before .before .before .before .before .before .before .before .before .before .before .before .before in
+    omega (arith, at-if1 .if1 .taken, start .pre .0 .ground .tables .short)
 
 loop-less : tie.Need-loop-less Inv-loop μ-loop
 loop-less c = omega (arith, c .before .before .before .before .if1 .taken)
@@ -41,7 +48,9 @@ same-length : tie.Need-same-length Inv-loop μ-loop
 same-length c = c .before .before .loop .inv .long ∙ sym (c .before .before .before .before .before .before .before .before .before .before .before .before .before .before .pre .0 .long)
 
 returns : tie.Need-returns Inv-loop μ-loop
-returns c = marks-end (c .before .before .before .before .before .before .before .before .before .before .before .before .before .before .pre .2) (c .before .before .before .before .before .before .before .before .before .before .before .before .before .before .pre .0 .ground) (c .before .before .loop .inv) (c .if1 .left)
+returns c =
+    let start = c .before .before .before .before .before .before .before .before .before .before .before .before .before .before in
+    marks-end (start .pre .2) (start .pre .0 .ground) (c .before .before .loop .inv) (c .if1 .left)
 
 pub mark-spec : {M : Type 1} → statement M
 mark-spec =

@@ -16,8 +16,13 @@ loop-holds c = (passed-none, omega arith, omega (arith, c .before .before .befor
 
 pass-at-requires : tie.Need-pass-at-requires Inv-loop μ-loop
 pass-at-requires c κs =
-    let pre = c .before .before .before .before .before .before .before .before .pre in
-    (record { reads = pre .reads; inside = pre .inside; next = pre .next; on = pre .on; long = omega (arith, pre .long, c .before .before .before .loop .inv .0 .added (c .before .before .before .before .before .before .before .before .args .notes .now) .long) }, c .before .before .before .loop .inv .1, c .before .if1 .taken)
+    let at-loop = c .before .before .before in
+    let start = at-loop .before .before .before .before .before in
+    let pre = start .pre in (
+      record { reads = pre .reads; inside = pre .inside; next = pre .next; on = pre .on; long = omega (arith, pre .long, at-loop .loop .inv .0 .added (start .args .notes .now) .long) },
+      at-loop .loop .inv .1,
+      c .before .if1 .taken,
+    )
 
 add-m : tie.Need-add-m Inv-loop μ-loop
 add-m c = omega (arith, c .before .before .before .before .if1 .taken, c .before .before .before .before .before .before .before .before .before .before .before .pre .reads .short)
@@ -26,7 +31,10 @@ loop-less : tie.Need-loop-less Inv-loop μ-loop
 loop-less c = omega (arith, c .before .before .before .before .if1 .taken)
 
 loop-again : tie.Need-loop-again Inv-loop μ-loop
-loop-again c = (passed-next (c .before .before .before .before .before .before .loop .inv .1) (c .before .before .before .before .before .before .loop .inv .0) (c .before .before .pass-at .ensures), omega (arith, c .before .before .before .before .before .before .loop .inv .1), omega (arith, c .before .before .before .before .if1 .taken))
+loop-again c =
+    let at-if1 = c .before .before .before .before in
+    let at-loop = at-if1 .before .before in
+    (passed-next (at-loop .loop .inv .1) (at-loop .loop .inv .0) (c .before .before .pass-at .ensures), omega (arith, at-loop .loop .inv .1), omega (arith, at-if1 .if1 .taken))
 
 same-length : tie.Need-same-length Inv-loop μ-loop
 same-length c = c .before .before .loop .inv .0 .added (c .before .before .before .before .before .before .before .args .notes .now) .long

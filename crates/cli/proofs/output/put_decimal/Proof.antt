@@ -42,8 +42,11 @@ returns-2 : tie.Need-returns-2
 returns-2 c =
     let at-put2 = c .before .before in
     let at-digit3 = at-put2 .before .before .before in
-    let at-digit2 = at-digit3 .before in
-    (omega (arith, at-put2 .put2 .ensures .ends), λ h. two-digits (omega arith) (omega (arith, at-digit2 .before .if2 .taken)) (at-digit2 .digit2 .ensures) (at-digit3 .digit3 .ensures) (at-put2 .put2 .ensures))
+    let at-digit2 = at-digit3 .before in (
+      omega (arith, at-put2 .put2 .ensures .ends),
+      λ h. two-digits (omega arith) (omega (arith, at-digit2 .before .if2 .taken)) (at-digit2 .digit2 .ensures) (at-digit3 .digit3 .ensures)
+          (at-put2 .put2 .ensures),
+    )
 
 digit-requires-4 : tie.Need-digit-requires-4
 digit-requires-4 c κs = search needs

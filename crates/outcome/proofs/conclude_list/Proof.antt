@@ -1,10 +1,10 @@
 use mathlib.Core.Path.{_≡_, refl, ap, _∙_}
 use Rattle.text.specs.declared.Diagnostic.{Diagnostic}
-use Rattle.calls.specs.Calls.{refusalOf}
-use Rattle.calls.proofs.Lists.{asked, annotated, concluded-list, declined-list}
+use Rattle.outcome.specs.Outcome.{refusalOf}
+use Rattle.outcome.proofs.Lists.{asked, annotated, concluded-list, declined-list}
 use borrow.Author.Needs.{needs}
-use Rattle.calls.proofs.conclude_list.Statement.{statement}
-use Rattle.calls.proofs.conclude_list.Tie as tie
+use Rattle.outcome.proofs.conclude_list.Statement.{statement}
+use Rattle.outcome.proofs.conclude_list.Tie as tie
 
 judge-list-requires : tie.Need-judge-list-requires
 judge-list-requires c κs = search needs

@@ -1,6 +1,6 @@
 use borrow.Author.Tests.{eq-eqb, ne-eqb}
-use Rattle.calls.proofs.version_of.Statement.{statement}
-use Rattle.calls.proofs.version_of.Tie as tie
+use Rattle.outcome.proofs.version_of.Statement.{statement}
+use Rattle.outcome.proofs.version_of.Tie as tie
 
 returns : tie.Need-returns
 returns c = rw (eq-eqb _ _ (c .if1 .taken))

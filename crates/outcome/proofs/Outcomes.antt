@@ -4,18 +4,17 @@ use mathlib.Core.Path.{_≡_, sym, ap, _∙_, subst}
 use mathlib.Core.List.{List, [], _∷_, _++_}
 use Prim.Native.Nat.{ℕ, _≤_, _<_}
 use lib.Dec.{ltb, eqb}
-use lib.ListN.{length, drop}
+use native.Mathlib.Omega.{arith}
+use lib.ListN.{length, drop, length-take}
 use borrow.Author.Tests.{ne-eqb, lt-ltb, le-ltb}
 use Rattle.answer.specs.Answer.{Job, Shown}
 use Rattle.answer.specs.Compute.{Values, placesAt, jobValues, Test, firstOf, mismatch, Result, Outcome, outcome, resultOf, resultBy, longTest, callOf}
 use Rattle.job.specs.declared.LeftParse.{LeftParse}
 use Rattle.job.specs.declared.Refusal.{Refusal}
 use Rattle.load.specs.Loaded.{placesOf}
-use Rattle.calls.specs.Calls.{shown, done}
-use Rattle.job.specs.declared.Parse.{Parse}
-use Rattle.job.specs.declared.Parse.the-variants.{Chosen, Refused}
+use Rattle.outcome.specs.Outcome.{shown, done}
 use Rattle.job.specs.Found.{firstTest}
-use Rattle.job.specs.Parses.{whyRefused, IsChosen, Parses}
+use Rattle.job.specs.Parses.{IsChosen}
 
 -- a refusal, and an answer
 abbrev pub refusing : List ℕ → Refusal → Outcome
@@ -58,15 +57,10 @@ module _ (j : Job) (old : List ℕ) (F : Shown) (ts : List Test) where
       ∙ ap (answering old (mismatch (j .grammar))) f
       ∙ ap (λ (b : Bool). answering old b x) (sym q)
 
-  -- there is no left parse
-  pub call-not-chosen : (T new P : List ℕ) (p : Parse) (k r : Refusal) → p ≡ Refused k → r ≡ whyRefused p → Parses j T new P p → callOf ts F j old ≡ refusing old r
-  call-not-chosen T new P p k r q e w =
-      let h : r ≡ k = e ∙ ap whyRefused q in
-      let s = subst (Parses j T new P) q w in
-      rw h (call-refused k (s .is ts) (s .some) (s .version) (s .places))
-
-pub is-chosen : (j : Job) (T new P : List ℕ) (p : Parse) (f : LeftParse) → p ≡ Chosen f → Parses j T new P p → IsChosen j T new P f
-is-chosen j T new P p f q w = subst (Parses j T new P) q w
+module _ (j : Job) (T new P : List ℕ) (f : LeftParse) (y : IsChosen j T new P f) where
+  -- its numbers stand in `P`
+  pub numbers-in : f .count ≤ length P
+  numbers-in = omega (arith, length-take (f .count) P, ap length (y .list), y .count)
 
 module _ (j : Job) (T new P : List ℕ) (f : LeftParse) (y : IsChosen j T new P f) (F : Shown) where
   -- the numbers or bytes of the chosen derivation

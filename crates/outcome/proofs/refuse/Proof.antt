@@ -1,6 +1,6 @@
 use borrow.Author.Needs.{needs}
-use Rattle.calls.proofs.refuse.Statement.{statement}
-use Rattle.calls.proofs.refuse.Tie as tie
+use Rattle.outcome.proofs.refuse.Statement.{statement}
+use Rattle.outcome.proofs.refuse.Tie as tie
 
 version-of-requires : tie.Need-version-of-requires
 version-of-requires c κs = search needs

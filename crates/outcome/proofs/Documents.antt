@@ -29,8 +29,8 @@ use Rattle.convert.specs.declared.Converted.{Converted}
 use Rattle.convert.specs.declared.Converted.the-variants.{Xml, Refused as Not-converted}
 use Rattle.convert.specs.Concluded.{Written, NotWritten, Concludes}
 use Rattle.convert.proofs.Conclusions.{written-case, refused-case}
-use Rattle.calls.specs.Calls.{done, shown, answerOf}
-use Rattle.calls.proofs.Outcomes.{refusing, answering, refused-outcome, done-is}
+use Rattle.outcome.specs.Outcome.{done, shown, answerOf}
+use Rattle.outcome.proofs.Outcomes.{refusing, answering, refused-outcome, done-is}
 
 -- 17 and on name no place
 pub nowhere : (j : Job) (k : ℕ) → 17 ≤ k → record { byte = 0; fault = 0; grammar = 0 } ≡ placesAt (jobValues j) k

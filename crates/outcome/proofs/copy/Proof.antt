@@ -1,9 +1,9 @@
 use Prim.Native.Nat.{_-_}
 use native.Mathlib.Omega.{arith}
 use borrow.Author.Needs.{needs}
-use Rattle.calls.proofs.Copies.{Copied, copied-none, copied-more, copied-all}
-use Rattle.calls.proofs.copy.Statement.{statement}
-use Rattle.calls.proofs.copy.Tie as tie
+use Rattle.outcome.proofs.Copies.{Copied, copied-none, copied-more, copied-all}
+use Rattle.outcome.proofs.copy.Statement.{statement}
+use Rattle.outcome.proofs.copy.Tie as tie
 
 abbrev Inv-loop : tie.InvT-loop
 Inv-loop from count to₀ i₀ to i = Copied from to₀ to count i
