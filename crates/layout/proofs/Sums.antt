@@ -14,7 +14,7 @@ use Rattle.tree.specs.Tree.{Alternative, nil, cons, Body, one, also, Rule, Gram
 use Rattle.plain.specs.Written.{within, withinAlternative, withinBody, written, heads}
 use Rattle.plain.specs.Static.{duplicate}
 use Rattle.plain.specs.Plain.{alternatives, ruleFor, alts, makes, ruled, sumOf, weight, size}
-use Rattle.layout.specs.Layout.{laid, laidAlternative, laidBody, laidRule, layout, dotCount}
+use Rattle.layout.specs.Layout.{laid, laidAlternative, laidBody, laidRule, layout, dotCount, tails, dotsIn, dotsOf}
 
 pub sum-append : {A : Type 0} (f : A → ℕ) (xs ys : List A) → sumOf f (xs ++ ys) ≡ sumOf f xs + sumOf f ys
 sum-append f [] ys = omega arith
@@ -35,17 +35,13 @@ module _ (W : Symbol → ℕ) where
     laid-sum : (s : Symbol) → sumOf W (laid s) ≡ made (within s)
     laid-sum (terminal x) = refl
     laid-sum (nonterminal m n) = refl
-    laid-sum (group b) = omega (arith, sum-append W (laidBody b) (group b ∷ []), body-sum b)
-    laid-sum (option f) = omega (arith, sum-append W (laid f) (option f ∷ []), laid-sum f)
-    laid-sum (repeat0 f) = omega (arith, sum-append W (laid f) (repeat0 f ∷ []), laid-sum f)
-    laid-sum (repeat1 f) = omega (arith, sum-append W (laid f) (repeat0 f ∷ repeat1 f ∷ []), laid-sum f)
-    laid-sum (repeat0sep f sep) =
-        let own = rest f sep ∷ repeat1sep f sep ∷ repeat0sep f sep ∷ [] in
-        omega (arith, sum-append W (laid f ++ laid sep) own, sum-append W (laid f) (laid sep), laid-sum f, laid-sum sep, made-append (within f) (within sep))
-    laid-sum (repeat1sep f sep) =
-        let own = rest f sep ∷ repeat1sep f sep ∷ [] in
-        omega (arith, sum-append W (laid f ++ laid sep) own, sum-append W (laid f) (laid sep), laid-sum f, laid-sum sep, made-append (within f) (within sep))
-    laid-sum (rest f sep) = omega (arith, sum-append W (laid f) (laid sep), laid-sum f, laid-sum sep, made-append (within f) (within sep))
+    laid-sum (group b) = simp sum-append (omega (arith, body-sum b))
+    laid-sum (option f) = simp sum-append (omega (arith, laid-sum f))
+    laid-sum (repeat0 f) = simp sum-append (omega (arith, laid-sum f))
+    laid-sum (repeat1 f) = simp sum-append (omega (arith, laid-sum f))
+    laid-sum (repeat0sep f sep) = simp sum-append (omega (arith, laid-sum f, laid-sum sep, made-append (within f) (within sep)))
+    laid-sum (repeat1sep f sep) = simp sum-append (omega (arith, laid-sum f, laid-sum sep, made-append (within f) (within sep)))
+    laid-sum (rest f sep) = simp sum-append (omega (arith, laid-sum f, laid-sum sep, made-append (within f) (within sep)))
 
     alternative-sum : (a : Alternative) → sumOf W (laidAlternative a) ≡ made (withinAlternative a)
     alternative-sum nil = refl
@@ -141,3 +137,20 @@ own-sum all (r ∷ rs) o = omega (arith, ap weight (o .0), own-sum all rs (o .1)
 pub layout-size : (g : Grammar) → duplicate g ≡ false → dotCount g (layout g) ≡ size g
 unfolding size
 layout-size g e = layout-sum (λ s. weight (alts g s)) g ∙ ap (λ (n : ℕ). n + sumOf (λ s. sumOf (λ x. weight (alts g x)) (makes s)) (written g)) (own-sum (rules g) (rules g) (own-of g e))
+
+-- as many lists of symbols as dots
+pub tails-count : (ss : List Symbol) → length (tails ss) ≡ length ss + 1
+tails-count [] = refl
+tails-count (s ∷ ss) = omega (arith, tails-count ss)
+
+pub dots-weigh : (ts : List (List Symbol)) → length (dotsIn ts) ≡ weight ts
+dots-weigh [] = refl
+dots-weigh (ss ∷ ts) = omega (arith, length-append (tails ss) (dotsIn ts), tails-count ss, dots-weigh ts)
+
+dots-sum : (g : Grammar) (ss : List Symbol) → length (concatMap (λ s. dotsIn (alts g s)) ss) ≡ dotCount g ss
+dots-sum g [] = refl
+dots-sum g (s ∷ ss) = omega (arith, length-append (dotsIn (alts g s)) (concatMap (λ s. dotsIn (alts g s)) ss), dots-weigh (alts g s), dots-sum g ss)
+
+pub dots-size : (g : Grammar) → duplicate g ≡ false → length (dotsOf g) ≡ size g
+unfolding dotsOf
+dots-size g e = dots-sum g (layout g) ∙ layout-size g e

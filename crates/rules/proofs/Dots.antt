@@ -14,18 +14,11 @@ use Rattle.plain.specs.Plain.{alts, weight, ruleMark, over}
 use Rattle.items.specs.Items.{kindAt, Starts, Among, Stands, st-terminal, st-name, st-made, Spells, sp-end, sp-item, Alternatives, al-last, al-more, markKind}
 use Rattle.chart.specs.Code.{afterDot, Chain, ch-last, ch-next, ownerAt, goesAt}
 use Rattle.layout.specs.Layout.{tails, dotsIn, dotCount, startsFrom}
-
-tails-count : (ss : List Symbol) → length (tails ss) ≡ length ss + 1
-tails-count [] = refl
-tails-count (s ∷ ss) = omega (arith, tails-count ss)
+use Rattle.layout.proofs.Sums.{tails-count, dots-weigh}
 
 tails-head : (ss : List Symbol) (more : List (List Symbol)) → getD (tails ss ++ more) 0 [] ≡ ss
 tails-head [] more = refl
 tails-head (s ∷ ss) more = refl
-
-pub dots-weigh : (ts : List (List Symbol)) → length (dotsIn ts) ≡ weight ts
-dots-weigh [] = refl
-dots-weigh (ss ∷ ts) = omega (arith, length-append (tails ss) (dotsIn ts), tails-count ss, dots-weigh ts)
 
 -- what holds of all symbols of some alternatives holds of those after any dot in them
 tails-in : (P : Symbol → Type 0) (ss : List Symbol) (more : List (List Symbol)) → ((s : Symbol) → In s ss → P s) → ((k : ℕ) (s : Symbol) → In s (getD more k []) → P s)

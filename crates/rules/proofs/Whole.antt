@@ -14,7 +14,7 @@ use Rattle.plain.specs.Plain.{alts, weight, width, fits, ruleMark, over}
 use Rattle.plain.specs.Plain as plain
 use Rattle.plain.specs.Written.{kind, made, atom}
 use Rattle.layout.specs.Layout.{layout, dotCount, startsFrom, startsOf, dotsIn, dotsOf, nameAt}
-use Rattle.layout.proofs.Sums.{layout-size}
+use Rattle.layout.proofs.Sums.{dots-weigh, layout-size}
 use Rattle.layout.proofs.Spots.{Spot, spot, concat-at, name-ends}
 use Rattle.derive.specs.Derive.{alternative, root}
 use Rattle.derive.specs.Bound.{symbolsOf}
@@ -27,7 +27,7 @@ use Rattle.terminals.specs.Sound.{SoundTerminal}
 use Rattle.terminals.specs.Places.{TerminalAt, TerminalHere}
 use Rattle.rules.specs.Ready.{Last, ownerOf, Owners, nextKindOf, goesOf, ruleOf, Reach, Reaches, Codes, Ready, Token}
 use Rattle.terminals.proofs.Places.{term-two, width-is}
-use Rattle.rules.proofs.Dots.{dots-weigh, dots-in, Place, pl-end, pl-item, stands-kind, mark-kind, alts-place, alts-before, alts-inner, alts-last}
+use Rattle.rules.proofs.Dots.{dots-in, Place, pl-end, pl-item, stands-kind, mark-kind, alts-place, alts-before, alts-inner, alts-last}
 use Rattle.rules.proofs.Dots.{alts-some, alts-begins, Linked, chain-law, starts-at}
 use Rattle.rules.proofs.Numbers.{tab, tab-count, tab-at, Begin, owner-begin, owner-inner, owner-inv, whole, some-tokens, made-not}
 use Rattle.rules.proofs.Numbers.{kind-end, kind-symbol, kind-terminal, goes-terminal, goes-symbol, goes-on, goes-no}
