@@ -33,7 +33,8 @@ use Rattle.fault.specs.Far.{Placing, Placed}
 use Rattle.fault.specs.Wants.{WantedAll}
 use Rattle.fault.proofs.WantLaws.{wanting-le, wanting-back, wanting-same}
 use Rattle.fault.proofs.Found.{flagged, Searched, found-fault}
-use Rattle.parser.specs.Choose.{Choosable, Locatable}
+use Rattle.chooser.specs.Choose.{Choosable}
+use Rattle.parser.specs.Choose.{Locatable}
 use Rattle.parser.specs.declared.Chosen.{Chosen}
 use Rattle.parser.specs.Chosen.{Fault, chosenOf, Fails, Chooses}
 

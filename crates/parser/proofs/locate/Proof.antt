@@ -26,15 +26,19 @@ slice-aggregate-left-2 c = search needs
 
 left-requires : tie.Need-left-requires
 left-requires c κs =
-    let pre = c .before .before .before .before .before .before .before .before .pre in
-    let code = c .before .before .before .code-rules .ensures (pre .grammar) (pre .ready) in
-    lefting-of code (given-of code (pre .long) (pre .small) (omega (arith, pre .small, c .before .before .before .code-rules .kept .1 .1 .1 .0)) (pre .short) (length-replicate {A = ℕ} 308736 0)) (all-zero 308736)
+    let at-code-rules = c .before .before .before in
+    let start = at-code-rules .before .before .before .before .before in
+    let pre = start .pre in
+    let code = at-code-rules .code-rules .ensures (pre .grammar) (pre .ready) in
+    lefting-of code (given-of code (pre .long) (pre .small) (omega (arith, pre .small, at-code-rules .code-rules .kept .1 .1 .1 .0)) (pre .short) (length-replicate {A = ℕ} 308736 0)) (all-zero 308736)
 
 slice-aggregate-want-all : tie.Need-slice-aggregate-want-all
 slice-aggregate-want-all c = search needs
 
 want-all-requires : tie.Need-want-all-requires
-want-all-requires c κs = (c .before .before .left .ensures .long, c .before .before .before .before .before .before .before .before .before .before .before .pre .small, c .before .before .before .before .before .before .before .before .before .before .before .pre .short)
+want-all-requires c κs =
+    let start = c .before .before .before .before .before .before .before .before .before .before .before in
+    (c .before .before .left .ensures .long, start .pre .small, start .pre .short)
 
 slice-aggregate-note-rules : tie.Need-slice-aggregate-note-rules
 slice-aggregate-note-rules c = search needs
@@ -44,9 +48,11 @@ slice-aggregate-note-rules-2 c = search needs
 
 note-rules-requires : tie.Need-note-rules-requires
 note-rules-requires c κs =
-    let pre = c .before .before .before .before .before .before .before .before .before .before .before .before .before .before .before .pre in
-    let code = c .before .before .before .before .before .before .before .before .before .before .code-rules .ensures (pre .grammar) (pre .ready) in
-    (shape-of code (pre .small) (omega (arith, pre .small, c .before .before .before .before .before .before .before .before .before .before .code-rules .kept .1 .1 .1 .0)), length-replicate {A = ℕ} 2048 0, all-zero 2048)
+    let at-code-rules = c .before .before .before .before .before .before .before .before .before .before in
+    let start = at-code-rules .before .before .before .before .before in
+    let pre = start .pre in
+    let code = at-code-rules .code-rules .ensures (pre .grammar) (pre .ready) in
+    (shape-of code (pre .small) (omega (arith, pre .small, at-code-rules .code-rules .kept .1 .1 .1 .0)), length-replicate {A = ℕ} 2048 0, all-zero 2048)
 
 slice-aggregate-fill : tie.Need-slice-aggregate-fill
 slice-aggregate-fill c = search needs
@@ -59,9 +65,14 @@ slice-aggregate-fill-3 c = search needs
 
 fill-requires : tie.Need-fill-requires
 fill-requires c κs =
-    let pre = c .before .before .before .before .before .before .before .before .before .before .before .before .before .before .before .before .before .before .before .before .before .pre in
-    let code = c .before .before .before .before .before .before .before .before .before .before .before .before .before .before .before .before .code-rules .ensures (pre .grammar) (pre .ready) in
-    let at = located pre (omega (arith, c .before .before .before .before .before .before .before .before .before .before .before .before .before .before .before .before .code-rules .kept .1 .1 .1 .0)) refl (c .before .before .before .before .before .before .before .before .before .before .before .before .left .ensures) (c .before .before .before .before .before .before .before .before .before .want-all .ensures) (c .before .before .before .before .before .note-rules .ensures) in
+    let at-note-rules = c .before .before .before .before .before in
+    let at-want-all = at-note-rules .before .before .before .before in
+    let at-left = at-want-all .before .before .before in
+    let at-code-rules = at-left .before .before .before .before in
+    let start = at-code-rules .before .before .before .before .before in
+    let pre = start .pre in
+    let code = at-code-rules .code-rules .ensures (pre .grammar) (pre .ready) in
+    let at = located pre (omega (arith, at-code-rules .code-rules .kept .1 .1 .1 .0)) refl (at-left .left .ensures) (at-want-all .want-all .ensures) (at-note-rules .note-rules .ensures) in
     (tables-for code at, at .empties)
 
 slice-aggregate-place : tie.Need-slice-aggregate-place
@@ -75,9 +86,16 @@ slice-aggregate-place-3 c = search needs
 
 place-requires : tie.Need-place-requires
 place-requires c κs =
-    let pre = c .before .before .before .before .before .before .before .before .before .before .before .before .before .before .before .before .before .before .before .before .before .before .before .before .before .before .before .before .pre in
-    let code = c .before .before .before .before .before .before .before .before .before .before .before .before .before .before .before .before .before .before .before .before .before .before .before .code-rules .ensures (pre .grammar) (pre .ready) in
-    let at = located pre (omega (arith, c .before .before .before .before .before .before .before .before .before .before .before .before .before .before .before .before .before .before .before .before .before .before .before .code-rules .kept .1 .1 .1 .0)) (c .before .before .before .before .before .before .fill .kept .1 .1 .1 .1 .1 .0) (c .before .before .before .before .before .before .before .before .before .before .before .before .before .before .before .before .before .before .before .left .ensures) (c .before .before .before .before .before .before .before .before .before .before .before .before .before .before .before .before .want-all .ensures) (c .before .before .before .before .before .before .before .before .before .before .before .before .note-rules .ensures) in
+    let at-fill = c .before .before .before .before .before .before in
+    let at-note-rules = at-fill .before .before .before .before .before .before in
+    let at-want-all = at-note-rules .before .before .before .before in
+    let at-left = at-want-all .before .before .before in
+    let at-code-rules = at-left .before .before .before .before in
+    let start = at-code-rules .before .before .before .before .before in
+    let pre = start .pre in
+    let code = at-code-rules .code-rules .ensures (pre .grammar) (pre .ready) in
+    let at = located pre (omega (arith, at-code-rules .code-rules .kept .1 .1 .1 .0)) (at-fill .fill .kept .1 .1 .1 .1 .1 .0) (at-left .left .ensures) (at-want-all .want-all .ensures)
+    (at-note-rules .note-rules .ensures) in
     placing code at
 
 same-length : tie.Need-same-length
@@ -85,9 +103,16 @@ same-length c = c .before .before .before .before .before .before .before .fill 
 
 returns : tie.Need-returns
 returns c =
-    let pre = c .before .before .before .before .before .before .before .before .before .before .before .before .before .before .before .before .before .before .before .before .before .before .before .before .before .before .before .before .before .pre in
-    let at = located pre (omega (arith, c .before .before .before .before .before .before .before .before .before .before .before .before .before .before .before .before .before .before .before .before .before .before .before .before .code-rules .kept .1 .1 .1 .0)) (c .before .before .before .before .before .before .before .fill .kept .1 .1 .1 .1 .1 .0) (c .before .before .before .before .before .before .before .before .before .before .before .before .before .before .before .before .before .before .before .before .left .ensures) (c .before .before .before .before .before .before .before .before .before .before .before .before .before .before .before .before .before .want-all .ensures) (c .before .before .before .before .before .before .before .before .before .before .before .before .before .note-rules .ensures) in
-    λ g ready. fault-there (c .before .before .before .before .before .before .before .before .before .before .before .before .before .before .before .before .before .before .before .before .before .before .before .before .code-rules .ensures g ready) at refl (c .before .before .before .before .before .before .before .fill .ensures) (c .place .ensures)
+    let at-fill = c .before .before .before .before .before .before .before in
+    let at-note-rules = at-fill .before .before .before .before .before .before in
+    let at-want-all = at-note-rules .before .before .before .before in
+    let at-left = at-want-all .before .before .before in
+    let at-code-rules = at-left .before .before .before .before in
+    let start = at-code-rules .before .before .before .before .before in
+    let pre = start .pre in
+    let at = located pre (omega (arith, at-code-rules .code-rules .kept .1 .1 .1 .0)) (at-fill .fill .kept .1 .1 .1 .1 .1 .0) (at-left .left .ensures) (at-want-all .want-all .ensures)
+    (at-note-rules .note-rules .ensures) in
+    λ g ready. fault-there (at-code-rules .code-rules .ensures g ready) at refl (at-fill .fill .ensures) (c .place .ensures)
 
 pub locate-spec : {M : Type 1} → statement M
 locate-spec =
