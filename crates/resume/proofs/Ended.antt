@@ -5,6 +5,7 @@ use mathlib.Core.Logic.{_⊎_, inl, inr}
 use mathlib.Core.Path.{_≡_, refl, sym, ap, subst, _∙_}
 use Prim.Native.Nat.{ℕ}
 use native.Mathlib.Omega.{arith}
+use borrow.Author.Tests.{eq-eqb, ne-eqb}
 use Rattle.text.specs.Stages.{plainly, diagnosticOf}
 use Rattle.text.specs.declared.Diagnostic.{Diagnostic}
 use Rattle.answer.specs.Answer as defined
@@ -20,8 +21,8 @@ use Rattle.outcome.specs.Outcome.{shown, refusalOf}
 use Rattle.resume.specs.declared.Progress.{Progress}
 use Rattle.resume.specs.declared.Finishing.{Finishing}
 use Rattle.resume.specs.declared.Finishing.the-variants.{Parsed, Refused}
-use Rattle.resume.specs.Resume.{laterLines, EndedAs, early, altered, as-uncut}
-use Rattle.resume.specs.Stages.{Resumed, NotResumed, alien, no-room, Resumes, notEndedOf, EndedWith, NotEnded, unfinished, other-table, EndsWith}
+use Rattle.resume.specs.Resume.{refusing, laterLines, EndedAs, early, altered, as-uncut}
+use Rattle.resume.specs.Stages.{Resumed, NotResumed, alien, no-room, Resumes, whyNotEnded, notEndedOf, EndedWith, NotEnded, unfinished, other-table, EndsWith}
 use Rattle.resume.proofs.Lines.{later-refused, later-passed}
 
 module _ (Uncut : Job → List ℕ → defined.Answer → List ℕ → Type 0) (j : Job) (M S old : List ℕ) where
@@ -63,3 +64,10 @@ module _ (Uncut : Job → List ℕ → defined.Answer → List ℕ → Type 0) (
       -- what the uncut read gives
       pub ended : (P new' : List ℕ) (p : Parse) (a : Answer) (k : ℕ) → k ≡ roundsOf S → EndedWith j T new S P p → Uncut j old (shown a) new' → Gives (record { answer = a; rounds = k }) new'
       ended P new' p a k e w u = as-uncut (later-passed j S last 0 r (inr (λ z. z (w .finished), refl))) u e
+
+-- 26 keeps the count of rounds, 27 does not
+pub not-yet : (f : Finishing) (k n : ℕ) (d : Diagnostic) (a : Progress) → n ≡ whyNotEnded f → n ≡ 26 → d ≡ plainly n → a ≡ refusing d k → a ≡ notEndedOf f k
+not-yet f k n d a e q y z = z ∙ ap (λ (x : Diagnostic). refusing x k) (y ∙ ap plainly e) ∙ (let w : whyNotEnded f ≡ 26 = sym e ∙ q in rw (eq-eqb (whyNotEnded f) 26 w) refl)
+
+pub not-other : (f : Finishing) (k n : ℕ) (d : Diagnostic) (a : Progress) → n ≡ whyNotEnded f → (n ≡ 26 → ⊥) → d ≡ plainly n → a ≡ refusing d 0 → a ≡ notEndedOf f k
+not-other f k n d a e q y z = z ∙ ap (λ (x : Diagnostic). refusing x 0) (y ∙ ap plainly e) ∙ rw (ne-eqb (whyNotEnded f) 26 (λ w. q (e ∙ w))) refl

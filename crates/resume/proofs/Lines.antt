@@ -25,7 +25,7 @@ use Rattle.answer.proofs.Stages.{stage-lent}
 use Rattle.job.specs.declared.Start.{Start}
 use Rattle.job.specs.declared.Begun.{Begun}
 use Rattle.job.specs.declared.Begun.the-variants.{At, Refused as Ended}
-use Rattle.job.specs.Stages.{begunOf, Opened, Started, NotBegun, Opens, BeginsBy, lending}
+use Rattle.job.specs.Stages.{begunOf, Opened, Started, Opens, lending, lendingOf, needOf}
 use Rattle.job.proofs.Starts.{need-is}
 use Rattle.state.specs.State.{Keeps}
 use Rattle.outcome.specs.declared.Answer.{Answer}
@@ -106,15 +106,17 @@ module _ (j : Job) (S T new : List ℕ) where
   pub not-opened : (b : Begun) (d : Diagnostic) → b ≡ Ended d → Opens (j .grammar) (j .input) T new b → Resumes j S T new (Ended (plainly 27))
   not-opened b d q o = alien (unstartable T new b d q o)
 
-  pub lent-or-not : (b : Begun) (s : Start) → b ≡ At s → Opens (j .grammar) (j .input) T new b → Keeps (j .grammar) (j .input) S → (k : ℕ) → k ≡ tableNeed (s .rules .size) (s .chars .0)
-      → (r : Begun) → r ≡ lending s (ltb (j .mainTable) k || ltb (j .secondTable) grammarTable) → Resumes j S T new r
-  lent-or-not b s q o keeps k e r z = rw z (go (ltb (j .mainTable) k || ltb (j .secondTable) grammarTable) refl)
+  pub lent-or-not : (b : Begun) (s : Start) → b ≡ At s → Opens (j .grammar) (j .input) T new b → Keeps (j .grammar) (j .input) S → (k : ℕ) → k ≡ needOf b
+      → (r : Begun) → r ≡ lendingOf b (ltb (j .mainTable) k || ltb (j .secondTable) grammarTable) → Resumes j S T new r
+  lent-or-not b s q o keeps k f r z =
+      let y : r ≡ lending s (ltb (j .mainTable) k || ltb (j .secondTable) grammarTable) = z ∙ ap (λ (x : Begun). lendingOf x (ltb (j .mainTable) k || ltb (j .secondTable) grammarTable)) q in
+      rw y (go (ltb (j .mainTable) k || ltb (j .secondTable) grammarTable) refl)
     where
       open-now : Opened (j .grammar) (j .input) T new s
       open-now = subst (Opens (j .grammar) (j .input) T new) q o
 
       is : (ltb (j .mainTable) (mainNeed (open-now .grammar .tree) (open-now .input .chars)) || ltb (j .secondTable) grammarTable) ≡ (ltb (j .mainTable) k || ltb (j .secondTable) grammarTable)
-      is = ap (λ (n : ℕ). ltb (j .mainTable) n || ltb (j .secondTable) grammarTable) (sym (need-is open-now k e))
+      is = ap (λ (n : ℕ). ltb (j .mainTable) n || ltb (j .secondTable) grammarTable) (sym (need-is b k f s open-now q))
 
       go : (c : Bool) → (ltb (j .mainTable) k || ltb (j .secondTable) grammarTable) ≡ c → Resumes j S T new (lending s c)
       go true w = no-room (startable keeps open-now) (no-space j open-now (is ∙ w))
@@ -123,6 +125,9 @@ module _ (j : Job) (S T new : List ℕ) where
 pub no-mark : (b : Bool) → T (b && false) → ⊥
 no-mark true h = h
 no-mark false h = h
+
+pub resumed-at : (j : Job) (S T new : List ℕ) (b : Begun) (s : Start) → b ≡ At s → Resumes j S T new b → Resumed j S T new s
+resumed-at j S T new b s q w = subst (Resumes j S T new) q w
 
 -- answers without a result
 module _ (j : Job) (S : List ℕ) where

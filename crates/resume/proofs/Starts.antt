@@ -160,13 +160,19 @@ module _ (j : Job) (Tb new : List ℕ) where
         places = keeps-placed 0 (jobNotes j) (jobValues j) (keeps-job mainNeed j [] tt 0 t (λ e. absurd (omega arith)));
       }
 
+  -- the main table has room
+  pub start-room : (s : Start) → Started j Tb new s → (k : ℕ) → k ≡ tableNeed (s .rules .size) (s .chars .0) → k ≤ j .mainTable
+  start-room s w k e =
+      let chars = w .input .chars in
+      let n : k ≡ s .rules .size * stretches (length chars) = e ∙ ap (tableNeed (s .rules .size)) (w .input .count) in
+      let y : s .rules .size * stretches (length chars) ≡ mainNeed (w .grammar .tree) chars = ap (λ (x : ℕ). x * stretches (length chars)) (w .grammar .sized) in
+      omega (arith, ltb-false (j .mainTable) (mainNeed (w .grammar .tree) chars) (or-left (ltb (j .mainTable) (mainNeed (w .grammar .tree) chars)) (ltb (j .secondTable) grammarTable) (w .enough)))
+
   -- the table that a start leaves
   pub start-table : (s : Start) → Started j Tb new s → (M : List ℕ) → length M ≡ j .mainTable → (k : ℕ) → k ≡ tableNeed (s .rules .size) (s .chars .0) → Clear k M → ofJob j (λ g r. After g r 0 M)
   unfolding opened-of
   start-table s w M l k e z =
       let chars = w .input .chars in
       let n : k ≡ s .rules .size * stretches (length chars) = e ∙ ap (tableNeed (s .rules .size)) (w .input .count) in
-      let m = ltb-false (j .mainTable) (mainNeed (w .grammar .tree) chars) (or-left (ltb (j .mainTable) (mainNeed (w .grammar .tree) chars)) (ltb (j .secondTable) grammarTable) (w .enough)) in
-      let y : s .rules .size * stretches (length chars) ≡ mainNeed (w .grammar .tree) chars = ap (λ (x : ℕ). x * stretches (length chars)) (w .grammar .sized) in
       of-job j (opened-of j w) (λ g r. After g r 0 M)
-      (after-clear (w .grammar .ready) chars M (w .input .short) (omega (arith, w .grammar .sized, w .grammar .small)) (omega arith) (subst (λ (x : ℕ). Clear x M) n z))
+      (after-clear (w .grammar .ready) chars M (w .input .short) (omega (arith, w .grammar .sized, w .grammar .small)) (omega (arith, start-room s w k e)) (subst (λ (x : ℕ). Clear x M) n z))

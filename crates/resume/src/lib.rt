@@ -8,8 +8,7 @@ ghost use Rattle.chart.specs.Code.{flag};
 ghost use Rattle.state.specs.State.{stateLength};
 ghost use Rattle.job.specs.Stages.{Started};
 ghost use Rattle.job.specs.Found.{Readable};
-ghost use Rattle.outcome.specs.Outcome.{refusalOf};
-ghost use Rattle.resume.specs.Resume.{StartedAs, RoundedAs};
+ghost use Rattle.resume.specs.Resume.{refusing, StartedAs, RoundedAs};
 ghost use Rattle.resume.specs.Stages.{Resumes, parsedOf, whyNotEnded, notEndedOf, EndsWith};
 use finish::Ended;
 use job::Begun;
@@ -38,7 +37,7 @@ pub struct Progress {
 
 // A refusal that carries neither mark.
 pub fn refuse(why: Diagnostic, rounds: usize) -> Progress
-    ensures { λ r. ⌜ r ≡ record { answer = refusalOf (record { why = why; mismatch = false }); rounds = rounds } ⌝ }
+    ensures { λ r. ⌜ r ≡ refusing why rounds ⌝ }
 {
     let answer = outcome::refuse(Refusal {
         why,
@@ -91,11 +90,11 @@ pub fn resume(
         return Begun::Refused(text::plain(OTHER_STATE));
     }
     let opened = job::open_job(grammar, record, table, text);
-    let Begun::At(start) = opened else {
+    let Begun::At(_) = opened else {
         return Begun::Refused(text::plain(OTHER_STATE));
     };
-    let need = job::need(start.rules.size, start.chars.0);
-    job::lend(start, main, need, second)
+    let need = job::need_of(opened);
+    job::lend(opened, main, need, second)
 }
 
 // 1 for yes.
