@@ -30,8 +30,9 @@ fn walk_by(
     quick_reading::read(table, size, root, text, main, parse)
 }
 
-// The place of the fault in a record that has no reading: the pass from the left, a table filled with every end wanted that it flags, and
-// the search over it. Local are 325,120 bytes.
+// The place of the fault in a record that has no reading: the pass from the left, and the sets of places where dots surely stand. Where
+// these do not reach as far as the pass lets them, a table filled with every end wanted that it flags, and the search over it. Local are
+// 325,120 bytes.
 fn locate(table: &[u32], size: usize, root: usize, text: &[u32], main: &mut [u32]) -> CharPlace
     requires { ⌜ Locatable (now table) size root (now text) (length (now main)) ⌝ }
     ensures { λ r. ⌜ ((g : Grammar) → Ready (now (table .entry)) g size root → Fault g (now (text .entry)) (r .0)) ⌝ }
@@ -40,16 +41,20 @@ fn locate(table: &[u32], size: usize, root: usize, text: &[u32], main: &mut [u32
     let mut marks = [0u8; sparse::MARKS];
     let top = rules::code_rules(table, size, root, &mut code);
     left_pass::left(table, text, &code, &mut marks, size, top);
-    let n = CharPlace(text.len());
-    fault::want_all(&mut marks, size, n);
     let mut notes = [0u32; sparse::NOTES];
     empties::note_rules(&code, &mut notes, size);
-    quick::fill(&code, &marks, &notes, size, n, main);
+    let n = CharPlace(text.len());
     let start = fault::Root {
         size: size,
         n: n,
         rule: top,
     };
+    let found = confirm::find(table, text, &code, &marks, &notes, main, start);
+    if found.0 <= n.0 {
+        return found;
+    }
+    fault::want_all(&mut marks, size, n);
+    quick::fill(&code, &marks, &notes, size, n, main);
     fault::place(table, text, &code, &marks, &notes, main, start)
 }
 
