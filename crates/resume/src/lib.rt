@@ -121,7 +121,15 @@ pub fn round(
 {
     let mut table = [0u32; limits::GRAMMAR_TABLE];
     let mut text = [0u32; limits::RECORD_CHARACTERS];
-    let begun = resume(state, grammar, record, main.len(), second, &mut table, &mut text);
+    let begun = resume(
+        state,
+        grammar,
+        record,
+        main.len(),
+        second,
+        &mut table,
+        &mut text,
+    );
     let Begun::At(start) = begun else {
         return refuse(job::why_begun(begun), 0);
     };
@@ -151,7 +159,9 @@ pub fn round(
 fn parse_of(chosen: Chosen, start: Start) -> Parse
     ensures { λ r. ⌜ r ≡ parsedOf chosen start ⌝ }
 {
-    let mismatch = start.rules.mismatch;
+    let rules = start.rules;
+    let chars = start.chars;
+    let mismatch = rules.mismatch;
     let Chosen::Reading(count, ambiguous) = chosen else {
         return Parse::Refused(Refusal {
             why: job::why_not(chosen),
@@ -159,9 +169,9 @@ fn parse_of(chosen: Chosen, start: Start) -> Parse
         });
     };
     Parse::Chosen(LeftParse {
-        root: start.rules.root,
+        root: rules.root,
         count,
-        chars: start.chars,
+        chars,
         ambiguous,
         mismatch,
     })

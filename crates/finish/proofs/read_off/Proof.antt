@@ -16,9 +16,10 @@ slice-aggregate-mark-all c = search needs
 
 mark-all-requires : tie.Need-mark-all-requires
 mark-all-requires c κs =
-    let start = c .before .before .before .before .before .before .before in
-    (record { small = start .pre .small; room = omega (arith, start .pre .small, start .pre .code-long); fits-room = omega (arith, start .pre .small, start .pre .fits-long); short = start .pre .short },
-    length-replicate {A = ℕ} 308736 0)
+    let start = c .before .before .before .before .before .before .before in (
+      record { small = start .pre .small; room = omega (arith, start .pre .small, start .pre .code-long); fits-room = omega (arith, start .pre .small, start .pre .fits-long); short = start .pre .short },
+      length-replicate {A = ℕ} 308736 0,
+    )
 
 slice-aggregate-note-rules : tie.Need-slice-aggregate-note-rules
 slice-aggregate-note-rules c = search needs
