@@ -3,11 +3,11 @@ use mathlib.Core.Bool.{Bool, false, _&&_}
 use mathlib.Core.Path.{_≡_, ap, _∙_, subst}
 use mathlib.Core.Logic.{⊎-elim}
 use mathlib.Core.List.{List, _∷_}
-use Prim.Native.Nat.{ℕ}
+use Prim.Native.Nat.{ℕ, _≤_}
 use native.Mathlib.Omega.{arith}
 use lib.Dec.{eqb, ltb}
 use lib.ListN.{length}
-use Rattle.text.specs.Limits.{readingNumbers}
+use Rattle.text.specs.Limits.{grammarTable, readingNumbers}
 use Rattle.derive.specs.Derive.{leftParse}
 use Rattle.derive.specs.Pick.{chosenOf}
 use borrow.Author.Tests.{ne-eqb}
@@ -22,12 +22,17 @@ use Rattle.job.specs.declared.Begun.the-variants.{At, Refused as Ended}
 use Rattle.job.specs.declared.Read.{Read}
 use Rattle.job.specs.declared.Read.the-variants.{Reading, Refused as Not-read}
 use Rattle.job.specs.Stages.{begunOf, Started, Begins}
-use Rattle.job.specs.Found.{foundOf, Ends}
+use Rattle.job.specs.Found.{foundOf, Readable, Prepared, Ends}
 use Rattle.job.specs.Parses.{IsChosen, NotChosen}
 
 module _ (j : Job) (T new : List ℕ) where
   pub begun-at : (b : Begun) (s : Start) → b ≡ At s → Begins j T new b → Started j T new s
   begun-at b s q w = subst (Begins j T new) q w
+
+  -- what reading is given of a job that is begun
+  pub prepared : (main parse : ℕ) (b : Begun) → Begins j T new b → j .mainTable ≡ main → length T ≡ grammarTable → readingNumbers ≤ parse → Prepared b T new main parse
+  prepared main parse (At s) w m l r = record { job = j; started = w; lent = m; long = l; room = r }
+  prepared main parse (Ended d) w m l r = tt
 
   -- a stage before 16 refuses
   pub ended : (b : Begun) (k n : Diagnostic) → b ≡ Ended k → n ≡ diagnosticOf (begunOf b) → Begins j T new b → NotChosen j (record { why = n; mismatch = false })
@@ -74,3 +79,6 @@ module _ (j : Job) (T new : List ℕ) where
           items = w .grammar .ready .built .items;
           tokens = w .grammar .tokens;
         }
+
+pub readable : {T new : List ℕ} {main parse : ℕ} (b : Begun) (s : Start) → b ≡ At s → Prepared b T new main parse → Readable T new main parse s
+readable {T} {new} {main} {parse} b s e h = subst (λ (x : Begun). Prepared x T new main parse) e h

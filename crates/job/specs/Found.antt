@@ -17,6 +17,8 @@ use Rattle.load.specs.Loaded.{placesOf}
 use Rattle.parser.specs.declared.Chosen.{Chosen}
 use Rattle.parser.specs.declared.Chosen.the-variants.{Reading as A-reading, TooLong, NoReading}
 use Rattle.job.specs.declared.Start.{Start}
+use Rattle.job.specs.declared.Begun.{Begun}
+use Rattle.job.specs.declared.Begun.the-variants.{At, Refused as Ended}
 use Rattle.job.specs.declared.Found.{Found}
 use Rattle.job.specs.declared.Read.{Read}
 use Rattle.job.specs.declared.Read.the-variants.{Reading, Refused}
@@ -28,6 +30,10 @@ pub record Readable (T new : List ℕ) (main parse : ℕ) (s : Start) : Type 0 w
   pub lent : job .mainTable ≡ main
   pub long : length T ≡ grammarTable
   pub room : readingNumbers ≤ parse
+
+abbrev pub Prepared : Begun → List ℕ → List ℕ → ℕ → ℕ → Type 0
+Prepared (At s) T new main parse = Readable T new main parse s
+Prepared (Ended d) T new main parse = Unit
 
 -- what the tests of a job come to, before those of a call
 abbrev pub firstTest : Job → List Test → ℕ

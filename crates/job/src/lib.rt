@@ -9,7 +9,7 @@ ghost use Rattle.answer.specs.Answer.{Job, tableNeed};
 ghost use Rattle.answer.specs.Answer.{job};
 ghost use Rattle.text.specs.Stages.{diagnosticOf};
 ghost use Rattle.job.specs.Stages.{takenOf, begunOf, Takes, Started, Opens, Small, needOf, lendingOf, Begins, BeginsBy};
-ghost use Rattle.job.specs.Found.{whyNot, foundOf, Readable, Ends};
+ghost use Rattle.job.specs.Found.{whyNot, foundOf, Readable, Prepared, Ends};
 ghost use Rattle.job.specs.Parses.{whyRefused, Lent, Parses};
 use accept::Accepted;
 use accept::Rules;
@@ -271,6 +271,44 @@ pub struct Lending {
     pub plain: bool,
 }
 
+// 16 and 29 of a job that is begun. A refusal stays.
+fn read_begun(
+    begun: Begun,
+    plain: bool,
+    table: &[u32],
+    text: &[u32],
+    main: &mut [u32],
+    parse: &mut [u32],
+) -> Parse
+    requires { ⌜ Prepared begun (now table) (now text) (length (now main)) (length (now parse)) ⌝ }
+    ensures { λ r. ⌜ ((j : Job) → Begins j (now (table .entry)) (now (text .entry)) begun
+        → Parses j (now (table .entry)) (now (text .entry)) (now (parse .exit)) r) ⌝ }
+{
+    let Begun::At(start) = begun else {
+        return Parse::Refused(Refusal {
+            why: why_begun(begun),
+            mismatch: false,
+        });
+    };
+    let mismatch = start.rules.mismatch;
+    let root = start.rules.root;
+    let chars = start.chars;
+    let read = read_record(plain, table, start, text, main, parse);
+    let Read::Reading(found) = read else {
+        return Parse::Refused(Refusal {
+            why: why_read(read),
+            mismatch,
+        });
+    };
+    Parse::Chosen(LeftParse {
+        root,
+        count: found.count,
+        chars,
+        ambiguous: found.ambiguous,
+        mismatch,
+    })
+}
+
 // All stages: 1 to 16, 24 and 29. The table takes the grammar's tokens and plain rules, `text` the record's characters, `parse` the
 // left parse of the chosen reading.
 pub fn parse_record(
@@ -286,27 +324,5 @@ pub fn parse_record(
     ensures { λ r. ⌜ Parses (job (now (grammar .entry)) (now («record» .entry)) (length (now (main .entry))) (lending .second)) (now (table .exit)) (now (text .exit)) (now (parse .exit)) r ⌝ }
 {
     let begun = begin(grammar, record, main.len(), lending.second, table, text);
-    let Begun::At(start) = begun else {
-        return Parse::Refused(Refusal {
-            why: why_begun(begun),
-            mismatch: false,
-        });
-    };
-    let mismatch = start.rules.mismatch;
-    let root = start.rules.root;
-    let chars = start.chars;
-    let read = read_record(lending.plain, table, start, text, main, parse);
-    let Read::Reading(found) = read else {
-        return Parse::Refused(Refusal {
-            why: why_read(read),
-            mismatch,
-        });
-    };
-    Parse::Chosen(LeftParse {
-        root,
-        count: found.count,
-        chars,
-        ambiguous: found.ambiguous,
-        mismatch,
-    })
+    read_begun(begun, lending.plain, table, text, main, parse)
 }
