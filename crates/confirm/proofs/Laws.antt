@@ -9,7 +9,8 @@ use Rattle.bits.specs.Bits.{Lit, Has}
 use Rattle.chart.specs.Code.{nextKind, goesAt, ruleAt}
 use Rattle.reach.specs.Flags.{Reached, Ends}
 use Rattle.ends.specs.Spans.{OnList, Spans}
-use Rattle.ends.specs.Table.{Derived, Landed, Move, move-terminal, move-symbol, Moved, Ground, SoundFrom}
+use Rattle.moves.specs.Moves.{Derived, Landed, Move, move-terminal, move-symbol, Moved}
+use Rattle.ends.specs.Table.{Ground, SoundFrom}
 use Rattle.ends.proofs.Reach.{list-inside, arrived}
 use Rattle.confirm.specs.Stood.{Stood, at-first, entering, past-terminal, past-symbol, Base}
 use Rattle.confirm.specs.Sets.{Member, Joined, AtDot, Told, Followed, Ran}

@@ -130,7 +130,14 @@ fn follow(
     let mut p = q;
     while visit(code, sets, queue, size, p, &mut cur) {
         let mut next = [0u32; 8];
-        ends::step(code, marks, main, ends::Dot { size, n, p }, &cur, &mut next);
+        moves::step(
+            code,
+            marks,
+            main,
+            moves::Dot { size, n, p },
+            &cur,
+            &mut next,
+        );
         cur = next;
         p += 1;
     }

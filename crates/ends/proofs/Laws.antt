@@ -11,12 +11,10 @@ use Rattle.chart.specs.Code.{nextKind, goesAt, ruleAt}
 use Rattle.reach.specs.Flags.{Fits, Reached, Begins}
 use Rattle.sparse.specs.Cells.{Shape}
 use Rattle.ends.specs.Spans.{OnList, Steps, here, by-terminal, by-symbol, Spans, Flows}
-use Rattle.ends.specs.Table.{Derived, Landed, LandedBy, Shifted, Move, move-terminal, move-symbol, Moved, Ground, Begun, Sound, Finished, Cleared, Tried, Settling, Settled, Opened, SoundFrom}
-use Rattle.ends.proofs.Cells.{bit-has}
+use Rattle.moves.specs.Moves.{Derived, Landed, LandedBy, Shifted, Move, move-terminal, move-symbol, Moved}
+use Rattle.ends.specs.Table.{Ground, Begun, Sound, Finished, Cleared, Tried, Settling, Settled, Opened, SoundFrom}
+use Rattle.moves.proofs.Cells.{bit-has}
 use Rattle.ends.proofs.Reach.{arrived}
-
-pub word-shifted : {M : List ℕ} {p width n v z : ℕ} (S : List ℕ) → LandedBy M p width n v (getD S v 0) z → Shifted M p width n S z
-word-shifted {v = v} S l = record { from = 32 * v + l .b; has = bit-has S v (l .b) (l .low) (l .lit); landed = l .landed }
 
 -- a step from places that are reached from the rule's first dot q
 module _ {c L M : List ℕ} {size n main m e q : ℕ} (g : Ground c L M size n main) (hm : m ≤ n) (he : e < size) (o : OnList L e q) (b : Begins M e m) where

@@ -8,7 +8,7 @@ use Prim.Native.Nat.{ℕ, _+_, _*_, _-_, _/_, _%_, _^_, _<_, _≤_}
 use lib.ListN.{length, getD}
 use Rattle.bits.specs.Bits.{Lit, Has}
 use Rattle.ends.specs.Spans.{OnList}
-use Rattle.ends.proofs.Cells.{none-has}
+use Rattle.moves.proofs.Cells.{none-has}
 use Rattle.confirm.specs.Stood.{Base}
 use Rattle.confirm.specs.Sets.{AtDot, Told}
 use Rattle.confirm.proofs.Laws.{moved-stood}

@@ -7,7 +7,7 @@ use mathlib.Core.Logic.{_⊎_, inl, inr, ⊎-elim}
 use Prim.Native.Nat.{ℕ, _+_, _*_, _-_, _/_, _%_, _^_, _<_, _≤_}
 use lib.ListN.{length, getD}
 use Rattle.bits.specs.Bits.{Lit, Has}
-use Rattle.ends.proofs.Cells.{none-has}
+use Rattle.moves.proofs.Cells.{none-has}
 use Rattle.confirm.specs.Stood.{Stood, at-first}
 use Rattle.confirm.proofs.Laws.{told-rule}
 use Rattle.confirm.proofs.stand.Statement.{statement}

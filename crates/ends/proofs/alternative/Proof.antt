@@ -11,7 +11,7 @@ use Rattle.chart.specs.Code.{nextKind}
 use Rattle.ends.specs.Spans.{OnList, Steps, here}
 use Rattle.ends.specs.Table.{Ground, Sound}
 use Rattle.ends.proofs.Reach.{list-inside}
-use Rattle.ends.proofs.Cells.{row-of, none-has}
+use Rattle.moves.proofs.Cells.{row-of, none-has}
 use Rattle.ends.proofs.Laws.{moved-steps, finished-sound}
 use Rattle.ends.proofs.alternative.Statement.{statement}
 use Rattle.ends.proofs.alternative.Tie as tie

@@ -9,7 +9,7 @@ use lib.ListN.{length, getD}
 use Rattle.bits.specs.Bits.{Lit, Has}
 use Rattle.chart.specs.Heights.{stretches}
 use Rattle.ends.specs.Table.{Opened}
-use Rattle.ends.proofs.Cells.{row-of}
+use Rattle.moves.proofs.Cells.{row-of}
 use Rattle.ends.proofs.Laws.{opened-start, opened-join}
 use Rattle.ends.proofs.begin.Statement.{statement}
 use Rattle.ends.proofs.begin.Tie as tie

@@ -7,8 +7,9 @@ use mathlib.Core.Logic.{_⊎_, inl, inr, ⊎-elim}
 use Prim.Native.Nat.{ℕ, _+_, _*_, _-_, _/_, _%_, _^_, _<_, _≤_}
 use lib.ListN.{length, getD}
 use Rattle.bits.specs.Bits.{Lit, Has}
-use Rattle.ends.specs.Table.{Row}
-use Rattle.ends.proofs.Cells.{column-on, cell-inside, Clearing, clear-start, clear-step, clear-end}
+use Rattle.moves.specs.Moves.{Row}
+use Rattle.moves.proofs.Cells.{column-on, cell-inside}
+use Rattle.ends.proofs.Cells.{Clearing, clear-start, clear-step, clear-end}
 use Rattle.ends.proofs.clear_row.Statement.{statement}
 use Rattle.ends.proofs.clear_row.Tie as tie
 

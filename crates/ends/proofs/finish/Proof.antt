@@ -7,8 +7,10 @@ use mathlib.Core.Logic.{_⊎_, inl, inr, ⊎-elim}
 use Prim.Native.Nat.{ℕ, _+_, _*_, _-_, _/_, _%_, _^_, _<_, _≤_}
 use lib.ListN.{length, getD}
 use Rattle.bits.specs.Bits.{Lit, Has}
-use Rattle.ends.specs.Table.{Finished, Row}
-use Rattle.ends.proofs.Cells.{column-on, cell-inside, finish-start, finish-step}
+use Rattle.moves.specs.Moves.{Row}
+use Rattle.ends.specs.Table.{Finished}
+use Rattle.moves.proofs.Cells.{column-on, cell-inside}
+use Rattle.ends.proofs.Cells.{finish-start, finish-step}
 use Rattle.ends.proofs.finish.Statement.{statement}
 use Rattle.ends.proofs.finish.Tie as tie
 

@@ -7,10 +7,10 @@ use mathlib.Core.Logic.{_⊎_, inl, inr, ⊎-elim}
 use Prim.Native.Nat.{ℕ, _+_, _*_, _-_, _/_, _%_, _^_, _<_, _≤_}
 use lib.ListN.{length, getD}
 use Rattle.bits.specs.Bits.{Lit, Has}
-use Rattle.ends.specs.Table.{Shifted}
-use Rattle.ends.proofs.Laws.{word-shifted}
-use Rattle.ends.proofs.shift.Statement.{statement}
-use Rattle.ends.proofs.shift.Tie as tie
+use Rattle.moves.specs.Moves.{Shifted}
+use Rattle.moves.proofs.Cells.{word-shifted}
+use Rattle.moves.proofs.shift.Statement.{statement}
+use Rattle.moves.proofs.shift.Tie as tie
 
 abbrev Inv-loop : tie.InvT-loop
 Inv-loop marks p width n cur next₀ last v₀ next v = ((z : ℕ) → Has next z → Has next₀ z ⊎ Shifted marks p width n cur z)

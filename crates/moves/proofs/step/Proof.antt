@@ -7,10 +7,10 @@ use mathlib.Core.Logic.{_⊎_, inl, inr, ⊎-elim}
 use Prim.Native.Nat.{ℕ, _+_, _*_, _-_, _/_, _%_, _^_, _<_, _≤_}
 use lib.ListN.{length, getD}
 use Rattle.bits.specs.Bits.{Lit, Has}
-use Rattle.ends.specs.Table.{Moved, move-terminal, move-symbol}
-use Rattle.ends.proofs.Cells.{row-of}
-use Rattle.ends.proofs.step.Statement.{statement}
-use Rattle.ends.proofs.step.Tie as tie
+use Rattle.moves.specs.Moves.{Moved, move-terminal, move-symbol}
+use Rattle.moves.proofs.Cells.{row-of}
+use Rattle.moves.proofs.step.Statement.{statement}
+use Rattle.moves.proofs.step.Tie as tie
 
 mul-kind : tie.Need-mul-kind
 mul-kind c = search needs

@@ -7,9 +7,9 @@ use mathlib.Core.Logic.{_⊎_, inl, inr, ⊎-elim}
 use Prim.Native.Nat.{ℕ, _+_, _*_, _-_, _/_, _%_, _^_, _<_, _≤_}
 use lib.ListN.{length, getD}
 use Rattle.bits.specs.Bits.{Lit, Has}
-use Rattle.ends.proofs.Cells.{masked-word}
-use Rattle.ends.proofs.add_word.Statement.{statement}
-use Rattle.ends.proofs.add_word.Tie as tie
+use Rattle.moves.proofs.Cells.{masked-word}
+use Rattle.moves.proofs.add_word.Statement.{statement}
+use Rattle.moves.proofs.add_word.Tie as tie
 
 returns : tie.Need-returns
 returns c = λ x h. inl h

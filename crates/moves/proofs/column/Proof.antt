@@ -7,8 +7,8 @@ use mathlib.Core.Logic.{_⊎_, inl, inr, ⊎-elim}
 use Prim.Native.Nat.{ℕ, _+_, _*_, _-_, _/_, _%_, _^_, _<_, _≤_}
 use lib.ListN.{length, getD}
 use Rattle.bits.specs.Bits.{Lit, Has}
-use Rattle.ends.proofs.column.Statement.{statement}
-use Rattle.ends.proofs.column.Tie as tie
+use Rattle.moves.proofs.column.Statement.{statement}
+use Rattle.moves.proofs.column.Tie as tie
 
 sub-result : tie.Need-sub-result
 sub-result c = search needs

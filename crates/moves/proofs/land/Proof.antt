@@ -8,8 +8,8 @@ use Prim.Native.Nat.{ℕ, _+_, _*_, _-_, _/_, _%_, _^_, _<_, _≤_}
 use lib.ListN.{length, getD}
 use Rattle.bits.specs.Bits.{Lit, Has}
 use borrow.Author.Tests.{not-false}
-use Rattle.ends.proofs.land.Statement.{statement}
-use Rattle.ends.proofs.land.Tie as tie
+use Rattle.moves.proofs.land.Statement.{statement}
+use Rattle.moves.proofs.land.Tie as tie
 
 returns : tie.Need-returns
 returns c = λ z h. inl h

@@ -7,10 +7,10 @@ use mathlib.Core.Logic.{_⊎_, inl, inr, ⊎-elim}
 use Prim.Native.Nat.{ℕ, _+_, _*_, _-_, _/_, _%_, _^_, _<_, _≤_}
 use lib.ListN.{length, getD}
 use Rattle.bits.specs.Bits.{Lit, Has}
-use Rattle.ends.specs.Table.{Masked}
-use Rattle.ends.proofs.Cells.{column-on, lanes-inside, masked-step}
-use Rattle.ends.proofs.add_ends.Statement.{statement}
-use Rattle.ends.proofs.add_ends.Tie as tie
+use Rattle.moves.specs.Moves.{Masked}
+use Rattle.moves.proofs.Cells.{column-on, lanes-inside, masked-step}
+use Rattle.moves.proofs.add_ends.Statement.{statement}
+use Rattle.moves.proofs.add_ends.Tie as tie
 
 abbrev Inv-loop : tie.InvT-loop
 Inv-loop main n rule v on next₀ count last w₀ next w = (v ≤ w) × ((x : ℕ) → Has next x → Has next₀ x ⊎ Masked n main rule v on x)

@@ -7,10 +7,10 @@ use mathlib.Core.Logic.{_⊎_, inl, inr, ⊎-elim}
 use Prim.Native.Nat.{ℕ, _+_, _*_, _-_, _/_, _%_, _^_, _<_, _≤_}
 use lib.ListN.{length, getD}
 use Rattle.bits.specs.Bits.{Lit, Has}
-use Rattle.ends.specs.Table.{Gathered}
-use Rattle.ends.proofs.Cells.{gathered-none, gathered-next}
-use Rattle.ends.proofs.gather.Statement.{statement}
-use Rattle.ends.proofs.gather.Tie as tie
+use Rattle.moves.specs.Moves.{Gathered}
+use Rattle.moves.proofs.Cells.{gathered-none, gathered-next}
+use Rattle.moves.proofs.gather.Statement.{statement}
+use Rattle.moves.proofs.gather.Tie as tie
 
 abbrev Inv-loop : tie.InvT-loop
 Inv-loop main at on count acc₀ b₀ acc b = (b ≤ count) × Gathered main at on b acc

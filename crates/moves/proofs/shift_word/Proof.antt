@@ -7,9 +7,9 @@ use mathlib.Core.Logic.{_⊎_, inl, inr, ⊎-elim}
 use Prim.Native.Nat.{ℕ, _+_, _*_, _-_, _/_, _%_, _^_, _<_, _≤_}
 use lib.ListN.{length, getD}
 use Rattle.bits.specs.Bits.{Lit, Has}
-use Rattle.ends.specs.Table.{LandedBy}
-use Rattle.ends.proofs.shift_word.Statement.{statement}
-use Rattle.ends.proofs.shift_word.Tie as tie
+use Rattle.moves.specs.Moves.{LandedBy}
+use Rattle.moves.proofs.shift_word.Statement.{statement}
+use Rattle.moves.proofs.shift_word.Tie as tie
 
 abbrev Inv-loop : tie.InvT-loop
 Inv-loop marks p width n v word next₀ b₀ next b = (b ≤ 32) × ((z : ℕ) → Has next z → Has next₀ z ⊎ LandedBy marks p width n v word z)

@@ -7,8 +7,8 @@ use mathlib.Core.Logic.{_⊎_, inl, inr, ⊎-elim}
 use Prim.Native.Nat.{ℕ, _+_, _*_, _-_, _/_, _%_, _^_, _<_, _≤_}
 use lib.ListN.{length, getD}
 use Rattle.bits.specs.Bits.{Lit, Has}
-use Rattle.ends.proofs.lanes.Statement.{statement}
-use Rattle.ends.proofs.lanes.Tie as tie
+use Rattle.moves.proofs.lanes.Statement.{statement}
+use Rattle.moves.proofs.lanes.Tie as tie
 
 add-left : tie.Need-add-left
 add-left c = search needs

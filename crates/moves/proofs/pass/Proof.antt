@@ -7,10 +7,10 @@ use mathlib.Core.Logic.{_⊎_, inl, inr, ⊎-elim}
 use Prim.Native.Nat.{ℕ, _+_, _*_, _-_, _/_, _%_, _^_, _<_, _≤_}
 use lib.ListN.{length, getD}
 use Rattle.bits.specs.Bits.{Lit, Has}
-use Rattle.ends.specs.Table.{Passed}
-use Rattle.ends.proofs.Cells.{word-passed}
-use Rattle.ends.proofs.pass.Statement.{statement}
-use Rattle.ends.proofs.pass.Tie as tie
+use Rattle.moves.specs.Moves.{Passed}
+use Rattle.moves.proofs.Cells.{word-passed}
+use Rattle.moves.proofs.pass.Statement.{statement}
+use Rattle.moves.proofs.pass.Tie as tie
 
 abbrev Inv-loop : tie.InvT-loop
 Inv-loop main n rule cur next₀ last v₀ next v = ((x : ℕ) → Has next x → Has next₀ x ⊎ Passed n main rule cur x)
