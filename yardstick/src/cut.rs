@@ -175,6 +175,13 @@ impl State {
     }
 }
 
+/// For each rule of an accepted grammar, written or made, its position in the main
+/// table.
+pub fn names(grammar: &[u8]) -> Option<Vec<usize>> {
+    let (plain, ..) = calls::opened(grammar, b"").ok()?;
+    Some(plain.names())
+}
+
 /// The rules of a grammar, the rounds until a read is finished, and for each k
 /// from 0 on how many pairs of a rule and a span have a derivation of height at
 /// most k; the refusal where the start is refused.
