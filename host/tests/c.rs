@@ -138,12 +138,12 @@ fn program(assert: &str) -> String {
                      sizeof main_table / sizeof *main_table, grammar_table,\n\
                      IXML_GRAMMAR_TABLE, state);\n\
              }}\n\
-             if (p.answer.number != 0 || p.rounds != 3) return 14;\n\
+             if (p.answer.number != 0 || p.rounds != 2) return 14;\n\
              numbers[0] = 7;\n\
              p = ixml_finish_read(text, sizeof twice - 1, record, 1, main_table,\n\
                  sizeof main_table / sizeof *main_table, grammar_table,\n\
                  IXML_GRAMMAR_TABLE, state, numbers, 3);\n\
-             if (p.answer.number != 0 || p.rounds != 3 || !p.answer.ambiguous) return 15;\n\
+             if (p.answer.number != 0 || p.rounds != 2 || !p.answer.ambiguous) return 15;\n\
              if (numbers[0] != 1 || numbers[1] != 7) return 16;\n\
              p = ixml_finish_convert(text, sizeof twice - 1, record, 0, main_table,\n\
                  sizeof main_table / sizeof *main_table, grammar_table,\n\
