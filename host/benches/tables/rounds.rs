@@ -80,7 +80,7 @@ fn times() {
         ("stars", gen::stars(512)),
         ("runs", gen::runs(512)),
         ("chains", gen::chains(512)),
-        ("dense, at random", dense(1)),
+        ("dense, at random, size 400 to 512", dense(1)),
     ];
     println!(
         "| a read in rounds, size 512 | characters | start ms | rounds | first round ms \
