@@ -46,20 +46,32 @@ fn assert_says(memory: &Memory, like: &cut::State, before: &cut::State, job: &Jo
 }
 
 /// Every refusal of a call that is not the first leaves table and state alone
-/// (`Memory` sees to it), and is judged in its order.
+/// (`Memory` sees to it), and is judged in its order, finished or not.
 fn assert_refusals(memory: &mut Memory, job: &Job, other: &Job) {
-    let same = other.grammar == job.grammar && other.record == job.record;
+    let others = [
+        other.clone(),
+        Job::new(&job.grammar, &other.record),
+        Job::new(&other.grammar, &job.record),
+    ];
+    let kept = memory.kept();
     for (main, second) in [(-1, 0), (0, -1)] {
         memory.resized(main, second);
-        for job in [job, other] {
-            let alien = !same && std::ptr::eq(job, other);
-            let expected = refused(if alien { 27 } else { 15 }, 0);
-            assert_eq!(memory.round(job), expected, "{job:?}");
-            assert_eq!(memory.read(job).0, expected, "{job:?}");
-            assert_eq!(memory.convert(job).0, expected, "{job:?}");
+        assert_all_refused(memory, job, 15);
+        for other in &others {
+            let same = other.grammar == job.grammar && other.record == job.record;
+            assert_all_refused(memory, other, if same { 15 } else { 27 });
         }
         memory.resized(-main, -second);
     }
+    // The guards are made anew where lengths change, and the last cell with them.
+    memory.main.lend().copy_from_slice(&kept.0);
+}
+
+fn assert_all_refused(memory: &mut Memory, job: &Job, number: u32) {
+    let expected = refused(number, 0);
+    assert_eq!(memory.round(job), expected, "{job:?}");
+    assert_eq!(memory.read(job).0, expected, "{job:?}");
+    assert_eq!(memory.convert(job).0, expected, "{job:?}");
 }
 
 /// Runs a job to its end, held to the yardstick after each round.
@@ -74,6 +86,7 @@ fn run(job: &Job, other: &Job, seed: u32) -> ixml::Answer {
     }
     let mut before = like.clone();
     assert_says(&memory, &like, &before, job);
+    assert_refusals(&mut memory, job, other);
     while !memory.is_finished() {
         let rounds = like.rounds().map_or(0, |rounds| rounds.done());
         assert_eq!(memory.read(job).0, refused(26, rounds), "{job:?}");
@@ -86,10 +99,7 @@ fn run(job: &Job, other: &Job, seed: u32) -> ixml::Answer {
     let rounds = like.rounds().expect("a read");
     assert!(rounds.is_finished(), "{job:?}");
     let done = rounds.done();
-    // The guards are made anew where lengths change, and the last cell with them.
-    let kept = memory.kept();
     assert_refusals(&mut memory, job, other);
-    memory.main.lend().copy_from_slice(&kept.0);
     assert_eq!(memory.round(job).rounds, done, "{job:?}");
     let (read, converted) = uncut(job, &memory);
     let (ended, numbers) = memory.read(job);
