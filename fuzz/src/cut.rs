@@ -4,11 +4,11 @@ use std::fmt::Debug;
 
 use ixml::limits::STATE;
 use ixml::rounds::{finish_convert, finish_read, round, start, State};
-use ixml::Progress;
+use ixml::{Answer, Progress};
 use ixml_yardstick::cut::{self, Lent};
 use ixml_yardstick::gen::Random;
 
-use crate::jobs::{dirty, of, Bench, Difference};
+use crate::jobs::{dirty, Bench, Difference};
 
 /// Most rounds that are asked for.
 const ROUNDS: usize = 60;
@@ -20,13 +20,6 @@ pub struct Lengths {
     pub table: usize,
     pub numbers: usize,
     pub bytes: usize,
-}
-
-fn progress(of_yardstick: cut::Progress) -> Progress {
-    Progress {
-        answer: of(of_yardstick.answer),
-        rounds: of_yardstick.rounds,
-    }
 }
 
 fn same(what: &str, got: impl Debug + PartialEq, expected: impl Debug) -> Result<(), Difference> {
@@ -59,10 +52,10 @@ impl Bench {
         };
         let (expected, mut like) = cut::start(lent);
         let started = start(grammar, record, main, second, state);
-        same("start", started, progress(expected))?;
+        same("start", started, Progress::from(expected))?;
         let asked = random.below(ROUNDS);
         for _ in 0..asked {
-            let expected = progress(like.round(lent));
+            let expected = Progress::from(like.round(lent));
             let done = round(grammar, record, main, second, state);
             same("round", done, expected)?;
         }
@@ -108,12 +101,12 @@ impl Read<'_> {
         let mut like = numbers.to_vec();
         let read = finish_read(grammar, record, main, self.second, self.state, numbers);
         if !self.forged {
-            let expected = progress(self.like.finish_read(self.lent, &mut like));
+            let expected = Progress::from(self.like.finish_read(self.lent, &mut like));
             same("end", read, expected)?;
         } else if !refused(read) {
             let (main, table) = (self.lent.main_table, self.lent.grammar_table);
             let uncut = ixml_yardstick::read(grammar, record, main, table, &mut like);
-            same("a forged end", read.answer, of(uncut))?;
+            same("a forged end", read.answer, Answer::from(uncut))?;
         }
         same("numbers", &*numbers, &like[..])
     }
@@ -128,12 +121,12 @@ impl Read<'_> {
         let mut like = bytes.to_vec();
         let read = finish_convert(grammar, record, main, self.second, self.state, bytes);
         if !self.forged {
-            let expected = progress(self.like.finish_convert(self.lent, &mut like));
+            let expected = Progress::from(self.like.finish_convert(self.lent, &mut like));
             same("end as XML", read, expected)?;
         } else if !refused(read) {
             let (main, table) = (self.lent.main_table, self.lent.grammar_table);
             let uncut = ixml_yardstick::convert(grammar, record, main, table, &mut like);
-            same("a forged end as XML", read.answer, of(uncut))?;
+            same("a forged end as XML", read.answer, Answer::from(uncut))?;
         }
         same("bytes", &*bytes, &like[..])
     }

@@ -4,7 +4,7 @@
 use std::fmt::Debug;
 
 use ixml::limits::{main_table, GRAMMAR_TABLE, READING_NUMBERS, RECORD_CHARACTERS, STATE};
-use ixml::{Answer, Places};
+use ixml::Answer;
 use ixml_yardstick::gen::{self, Random, Style};
 
 use crate::cut::Lengths;
@@ -69,7 +69,7 @@ impl Bench {
         let record_text = copy(&mut self.record, &record, at_end);
 
         let checked = ixml::check(grammar_text);
-        let expected = of(ixml_yardstick::check(&grammar));
+        let expected = Answer::from(ixml_yardstick::check(&grammar));
         if checked != expected {
             return Err(says("check", &(checked, expected)));
         }
@@ -78,7 +78,7 @@ impl Bench {
         let bytes = dirty(&mut self.bytes, room, at_end, random);
         let mut like = bytes.to_vec();
         let tidied = ixml::tidy(grammar_text, bytes);
-        let expected = of(ixml_yardstick::tidy(&grammar, &mut like));
+        let expected = Answer::from(ixml_yardstick::tidy(&grammar, &mut like));
         if tidied != expected || *bytes != like[..] {
             return Err(says("tidy", &(tidied, expected, room)));
         }
@@ -93,7 +93,7 @@ impl Bench {
         let mut like = numbers.to_vec();
         let call = if plain { ixml::read_plain } else { ixml::read };
         let read = call(grammar_text, record_text, main_table, grammar_table, numbers);
-        let expected = of(ixml_yardstick::read(&grammar, &record, main, table, &mut like));
+        let expected = Answer::from(ixml_yardstick::read(&grammar, &record, main, table, &mut like));
         if read != expected || *numbers != like[..] {
             return Err(says("read", &(read, expected, main, table, room, plain)));
         }
@@ -102,7 +102,7 @@ impl Bench {
         let bytes = dirty(&mut self.bytes, room, at_end, random);
         let mut like = bytes.to_vec();
         let converted = ixml::convert(grammar_text, record_text, main_table, grammar_table, bytes);
-        let expected = of(ixml_yardstick::convert(&grammar, &record, main, table, &mut like));
+        let expected = Answer::from(ixml_yardstick::convert(&grammar, &record, main, table, &mut like));
         if converted != expected || *bytes != like[..] {
             return Err(says("convert", &(converted, expected, main, table, room)));
         }
@@ -221,20 +221,6 @@ pub fn dirty<'a, T: Cell>(
         *cell = T::of(number);
     }
     cells
-}
-
-pub fn of(answer: ixml_yardstick::Answer) -> Answer {
-    Answer {
-        number: answer.number,
-        length: answer.length,
-        ambiguous: answer.ambiguous,
-        version: answer.version,
-        places: Places {
-            byte: answer.places.byte,
-            fault: answer.places.fault,
-            grammar: answer.places.grammar,
-        },
-    }
 }
 
 #[cfg(test)]

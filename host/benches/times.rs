@@ -344,21 +344,38 @@ fn hard_table() {
 /// Records that the grammar does not derive, by the place of a character that
 /// no rule has.
 fn fails_table() {
-    const SIZE: usize = 512;
     const NO_READING: u32 = 16;
     let mut memory: Memory<Reading> = Memory::new(READING_NUMBERS);
-    print!("| failing, size {SIZE} |");
+    print!("| failing, by size and characters |");
     for place in ["early", "middle", "late"] {
         print!(" {place}: library ms | yardstick ms | times |");
     }
     println!("\n|---|{}", "---:|---:|---:|".repeat(3));
     for (name, grammar, record, _) in FAMILIES {
-        let grammar = grammar(SIZE);
-        for length in [80, RECORD_CHARACTERS] {
-            let times = [1, length / 2, length - 2].map(|place| {
-                let mut record = record(length);
-                record.replace_range(place..=place, "!");
-                let job = Job::new(&grammar, record);
+        for size in [48, 512] {
+            let grammar = grammar(size);
+            for length in [20, 80, RECORD_CHARACTERS] {
+                let times = [1, length / 2, length - 2].map(|place| {
+                    let mut record = record(length);
+                    record.replace_range(place..=place, "!");
+                    let job = Job::new(&grammar, record);
+                    let (answer, times) = memory.measure_any(&job);
+                    assert_eq!(answer.number, NO_READING, "{job:?}");
+                    times
+                });
+                row(&format!("{name}, size {size}, {length} characters"), &times);
+            }
+        }
+    }
+    // Closing brackets too many: the flags do not count them, and reach the record's end.
+    for (name, grammar) in [
+        ("brackets", "e: '(', e, ')'; 'x'."),
+        ("sums in brackets", "e: t; e, '+', t. t: '(', e, ')'; 'x'."),
+    ] {
+        for length in [20, 80, RECORD_CHARACTERS] {
+            let times = [1, length / 4, length / 2 - 2].map(|depth| {
+                let closing = ")".repeat(length - depth - 1);
+                let job = Job::new(grammar, "(".repeat(depth) + "x" + &closing);
                 let (answer, times) = memory.measure_any(&job);
                 assert_eq!(answer.number, NO_READING, "{job:?}");
                 times

@@ -50,3 +50,20 @@ impl Answer {
         }
     }
 }
+
+/// An answer of the yardstick, in the library's words.
+impl From<ixml_yardstick::Answer> for Answer {
+    fn from(answer: ixml_yardstick::Answer) -> Answer {
+        Answer {
+            number: answer.number,
+            length: answer.length,
+            ambiguous: answer.ambiguous,
+            version: answer.version,
+            places: Places {
+                byte: answer.places.byte,
+                fault: answer.places.fault,
+                grammar: answer.places.grammar,
+            },
+        }
+    }
+}

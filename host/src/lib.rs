@@ -31,6 +31,7 @@ mod category;
 mod error;
 mod fault;
 pub mod ffi;
+pub mod files;
 mod gate;
 pub mod limits;
 mod reader;

@@ -9,6 +9,8 @@
 //! is lent, each call ends with an answer, and an end never gives another result
 //! than the uncut call.
 
+use ixml_yardstick::cut;
+
 use crate::limits::{self, main_table_for, GRAMMAR_TABLE, READING_NUMBERS};
 use crate::reader::{converted, with_room};
 use crate::{ffi, Answer, Converted, Error, Reading};
@@ -29,6 +31,16 @@ pub struct Progress {
     pub answer: Answer,
     /// How many rounds were done; 0 with a refused start, 27 and 15.
     pub rounds: usize,
+}
+
+impl From<cut::Progress> for Progress {
+    /// The yardstick's answer as one of the library.
+    fn from(progress: cut::Progress) -> Progress {
+        Progress {
+            answer: progress.answer.into(),
+            rounds: progress.rounds,
+        }
+    }
 }
 
 /// Starts a read: the numbers 0 to 15, and 24.
@@ -218,7 +230,7 @@ impl Rounds {
         if let Some(error) = refusal {
             return Err(error.quoting(&grammar, &record));
         }
-        let names = ixml_yardstick::cut::names(&grammar).expect("a grammar that is accepted");
+        let names = cut::names(&grammar).expect("a grammar that is accepted");
         let characters = limits::characters(&record);
         Ok(Rounds {
             grammar,

@@ -84,14 +84,19 @@ pub enum Command {
         record: String,
         numbers: String,
     },
-    Gate {
-        grammar: String,
-        records: Vec<String>,
-        lines: bool,
-        gate: Gate,
-        lat: String,
-        lon: String,
-    },
+    Gate(Positions),
+}
+
+/// Records whose positions are judged, and by what.
+#[derive(Clone, Debug, PartialEq)]
+pub struct Positions {
+    pub grammar: String,
+    pub records: Vec<String>,
+    pub lines: bool,
+    pub gate: Gate,
+    /// The names of the two attributes.
+    pub lat: String,
+    pub lon: String,
 }
 
 /// The words with their options taken out.
@@ -291,14 +296,14 @@ fn gate(words: impl Iterator<Item = String>) -> Result<Command, String> {
     let (lat, lon) = (name("--lat", "lat"), name("--lon", "lon"));
     let lines = words.has("--lines");
     let (grammar, records) = words.first_and_more()?;
-    Ok(Command::Gate {
+    Ok(Command::Gate(Positions {
         grammar,
         records,
         lines,
         gate,
         lat,
         lon,
-    })
+    }))
 }
 
 #[cfg(test)]
@@ -320,7 +325,7 @@ mod tests {
         assert_eq!(convert.jobs, Some(3));
         let gate = of("gate g r --box 44 46.5 -11 13");
         assert!(
-            matches!(gate, Ok(Command::Gate { gate: Gate::Box { west, .. }, .. }) if west == -11.0)
+            matches!(gate, Ok(Command::Gate(Positions { gate: Gate::Box { west, .. }, .. })) if west == -11.0)
         );
     }
 

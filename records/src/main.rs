@@ -79,13 +79,6 @@ fn run(command: Command) -> io::Result<Status> {
             record,
             numbers,
         } => single::judge(&grammar, &record, &numbers),
-        Command::Gate {
-            grammar,
-            records,
-            lines,
-            gate,
-            lat,
-            lon,
-        } => positions::positions(&grammar, records, lines, gate, [&lat, &lon]),
+        Command::Gate(asked) => positions::positions(asked),
     }
 }

@@ -5,21 +5,17 @@ use std::io::{self, Write};
 
 use ixml::{Gate, Latitude, Longitude, Verdict};
 
+use crate::args::Positions;
 use crate::batch::{self, Done};
 use crate::diagnosis::{diagnose, Source};
 use crate::single::{accepted, source};
 use crate::worker::{Outcome, Worker};
 use crate::Status;
 
-/// A line for each record, with its verdict. `names` are the attributes with
-/// the latitude and the longitude.
-pub fn positions(
-    grammar: &str,
-    records: Vec<String>,
-    lines: bool,
-    gate: Gate,
-    names: [&str; 2],
-) -> io::Result<Status> {
+/// A line for each record, with its verdict.
+pub fn positions(asked: Positions) -> io::Result<Status> {
+    let (grammar, gate) = (&asked.grammar, asked.gate);
+    let names = [asked.lat.as_str(), asked.lon.as_str()];
     let Some(bytes) = source(grammar) else {
         return Ok(Status::Failed);
     };
@@ -29,7 +25,7 @@ pub fn positions(
     let mut worker = Worker::default();
     let mut status = Status::Well;
     let mut out = io::stdout().lock();
-    let given = batch::given(records, lines);
+    let given = batch::given(asked.records, asked.lines);
     batch::convert(&bytes, given, batch::threads(), |done| -> io::Result<()> {
         let (record, outcome) = match done {
             Done::Unreadable(file, error) => {

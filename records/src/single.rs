@@ -1,7 +1,6 @@
 //! The commands on one grammar, or on one grammar and one record.
 
 use std::fmt::Display;
-use std::fs;
 use std::io::{self, Write};
 use std::path::Path;
 
@@ -104,26 +103,10 @@ fn tidied(file: &str, check: bool) -> Status {
     if check {
         return complain(&"not tidy", Status::Refused);
     }
-    match replace(Path::new(file), &text) {
+    match ixml::files::replace(Path::new(file), &text) {
         Ok(()) => Status::Well,
         Err(error) => complain(&error, Status::Failed),
     }
-}
-
-/// Writes beside the file and then renames, so that there is always a whole one.
-fn replace(path: &Path, text: &str) -> io::Result<()> {
-    let path = fs::canonicalize(path)?;
-    let mut name = path.file_name().unwrap_or_default().to_os_string();
-    name.push(".tidy");
-    let beside = path.with_file_name(name);
-    fs::write(&beside, text)?;
-    let renamed = fs::set_permissions(&beside, fs::metadata(&path)?.permissions())
-        .and_then(|()| fs::rename(&beside, &path));
-    if renamed.is_err() {
-        // Whatever is left of it says nothing.
-        let _ = fs::remove_file(&beside);
-    }
-    renamed
 }
 
 /// A grammar that is accepted and a record, or how the command ends.

@@ -108,14 +108,7 @@ pub fn judge(
         let xml = xml::convert(&accepted.plain, &record, list, state)?;
         Ok((fill(result, xml.as_bytes())?, accepted.version))
     });
-    match outcome {
-        Ok((length, version)) => Answer {
-            length,
-            version,
-            ..Answer::default()
-        },
-        Err(refusal) => refusal.into(),
-    }
+    of_text(outcome)
 }
 
 /// The left parse of a derivation other than the chosen one, where the record has
@@ -137,6 +130,11 @@ pub fn tidy(grammar: &[u8], result: &mut [u8]) -> Answer {
         let length = fill(result, text.as_bytes())?;
         Ok((length, accepted.version))
     });
+    of_text(outcome)
+}
+
+/// The answer to a text of so many bytes, of which no reading was chosen, or to its refusal.
+fn of_text(outcome: Result<(usize, bool), Refusal>) -> Answer {
     match outcome {
         Ok((length, version)) => Answer {
             length,

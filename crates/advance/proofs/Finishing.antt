@@ -26,8 +26,9 @@ use Rattle.sweeps.proofs.Rounds.{low, low-symbol, offered, offered-rule}
 use Rattle.sweeps.proofs.Ending.{clear-upto, closed-at}
 use Rattle.fixpoint.specs.Fixed.{Fixed, Fixpoint}
 use Rattle.rounds.specs.Rounds.{mostRounds, AllStand}
-use Rattle.rounds.specs.After.{ruleSymbol, Within, Entered, TableSays, RuleAfter, rule-low, rule-none, After, Idle}
+use Rattle.rounds.specs.After.{ruleSymbol, Within, Entered, TableSays, After, Idle}
 use Rattle.rounds.proofs.Bound.{enough, enough-rule}
+use Rattle.rounds.proofs.Says.{after-says}
 use Rattle.advance.specs.Numbered.{Numbered}
 use Rattle.advance.proofs.Layered.{row-tree, Layered, given-named, layered-next}
 
@@ -48,18 +49,6 @@ module _ (c f : List ℕ) (g : Grammar) (r : Text) (size top first : ℕ) (k : C
     upto = clear-upto c f size n (size * stretches n) sh z;
     ends = λ p i j w _ l. absurd (omega (arith, z (cellAt n p i j) (in-room (record { few = k .small; short = k .short; room = omega arith }) w)));
   }
-
-  -- what a table after h rounds says
-  pub after-says : {h : ℕ} {t : List ℕ} → h ≤ none → After g r h t → TableSays g r h t
-  after-says {h} {t} few a q i j hq hi hj = (λ l. has (a .rule q i j hq hi hj) l, λ w. entered (a .rule q i j hq hi hj) w)
-    where
-      has : {v : ℕ} → RuleAfter g r (ruleSymbol g q) i j h v → v < none → Within g r h (ruleSymbol g q) i j
-      has (rule-low w l) b = record { tree = w .tree; derives = w .derives; low = omega (arith, w .attained) }
-      has (rule-none w) b = absurd (omega arith)
-
-      entered : {v : ℕ} → RuleAfter g r (ruleSymbol g q) i j h v → Within g r h (ruleSymbol g q) i j → v < none
-      entered (rule-low w l) b = omega arith
-      entered (rule-none w) b = absurd (omega (arith, w (b .tree) (b .derives), b .low))
 
   -- a round that adds no rule: nothing is given any more, so the table is that after any number of rounds
   gives-closed : {u : List ℕ} (p i j v : ℕ) → Closed c f size n u i j → Place size n p i j → Gives c f size n u p i j v → v < none → cellOf n u p i j ≤ v

@@ -38,7 +38,7 @@ module _ {Tb c : List ℕ} (f : List ℕ) {g : Grammar} {r : Text} {size top roo
   most-is : count * (length r + 1) ≡ mostRounds g r
   most-is = ap (λ (x : ℕ). x * (length r + 1)) (is ∙ names-count w ∙ layout-length g)
 
-  few : mostRounds g r + 2 < none
+  few : mostRounds g r ≤ 102912
   few = omega (arith, most-is, few-rounds count (length r + 1) (omega arith) (omega arith))
 
   the-code : Coded c f g r size top root

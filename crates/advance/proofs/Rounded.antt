@@ -19,12 +19,13 @@ use Rattle.numbering.proofs.Names.{owner-named, named-owner}
 use Rattle.fixpoint.specs.Fixed.{Tells}
 use Rattle.fixpoint.proofs.Tests.{hit, miss}
 use Rattle.rounds.specs.Rounds.{mostRounds, AllStand}
-use Rattle.rounds.specs.After.{ruleSymbol, TableSays, After, Idle, Ends, Finished}
+use Rattle.rounds.specs.After.{ruleSymbol, TableSays, After, Ends, Finished}
+use Rattle.rounds.proofs.Says.{after-says}
 use Rattle.advance.specs.Numbered.{Numbered}
 use Rattle.advance.specs.Advanced.{Advanced, goes-on, idles, closes}
 use Rattle.advance.specs.Round.{Rounded}
 use Rattle.advance.proofs.Layered.{Layered, layered-next, layered-of, after-of}
-use Rattle.advance.proofs.Finishing.{after-says, layered-idle, idle-when, busy-when, full-says}
+use Rattle.advance.proofs.Finishing.{layered-idle, idle-when, busy-when, full-says}
 
 -- the code of a grammar's rules is numbered
 pub numbered-of : {At : ℕ → Terminal → Type 0} {c : List ℕ} {g : Grammar} {size top first : ℕ} (w : Ruled At c g size top first) → size ≡ plain.size g
@@ -43,7 +44,7 @@ pub listed-of : {At : ℕ → Terminal → Type 0} {c : List ℕ} {g : Grammar} 
 listed-of {g = g} w q h = let o = w .named q h in subst (λ (s : Symbol). In s (plain.ruled g)) (o .head) (w .only _ (omega (arith, o .inside, w .count)) (o .ends) (o .last))
 
 module _ (c f : List ℕ) (g : Grammar) (r : Text) (size top first : ℕ) (k : Coded c f g r size top first) (m : Numbered c g (k .dots) (k .heads) size)
-    (all : AllStand g (plain.ruled g)) (listed : (q : ℕ) → q < length (layout g) → In (ruleSymbol g q) (plain.ruled g)) (few : mostRounds g r + 2 < none) where
+    (all : AllStand g (plain.ruled g)) (listed : (q : ℕ) → q < length (layout g) → In (ruleSymbol g q) (plain.ruled g)) (few : mostRounds g r ≤ 102912) where
   abbrev n : ℕ
   n = length r
 
@@ -80,14 +81,14 @@ module _ (c f : List ℕ) (g : Grammar) (r : Text) (size top first : ℕ) (k : C
         record {
           goes = λ _. x;
           ends = λ e. never (sym e);
-          says = after-says c f g r size top first k m (omega arith) x;
+          says = after-says (omega arith) x;
           tells = miss (⊎-elim (busy-when c f g r size top first k m (omega arith) a (after-next s) (next s) (s .adds)) (λ e. omega arith));
         }
     follows (idles s) = record {
       goes = λ e. never e;
       ends = λ _. after-of c f g r size top first k m (suc (mostRounds g r)) u (layered-idle c f g r size top first k m lay s (suc (mostRounds g r)) (omega arith) (omega arith)) (omega arith)
           (omega (arith, steps-length c f size n (s .steps)));
-      says = after-says c f g r size top first k m (omega arith) (subst (λ (o : ℕ). After g r o u) up (after-next s));
+      says = after-says (omega arith) (subst (λ (o : ℕ). After g r o u) up (after-next s));
       tells = hit (inl (idle-when c f g r size top first k m (omega arith) a (after-next s) (s .adds)));
     }
     follows (closes {v} s b w) =
@@ -105,6 +106,7 @@ module _ (c f : List ℕ) (g : Grammar) (r : Text) (size top first : ℕ) (k : C
   pub rounded : (h : ℕ) (t u : List ℕ) (last : Bool) → size * stretches n ≤ length t → ((x : ℕ) → getD t x 0 ≤ none) → h < mostRounds g r
       → (Upto c f size n h t → Advanced c f size n h (mostRounds g r) t u last) → Rounded g r h t u last
   rounded h t u last room most l w = record {
+    few = few;
     enough = λ b. absurd (omega arith);
     goes-on = λ b a e. go a .goes e;
     ends = λ b a e. go a .ends e;
@@ -117,6 +119,7 @@ module _ (c f : List ℕ) (g : Grammar) (r : Text) (size top first : ℕ) (k : C
 
   pub enough-rounds : (h : ℕ) (t : List ℕ) → mostRounds g r ≤ h → Rounded g r h t t true
   enough-rounds h t l = record {
+    few = few;
     enough = λ _. (refl, refl);
     goes-on = λ b. absurd (omega arith);
     ends = λ b. absurd (omega arith);

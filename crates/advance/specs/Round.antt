@@ -24,6 +24,8 @@ pub record Readable (T : List ℕ) (size root : ℕ) (r : Text) (main : ℕ) : T
 
 -- the round after k others; `last` tells whether the read is finished with it. Where there were enough, nothing is done
 pub record Rounded (g : Grammar) (r : Text) (k : ℕ) (M M' : List ℕ) (last : Bool) : Type 0 where
+  -- 512 rules, 201 places
+  pub few : mostRounds g r ≤ 102912
   pub enough : mostRounds g r ≤ k → (M' ≡ M) × (last ≡ true)
   pub goes-on : k < mostRounds g r → After g r k M → last ≡ false → After g r (suc k) M'
   pub ends : k < mostRounds g r → After g r k M → last ≡ true → Finished g r M'

@@ -71,7 +71,7 @@ fn put_keys(table: &[u32], code: &[u32], size: usize, keys: &mut [u32])
 }
 
 // For each rule the first dots of its alternatives that can be finished.
-fn list_firsts(table: &[u32], code: &[u32], size: usize, firsts: &mut [u32])
+pub fn list_firsts(table: &[u32], code: &[u32], size: usize, firsts: &mut [u32])
     requires { ⌜ Tokened (now table) (now code) size × (2 * size ≤ length (now firsts)) × ((x : ℕ) → getD (now firsts) x 0 ≡ 0) ⌝ }
     ensures { λ _. ⌜ Firsts (now (table .entry)) (now (code .entry)) size (now (firsts .exit)) ⌝ }
 {
@@ -107,7 +107,7 @@ fn common(table: &[u32], at: usize, count: usize, text: &[u32], i: usize) -> usi
 }
 
 // How many characters of the literal after the dot p the record has from i on; 0 where no literal stands there.
-fn begun(table: &[u32], code: &[u32], size: usize, text: &[u32], p: usize, i: usize) -> usize
+pub fn begun(table: &[u32], code: &[u32], size: usize, text: &[u32], p: usize, i: usize) -> usize
     requires { ⌜ Ranging (now table) (now code) (now text) size i × (p < size) ⌝ }
     ensures { λ r. ⌜ Begun (now (table .entry)) (now (code .entry)) (now (text .entry)) p i r × (i + r ≤ length (now (text .entry))) ⌝ }
 {

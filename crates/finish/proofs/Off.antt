@@ -39,7 +39,7 @@ use Rattle.fault.specs.Far.{Placing, Placed}
 use Rattle.fault.proofs.Found as search
 use Rattle.fault.proofs.Found.{Searched, found-fault}
 use Rattle.parser.specs.Chosen.{Fault}
-use Rattle.parser.proofs.Plain.{Roomy, finished-plain}
+use Rattle.plain_reading.proofs.Plain.{Roomy, finished-plain}
 use Rattle.parser.proofs.Located.{Located, tables-for, tokened-for, placing}
 use Rattle.finish.specs.Ended.{Settled}
 

@@ -4,7 +4,7 @@ ghost use lib.ListN.{length};
 ghost use Rattle.tree.specs.Tree.{Grammar};
 ghost use Rattle.chart.specs.Code.{Ruled};
 ghost use Rattle.rules.specs.Ready.{Ready, Token};
-ghost use Rattle.parser.specs.Choose.{Choosable};
+ghost use Rattle.chooser.specs.Choose.{Choosable};
 ghost use Rattle.parser.specs.Chosen.{Chooses};
 ghost use Rattle.finish.specs.Ended.{Settled, Ends};
 use parser::Chosen;
@@ -13,9 +13,6 @@ use reading::Rule;
 use reading::Walked;
 use text::CharPlace;
 
-// The stack of the walk: three numbers for each of a reading's.
-const STACK_LENGTH: usize = 3 * text::limits::READING_NUMBERS;
-
 // The rules of a code: how many dots they have, the name of the root's rule and its first dot.
 pub struct Rules {
     pub size: usize,
@@ -23,7 +20,7 @@ pub struct Rules {
     pub first: usize,
 }
 
-// The chosen reading, or the place of the fault, by a table that is a fixed point. Local are 366,080 bytes.
+// The chosen reading, or the place of the fault, by a table that is a fixed point. Local are 316,928 bytes.
 fn read_off(
     table: &[u32],
     text: &[u32],
@@ -43,7 +40,6 @@ fn read_off(
     full::mark_all(code, fits, size, n, &mut marks);
     let mut notes = [0u32; sparse::NOTES];
     empties::note_rules(code, &mut notes, size);
-    let mut stack = [0u32; STACK_LENGTH];
     let rule = Rule {
         name: rules.top,
         first: rules.first,
@@ -53,7 +49,7 @@ fn read_off(
         n: CharPlace(n),
         rule,
     };
-    let walked = reading::walk(code, &marks, &notes, main, root, parse, &mut stack);
+    let walked = chooser::walk(code, &marks, &notes, main, root, parse);
     let Walked::NoReading = walked else {
         return parser::of_walked(walked);
     };

@@ -24,7 +24,7 @@ use Rattle.derive.specs.Another.{ambiguousOf}
 use Rattle.derive.proofs.Choose.{lacks-none, chosen-found}
 use Rattle.derive.proofs.Ambiguous.{ambiguous-second}
 use Rattle.chart.specs.Heights.{stretches}
-use Rattle.parser.specs.Choose.{Choosable}
+use Rattle.chooser.specs.Choose.{Choosable}
 use Rattle.answer.specs.Answer.{Job, tableNeed}
 use Rattle.answer.specs.Compute.{Test, recordTests, faultIn}
 use Rattle.answer.proofs.Stages.{stage-16, stage-29, stage-read}

@@ -3,11 +3,10 @@ use mathlib.Core.Bool.{Bool, true, false, _||_}
 use mathlib.Core.Path.{_≡_, refl, sym, ap, _∙_, subst}
 use mathlib.Core.Logic.{inl, inr, ⊎-elim}
 use mathlib.Core.List.{List, [], _∷_}
-use Prim.Native.Nat.{ℕ, _≤_, _<_}
+use Prim.Native.Nat.{ℕ}
 use native.Mathlib.Omega.{arith}
 use lib.Dec.{ltb, eqb}
-use lib.ListN.{length}
-use Rattle.text.specs.Limits.{grammarTable, recordChars}
+use Rattle.text.specs.Limits.{grammarTable}
 use Rattle.text.specs.Stages.{diagnosticOf, plainly}
 use Rattle.text.specs.Utf8.{known}
 use Rattle.text.specs.Decode.{breakOf}
@@ -29,7 +28,7 @@ use Rattle.job.specs.declared.Taken.the-variants.{Chars, Refused}
 use Rattle.job.specs.declared.Start.{Start}
 use Rattle.job.specs.declared.Begun.{Begun}
 use Rattle.job.specs.declared.Begun.the-variants.{At, Refused as Ended}
-use Rattle.job.specs.Stages.{takenOf, begunOf, Takes, Opened, lending, NotBegun, Opens, BeginsBy}
+use Rattle.job.specs.Stages.{takenOf, Takes, Opened, lending, lendingOf, needOf, Small, NotBegun, Opens, BeginsBy}
 
 -- the place of a value depends on those after it no more than they differ
 value-cong : (v : Value) (vs ws : List Value) (n : ℕ) → valueAt vs n ≡ valueAt ws n → valueAt (v ∷ vs) n ≡ valueAt (v ∷ ws) n
@@ -87,37 +86,35 @@ module _ (gs rs T new : List ℕ) where
     pub opens-at : (x : Taken) (n : CharPlace) → x ≡ Chars n → Takes rs new x → Opens gs rs T new (At (record { rules = p; chars = n }))
     opens-at x n e t = record { grammar = subst (Accepts gs T) q l; input = subst (Takes rs new) e t }
 
--- 15
-module _ (need : Need) (j : Job) (T new : List ℕ) (b : Begun) (o : Opens (j .grammar) (j .input) T new b) where
-  pub begins-ended : (k n : Diagnostic) → b ≡ Ended k → n ≡ diagnosticOf (begunOf b) → BeginsBy need j T new (Ended n)
-  begins-ended k n q e =
-      let h : n ≡ k = e ∙ ap (λ (x : Begun). diagnosticOf (begunOf x)) q in
-      let s = subst (Opens (j .grammar) (j .input) T new) q o in
-      rw h (s need j refl refl)
+-- sizes that the need is computed from
+pub small : (gs rs T new : List ℕ) (b : Begun) → Opens gs rs T new b → Small b
+small gs rs T new (Ended d) o = tt
+small gs rs T new (At s) o = (omega (arith, o .grammar .sized, o .grammar .small), omega (arith, o .input .count, o .input .short))
 
-  module _ (s : Start) (q : b ≡ At s) where
-    pub opened : Opened (j .grammar) (j .input) T new s
-    opened = subst (Opens (j .grammar) (j .input) T new) q o
+-- 15, where k is what the first table needs
+module _ (need : Need) (j : Job) (T new : List ℕ) (k : ℕ) where
+  abbrev short : Bool
+  short = ltb (j .mainTable) k || ltb (j .secondTable) grammarTable
 
-    pub small : s .rules .size ≤ 512
-    small = omega (arith, opened .grammar .sized, opened .grammar .small)
+  lent-at : (s : Start) (o : Opened (j .grammar) (j .input) T new s) → k ≡ need (o .grammar .tree) (o .input .chars) → BeginsBy need j T new (lending s short)
+  lent-at s o f = go short (ap (λ (n : ℕ). ltb (j .mainTable) n || ltb (j .secondTable) grammarTable) (sym f))
+    where
+      go : (c : Bool) → (ltb (j .mainTable) (need (o .grammar .tree) (o .input .chars)) || ltb (j .secondTable) grammarTable) ≡ c → BeginsBy need j T new (lending s c)
+      go true w = record {
+        some = λ e. omega arith;
+        early = inl (omega arith);
+        places = refl;
+        is = λ ts. o .grammar .first (needTests need j ts) ∙ stage-15 need j ts (o .input .chars) (o .input .decoded) (o .input .within) (o .input .short)
+            (o .grammar .tree) (o .grammar .is) w;
+      }
+      go false w = record { grammar = o .grammar; input = o .input; enough = w }
 
-    pub few : s .chars .0 ≤ recordChars
-    few = omega (arith, opened .input .count, opened .input .short)
+  pub begins-lent : (b : Begun) → Opens (j .grammar) (j .input) T new b
+      → ((s : Start) (o : Opened (j .grammar) (j .input) T new s) → b ≡ At s → k ≡ need (o .grammar .tree) (o .input .chars))
+      → (r : Begun) → r ≡ lendingOf b short → BeginsBy need j T new r
+  begins-lent (Ended d) o f r e = rw e (o need j refl refl)
+  begins-lent (At s) o f r e = rw e (lent-at s o (f s o refl))
 
-    pub begins-lent : (k : ℕ) → k ≡ need (opened .grammar .tree) (opened .input .chars) → (r : Begun) → r ≡ lending s (ltb (j .mainTable) k || ltb (j .secondTable) grammarTable)
-        → BeginsBy need j T new r
-    begins-lent k f r e = rw e (go (ltb (j .mainTable) k || ltb (j .secondTable) grammarTable) (ap (λ (n : ℕ). ltb (j .mainTable) n || ltb (j .secondTable) grammarTable) (sym f)))
-      where
-        go : (c : Bool) → (ltb (j .mainTable) (need (opened .grammar .tree) (opened .input .chars)) || ltb (j .secondTable) grammarTable) ≡ c → BeginsBy need j T new (lending s c)
-        go true w = record {
-          some = λ e. omega arith;
-          early = inl (omega arith);
-          places = refl;
-          is = λ ts. opened .grammar .first (needTests need j ts) ∙ stage-15 need j ts (opened .input .chars) (opened .input .decoded) (opened .input .within) (opened .input .short)
-              (opened .grammar .tree) (opened .grammar .is) w;
-        }
-        go false w = record { grammar = opened .grammar; input = opened .input; enough = w }
-
-pub need-is : {gs rs T new : List ℕ} {s : Start} (o : Opened gs rs T new s) (k : ℕ) → k ≡ tableNeed (s .rules .size) (s .chars .0) → k ≡ mainNeed (o .grammar .tree) (o .input .chars)
-need-is {s = s} o k f = f ∙ ap (λ (n : ℕ). tableNeed n (s .chars .0)) (o .grammar .sized) ∙ ap (tableNeed (size (o .grammar .tree))) (o .input .count)
+pub need-is : {gs rs T new : List ℕ} (b : Begun) (k : ℕ) → k ≡ needOf b → (s : Start) (o : Opened gs rs T new s) → b ≡ At s → k ≡ mainNeed (o .grammar .tree) (o .input .chars)
+need-is b k f s o e =
+    f ∙ ap needOf e ∙ ap (λ (n : ℕ). tableNeed n (s .chars .0)) (o .grammar .sized) ∙ ap (tableNeed (size (o .grammar .tree))) (o .input .count)

@@ -6,13 +6,13 @@ use mathlib.Core.List.{List}
 use Prim.Native.Nat.{ℕ, _≤_}
 use lib.Dec.{ltb}
 use lib.ListN.{length, take}
-use Rattle.text.specs.Limits.{recordChars, grammarTable}
+use Rattle.text.specs.Limits.{mostSize, recordChars, grammarTable}
 use Rattle.text.specs.Lists.{Text, all, pick}
 use Rattle.text.specs.Stages.{StageAnswer, answered, refused, Settles, plainly}
 use Rattle.text.specs.declared.Diagnostic.{Diagnostic}
 use Rattle.text.specs.Utf8.{known}
 use Rattle.text.specs.Decode.{text, decode}
-use Rattle.answer.specs.Answer.{Job, Need, mainNeed}
+use Rattle.answer.specs.Answer.{Job, Need, mainNeed, tableNeed}
 use Rattle.answer.specs.Compute.{Test, firstOf, grammarTests, needTests, placesAt, jobValues}
 use Rattle.load.specs.Loaded.{placesOf}
 use Rattle.accept.specs.Accepted.{Kept}
@@ -68,6 +68,19 @@ begunOf (Ended d) = refused d
 -- 15, by a test
 abbrev pub lending : Start → Bool → Begun
 lending s b = pick b (Ended (plainly 15)) (At s)
+
+abbrev pub lendingOf : Begun → Bool → Begun
+lendingOf (At s) b = lending s b
+lendingOf (Ended d) b = Ended d
+
+-- the numbers that the main table needs, of a job that is opened
+abbrev pub needOf : Begun → ℕ
+needOf (At s) = tableNeed (s .rules .size) (s .chars .0)
+needOf (Ended d) = 0
+
+abbrev pub Small : Begun → Type 0
+Small (At s) = (s .rules .size ≤ mostSize) × (s .chars .0 ≤ recordChars)
+Small (Ended d) = Unit
 
 abbrev pub NotBegun : Need → Job → Diagnostic → Type 0
 NotBegun need j = Stopped (λ ts. firstOf (grammarTests (j .grammar) (needTests need j ts))) j

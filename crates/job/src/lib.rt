@@ -8,7 +8,7 @@ ghost use Rattle.text.specs.Limits.{grammarTable, recordChars, mostSize};
 ghost use Rattle.answer.specs.Answer.{Job, tableNeed};
 ghost use Rattle.answer.specs.Answer.{job};
 ghost use Rattle.text.specs.Stages.{diagnosticOf};
-ghost use Rattle.job.specs.Stages.{takenOf, begunOf, Takes, Started, Opens, lending, Begins, BeginsBy};
+ghost use Rattle.job.specs.Stages.{takenOf, begunOf, Takes, Started, Opens, Small, needOf, lendingOf, Begins, BeginsBy};
 ghost use Rattle.job.specs.Found.{whyNot, foundOf, Readable, Ends};
 ghost use Rattle.job.specs.Parses.{whyRefused, Lent, Parses};
 use accept::Accepted;
@@ -91,10 +91,26 @@ pub fn open_job(grammar: &[u8], record: &[u8], table: &mut [u32], text: &mut [u3
     Begun::At(Start { rules, chars })
 }
 
-// 15: the first table is shorter than its need, or the second too short.
-pub fn lend(start: Start, first: usize, need: usize, second: usize) -> Begun
-    ensures { λ r. ⌜ r ≡ lending start (ltb first need || ltb second grammarTable) ⌝ }
+// The same of a job that is opened.
+pub fn need_of(opened: Begun) -> usize
+    requires { ⌜ Small opened ⌝ }
+    ensures { λ r. ⌜ r ≡ needOf opened ⌝ }
 {
+    let Begun::At(start) = opened else {
+        return 0;
+    };
+    let rules = start.rules;
+    let chars = start.chars;
+    need(rules.size, chars.0)
+}
+
+// 15: the first table is shorter than its need, or the second too short. A refusal stays.
+pub fn lend(opened: Begun, first: usize, need: usize, second: usize) -> Begun
+    ensures { λ r. ⌜ r ≡ lendingOf opened (ltb first need || ltb second grammarTable) ⌝ }
+{
+    let Begun::At(start) = opened else {
+        return opened;
+    };
     if first < need {
         return Begun::Refused(text::plain(refusals::TABLE_TOO_SHORT));
     }
@@ -117,13 +133,8 @@ pub fn begin(
     ensures { λ r. ⌜ Begins (job (now (grammar .entry)) (now («record» .entry)) main second) (now (table .exit)) (now (text .exit)) r ⌝ }
 {
     let opened = open_job(grammar, record, table, text);
-    let Begun::At(start) = opened else {
-        return Begun::Refused(why_begun(opened));
-    };
-    let rules = start.rules;
-    let chars = start.chars;
-    let need = need(rules.size, chars.0);
-    lend(start, main, need, second)
+    let need = need_of(opened);
+    lend(opened, main, need, second)
 }
 
 // The same of a job whose list of so many numbers is judged: the first table is the scratch.
@@ -141,10 +152,7 @@ pub fn begin_list(
     ensures { λ r. ⌜ BeginsBy (λ g r. 2 * numbers) (job (now (grammar .entry)) (now («record» .entry)) scratch second) (now (table .exit)) (now (text .exit)) r ⌝ }
 {
     let opened = open_job(grammar, record, table, text);
-    let Begun::At(start) = opened else {
-        return Begun::Refused(why_begun(opened));
-    };
-    lend(start, scratch, 2 * numbers, second)
+    lend(opened, scratch, 2 * numbers, second)
 }
 
 // The chosen reading: how many numbers it has, and whether there is a second derivation.

@@ -63,38 +63,49 @@ fn pass(table: &[u32], item: usize) -> usize
     p
 }
 
-// The first item of an alternative, by its number, of the rule whose first item is `first`.
-pub fn alternative(table: &[u32], first: usize, number: usize) -> usize
-    ensures { λ r. ⌜ Found (now (table .entry)) first number r ⌝ }
+// An alternative of a rule: its first item, and whether there is one of that number.
+struct Sought {
+    item: usize,
+    there: bool,
+}
+
+// The alternative of that number of the rule whose first item is `first`.
+fn find_alternative(table: &[u32], first: usize, number: usize) -> Sought
+    ensures { λ r. ⌜ Found (now (table .entry)) first number (r .item) × Counted (now (table .entry)) first number (r .there) ⌝ }
 {
     let mut x = first;
     let mut a = number;
     while a > 0 {
         let e = pass(table, x);
         if items::kind_at(table, e) != ALTERNATIVE_END {
-            return e;
+            return Sought {
+                item: e,
+                there: false,
+            };
         }
         x = e + 1;
         a -= 1;
     }
-    x
+    Sought {
+        item: x,
+        there: true,
+    }
+}
+
+// The first item of an alternative, by its number, of the rule whose first item is `first`.
+pub fn alternative(table: &[u32], first: usize, number: usize) -> usize
+    ensures { λ r. ⌜ Found (now (table .entry)) first number r ⌝ }
+{
+    let found = find_alternative(table, first, number);
+    found.item
 }
 
 // Whether the rule whose first item is `first` has an alternative of that number.
 pub fn has_alternative(table: &[u32], first: usize, number: usize) -> bool
     ensures { λ r. ⌜ Counted (now (table .entry)) first number r ⌝ }
 {
-    let mut x = first;
-    let mut a = number;
-    while a > 0 {
-        let e = pass(table, x);
-        if items::kind_at(table, e) != ALTERNATIVE_END {
-            return false;
-        }
-        x = e + 1;
-        a -= 1;
-    }
-    true
+    let found = find_alternative(table, first, number);
+    found.there
 }
 
 // Into a node: its two numbers are the number that was open before it and its item, until it is left.

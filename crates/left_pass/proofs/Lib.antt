@@ -1,3 +1,4 @@
 pub mod Steps
+pub mod Drains
 pub mod Shifts
 pub mod Places

@@ -89,32 +89,30 @@ counts (rule-head m n) = by-mark (λ k. spotCount (20 + k) ≡ 1) refl refl refl
 counts rule-end = refl
 counts (version-is cs) = refl
 
--- 1. Names and heads.
+-- 1. Names, heads and classes.
+plain-same : {ps : List Part} {p : had.Part} → Fits ps p
+    → (concatMap usedAt ps ≡ usedIn p) × (concatMap headsAt ps ≡ headsIn p) × (classless p ≡ any noClass (concatMap membersAt ps))
+unfolding noClass
+plain-same fits-none = (refl, refl, refl)
+plain-same fits-other = (refl, refl, refl)
+plain-same fits-prolog = (refl, refl, refl)
+plain-same (fits-used n) = (refl, refl, refl)
+plain-same (fits-headed n) = (refl, refl, refl)
+plain-same (fits-quoted cs) = (refl, refl, refl)
+plain-same (fits-coded n) = (refl, refl, refl)
+plain-same (fits-member cs) = (refl, refl, refl)
+plain-same (fits-member-coded n) = (refl, refl, refl)
+plain-same (fits-range a b) = (refl, refl, refl)
+plain-same (fits-class k) = (refl, refl, sym (or-false (not (isClass k))))
+
 pub used-same : {ps : List Part} {p : had.Part} → Fits ps p → concatMap usedAt ps ≡ usedIn p
-used-same fits-none = refl
-used-same fits-other = refl
-used-same fits-prolog = refl
-used-same (fits-used n) = refl
-used-same (fits-headed n) = refl
-used-same (fits-quoted cs) = refl
-used-same (fits-coded n) = refl
-used-same (fits-member cs) = refl
-used-same (fits-member-coded n) = refl
-used-same (fits-range a b) = refl
-used-same (fits-class k) = refl
+used-same f = plain-same f .0
 
 pub heads-same : {ps : List Part} {p : had.Part} → Fits ps p → concatMap headsAt ps ≡ headsIn p
-heads-same fits-none = refl
-heads-same fits-other = refl
-heads-same fits-prolog = refl
-heads-same (fits-used n) = refl
-heads-same (fits-headed n) = refl
-heads-same (fits-quoted cs) = refl
-heads-same (fits-coded n) = refl
-heads-same (fits-member cs) = refl
-heads-same (fits-member-coded n) = refl
-heads-same (fits-range a b) = refl
-heads-same (fits-class k) = refl
+heads-same f = plain-same f .1
+
+pub class-same : {ps : List Part} {p : had.Part} → Fits ps p → classless p ≡ any noClass (concatMap membersAt ps)
+class-same f = plain-same f .2
 
 -- 2. Hex numbers, which stand capped.
 abbrev pub cap : ℕ → List ℕ
@@ -185,17 +183,3 @@ back-same (fits-range a b) e =
     let v = sym (ap (any (ltb 0x10ffff)) (append-nil (hexIn b))) ∙ or-r (any (ltb 0x10ffff) (hexIn a)) _ f in
     rw (end-same a u, end-same b v) (sym (or-false (ltb (codeOf b) (codeOf a))))
 back-same (fits-class k) e = refl
-
-pub class-same : {ps : List Part} {p : had.Part} → Fits ps p → classless p ≡ any noClass (concatMap membersAt ps)
-unfolding noClass
-class-same fits-none = refl
-class-same fits-other = refl
-class-same fits-prolog = refl
-class-same (fits-used n) = refl
-class-same (fits-headed n) = refl
-class-same (fits-quoted cs) = refl
-class-same (fits-coded n) = refl
-class-same (fits-member cs) = refl
-class-same (fits-member-coded n) = refl
-class-same (fits-range a b) = refl
-class-same (fits-class k) = sym (or-false (not (isClass k)))

@@ -1,3 +1,1 @@
-pub mod Finished
-pub mod Plain
 pub mod Located

@@ -33,9 +33,37 @@ use Rattle.fault.specs.Far.{Placing, Placed}
 use Rattle.fault.specs.Wants.{WantedAll}
 use Rattle.fault.proofs.WantLaws.{wanting-le, wanting-back, wanting-same}
 use Rattle.fault.proofs.Found.{flagged, Searched, found-fault}
-use Rattle.parser.specs.Choose.{Choosable, Locatable}
+use Rattle.chooser.specs.Choose.{Choosable}
+use Rattle.parser.specs.Choose.{Locatable}
+use Rattle.confirm.specs.Find.{Confirming, Confirmed}
+use Rattle.confirm.proofs.Found.{flows-of, confirmed-fault}
 use Rattle.parser.specs.declared.Chosen.{Chosen}
 use Rattle.parser.specs.Chosen.{Fault, chosenOf, Fails, Chooses}
+
+-- what the sets are given, and what they say
+module _ {Tb c M : List ℕ} {R : Text} {size root top first main : ℕ} {r : Bool} {g : Grammar} (a : Locatable Tb size root R main) (k : Ruled (Token Tb) c g size top first)
+    (l : length c ≡ 2048) (f : Lefted Tb c R size top M r) where
+  code-tokened : Tokened Tb c size
+  code-tokened =
+      let room : 4 * size ≤ length c = omega (arith, a .small, l) in
+      let v = given-of k {R = R} {M = M} (a .long) (a .small) room (a .short) (f .long) in
+      record { long = a .long; shape = shape-of k (a .small) room; here = v .here; is = v .token }
+
+  pub confirming : {F : List ℕ} → Noted c size F → Confirming Tb R c M F size (length R) top main
+  confirming n = record {
+    tokened = code-tokened;
+    flows = flows-of k (code-tokened .shape) (f .closed) (f .only);
+    long = refl;
+    short = a .short;
+    marks-long = f .long;
+    notes-long = n .long;
+    room = a .room;
+    root = f .closed .root;
+    inside = k .root-inside;
+  }
+
+  pub at-once : {p : ℕ} → Confirmed Tb R c M size top p → Fault g R p
+  at-once w prod held = confirmed-fault k (code-tokened .shape) (f .closed) (f .only) code-tokened (a .short) prod held w
 
 -- wanting ends leaves what is flagged from the left as it was
 module _ (Tb c : List ℕ) (R : Text) (size top : ℕ) {M M' : List ℕ} (small : size ≤ mostSize) (w : WantedAll M M' size (length R + 1)) where

@@ -5,84 +5,11 @@ ghost use Rattle.tree.specs.Tree.{Grammar};
 ghost use Rattle.rules.specs.Ready.{Ready};
 ghost use Rattle.reading.specs.Answer.{Answers};
 ghost use mathlib.Core.Path.{_≡_};
-ghost use Rattle.parser.specs.Choose.{Choosable, Locatable};
+ghost use Rattle.chooser.specs.Choose.{Choosable};
+ghost use Rattle.parser.specs.Choose.{Locatable};
 ghost use Rattle.parser.specs.Chosen.{Fault, chosenOf, Chooses};
-use reading::Root;
-use reading::Rule;
 use reading::Walked;
 use text::CharPlace;
-
-// The stack of the walk: three numbers for each of a reading's.
-const STACK_LENGTH: usize = 3 * text::limits::READING_NUMBERS;
-
-// The left parse goes to `parse`. What one stage leaves for the next, but for the main table, is local: 374,272 bytes.
-fn choose(
-    table: &[u32],
-    size: usize,
-    root: usize,
-    text: &[u32],
-    main: &mut [u32],
-    parse: &mut [u32],
-) -> Walked
-    requires { ⌜ Choosable (now table) size root (now text) (length (now main)) (length (now parse)) ⌝ }
-    ensures { λ r. ⌜ ((g : Grammar) → Ready (now (table .entry)) g size root → Answers g (now (text .entry)) (now (parse .exit)) r) ⌝ }
-{
-    let mut code = [0u32; chart::CODE_LENGTH];
-    let mut marks = [0u8; sparse::MARKS];
-    let top = rules::code_rules(table, size, root, &mut code);
-    if !left_pass::left(table, text, &code, &mut marks, size, top) {
-        return Walked::NoReading;
-    }
-    right_pass::right(table, text, &code, &mut marks, size, top);
-    let mut notes = [0u32; sparse::NOTES];
-    empties::note_rules(&code, &mut notes, size);
-    let n = CharPlace(text.len());
-    quick::fill(&code, &marks, &notes, size, n, main);
-    let mut stack = [0u32; STACK_LENGTH];
-    let root = Root {
-        size: size,
-        n: n,
-        rule: Rule {
-            name: top,
-            first: root,
-        },
-    };
-    reading::walk(&code, &marks, &notes, main, root, parse, &mut stack)
-}
-
-// The same by the plain engine: the whole main table is filled, one height after the other, and every flag is set. Local are 477,184 bytes.
-fn choose_plain(
-    table: &[u32],
-    size: usize,
-    root: usize,
-    text: &[u32],
-    main: &mut [u32],
-    parse: &mut [u32],
-) -> Walked
-    requires { ⌜ Choosable (now table) size root (now text) (length (now main)) (length (now parse)) ⌝ }
-    ensures { λ r. ⌜ ((g : Grammar) → Ready (now (table .entry)) g size root → Answers g (now (text .entry)) (now (parse .exit)) r) ⌝ }
-{
-    let mut code = [0u32; chart::CODE_LENGTH];
-    let mut fits = [0u8; chart::FITS_LENGTH];
-    let top = prepare::prepare(table, size, root, text, &mut code, &mut fits);
-    let n = text.len();
-    sweeps::fill(&code, &fits, size, n, main);
-    let mut marks = [0u8; sparse::MARKS];
-    full::mark_all(&code, &fits, size, n, &mut marks);
-    let mut notes = [0u32; sparse::NOTES];
-    empties::note_rules(&code, &mut notes, size);
-    let mut stack = [0u32; STACK_LENGTH];
-    let rule = Rule {
-        name: top,
-        first: root,
-    };
-    let root = Root {
-        size,
-        n: CharPlace(n),
-        rule,
-    };
-    reading::walk(&code, &marks, &notes, main, root, parse, &mut stack)
-}
 
 // By the engine that is asked for.
 fn walk_by(
@@ -98,13 +25,14 @@ fn walk_by(
     ensures { λ r. ⌜ ((g : Grammar) → Ready (now (table .entry)) g size root → Answers g (now (text .entry)) (now (parse .exit)) r) ⌝ }
 {
     if plain {
-        return choose_plain(table, size, root, text, main, parse);
+        return plain_reading::read(table, size, root, text, main, parse);
     }
-    choose(table, size, root, text, main, parse)
+    quick_reading::read(table, size, root, text, main, parse)
 }
 
-// The place of the fault in a record that has no reading: the pass from the left, a table filled with every end wanted that it flags, and
-// the search over it. Local are 325,120 bytes.
+// The place of the fault in a record that has no reading: the pass from the left, and the sets of places where dots surely stand. Where
+// these do not reach as far as the pass lets them, a table filled with every end wanted that it flags, and the search over it. Local are
+// 325,120 bytes.
 fn locate(table: &[u32], size: usize, root: usize, text: &[u32], main: &mut [u32]) -> CharPlace
     requires { ⌜ Locatable (now table) size root (now text) (length (now main)) ⌝ }
     ensures { λ r. ⌜ ((g : Grammar) → Ready (now (table .entry)) g size root → Fault g (now (text .entry)) (r .0)) ⌝ }
@@ -113,16 +41,20 @@ fn locate(table: &[u32], size: usize, root: usize, text: &[u32], main: &mut [u32
     let mut marks = [0u8; sparse::MARKS];
     let top = rules::code_rules(table, size, root, &mut code);
     left_pass::left(table, text, &code, &mut marks, size, top);
-    let n = CharPlace(text.len());
-    fault::want_all(&mut marks, size, n);
     let mut notes = [0u32; sparse::NOTES];
     empties::note_rules(&code, &mut notes, size);
-    quick::fill(&code, &marks, &notes, size, n, main);
+    let n = CharPlace(text.len());
     let start = fault::Root {
         size: size,
         n: n,
         rule: top,
     };
+    let found = confirm::find(table, text, &code, &marks, &notes, main, start);
+    if found.0 <= n.0 {
+        return found;
+    }
+    fault::want_all(&mut marks, size, n);
+    quick::fill(&code, &marks, &notes, size, n, main);
     fault::place(table, text, &code, &marks, &notes, main, start)
 }
 

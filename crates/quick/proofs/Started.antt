@@ -5,7 +5,7 @@ use native.Mathlib.Omega.{arith}
 use lib.ListN.{replicate, length-replicate}
 use Rattle.chart.proofs.Users.{all-zero}
 use Rattle.reach.proofs.Queue.{count-most}
-use Rattle.settle.specs.Queue.{countOf, Queued}
+use Rattle.queue.specs.Queue.{countOf, Queued}
 
 pub no-count : countOf (replicate 1026 0) ≡ 0
 no-count = all-zero 1026 1025

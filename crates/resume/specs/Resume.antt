@@ -6,6 +6,7 @@ use mathlib.Core.List.{List, [], _∷_}
 use Prim.Native.Nat.{ℕ, _+_, _<_}
 use Rattle.text.specs.Limits.{grammarTable}
 use Rattle.text.specs.Stages.{plainly}
+use Rattle.text.specs.declared.Diagnostic.{Diagnostic}
 use Rattle.answer.specs.Answer.{Line, line, Topmost, Job, job, ofJob, mainNeed, grammarLines, inputLines, Notes, jobNotes, Answers}
 use Rattle.answer.specs.Answer as defined
 use Rattle.chart.specs.Code.{flag}
@@ -14,6 +15,10 @@ use Rattle.advance.specs.Round.{Rounded}
 use Rattle.state.specs.State.{roundsOf, FinishedBy, Keeps, Counted, Blank}
 use Rattle.outcome.specs.Outcome.{shown, refusalOf}
 use Rattle.resume.specs.declared.Progress.{Progress}
+
+-- a refusal, with a count of rounds
+abbrev pub refusing : Diagnostic → ℕ → Progress
+refusing d k = record { answer = refusalOf (record { why = d; mismatch = false }); rounds = k }
 
 -- no result
 abbrev Nothing : List ℕ → Bool → Type 0
@@ -69,8 +74,8 @@ pub record RoundedAs (j : Job) (M S : List ℕ) (a : Progress) (M' S' : List ℕ
 -- The end of a read, by what the uncut call answers. 27 too for a table that no finished read of this grammar and record has: whoever filled
 -- it, no wrong reading is given.
 pub data EndedAs (Uncut : Job → List ℕ → defined.Answer → List ℕ → Type 0) (j : Job) (M S old : List ℕ) (a : Progress) (new : List ℕ) : Type 0 where
-  early : (n k : ℕ) → Topmost (laterLines j S (line 26 (FinishedBy S → ⊥) ∷ [])) n → (n ≡ 0 → ⊥) → a ≡ record { answer = refusalOf (record { why = plainly n; mismatch = false }); rounds = k }
+  early : (n k : ℕ) → Topmost (laterLines j S (line 26 (FinishedBy S → ⊥) ∷ [])) n → (n ≡ 0 → ⊥) → a ≡ refusing (plainly n) k
       → (n ≡ 26 → k ≡ roundsOf S) → ((n ≡ 26 → ⊥) → k ≡ 0) → new ≡ old → EndedAs Uncut j M S old a new
   altered : Topmost (laterLines j S (line 26 (FinishedBy S → ⊥) ∷ [])) 0 → ofJob j (λ g r. Finished g r M → ⊥)
-      → a ≡ record { answer = refusalOf (record { why = plainly 27; mismatch = false }); rounds = 0 } → new ≡ old → EndedAs Uncut j M S old a new
+      → a ≡ refusing (plainly 27) 0 → new ≡ old → EndedAs Uncut j M S old a new
   as-uncut : Topmost (laterLines j S (line 26 (FinishedBy S → ⊥) ∷ [])) 0 → Uncut j old (shown (a .answer)) new → a .rounds ≡ roundsOf S → EndedAs Uncut j M S old a new

@@ -4,8 +4,9 @@ use mathlib.Core.Path.{_≡_}
 use mathlib.Core.Logic.{_⊎_}
 use mathlib.Core.List.{List}
 use Prim.Native.Nat.{ℕ, _<_}
-use lib.ListN.{length}
-use Rattle.text.specs.Limits.{grammarTable, recordChars}
+use lib.Dec.{eqb}
+use Rattle.text.specs.Limits.{grammarTable}
+use Rattle.text.specs.Lists.{pick}
 use Rattle.text.specs.Stages.{StageAnswer, answered, refused, Settles, plainly}
 use Rattle.text.specs.declared.Diagnostic.{Diagnostic}
 use Rattle.answer.specs.Answer.{Job, ofJob, mainNeed}
@@ -20,6 +21,8 @@ use Rattle.job.specs.declared.Parse.the-variants.{Chosen as Parse-chosen, Refus
 use Rattle.job.specs.Stages.{begunOf, Started}
 use Rattle.job.specs.Found.{whyNot}
 use Rattle.job.specs.Parses.{Parses}
+use Rattle.outcome.specs.Outcome.{refusalOf}
+use Rattle.resume.specs.declared.Progress.{Progress}
 use Rattle.resume.specs.declared.Finishing.{Finishing}
 use Rattle.resume.specs.declared.Finishing.the-variants.{Parsed, Refused}
 use Rattle.resume.specs.Resume.{Belongs}
@@ -46,6 +49,14 @@ parsedOf (NoReading k) s = Parse-refused (record { why = whyNot (NoReading k); m
 abbrev pub finishingOf : Finishing → StageAnswer Parse ℕ
 finishingOf (Parsed p) = answered p
 finishingOf (Refused n) = refused n
+
+abbrev pub whyNotEnded : Finishing → ℕ
+whyNotEnded (Parsed p) = 0
+whyNotEnded (Refused n) = n
+
+-- the answer to a read that does not end: 26 tells how many rounds were done
+abbrev pub notEndedOf : Finishing → ℕ → Progress
+notEndedOf f k = record { answer = refusalOf (record { why = plainly (whyNotEnded f); mismatch = false }); rounds = pick (eqb (whyNotEnded f) 26) k 0 }
 
 pub record EndedWith (j : Job) (T new S P : List ℕ) (p : Parse) : Type 0 where
   pub finished : FinishedBy S

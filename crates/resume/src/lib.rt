@@ -8,9 +8,8 @@ ghost use Rattle.chart.specs.Code.{flag};
 ghost use Rattle.state.specs.State.{stateLength};
 ghost use Rattle.job.specs.Stages.{Started};
 ghost use Rattle.job.specs.Found.{Readable};
-ghost use Rattle.outcome.specs.Outcome.{refusalOf};
-ghost use Rattle.resume.specs.Resume.{StartedAs, RoundedAs};
-ghost use Rattle.resume.specs.Stages.{Resumes, parsedOf, EndsWith};
+ghost use Rattle.resume.specs.Resume.{refusing, StartedAs, RoundedAs};
+ghost use Rattle.resume.specs.Stages.{Resumes, parsedOf, whyNotEnded, notEndedOf, EndsWith};
 use finish::Ended;
 use job::Begun;
 use job::LeftParse;
@@ -21,6 +20,7 @@ use outcome::Answer;
 use parser::Chosen;
 use text::Diagnostic;
 use text::limits;
+use text::refusals;
 
 // A read that is not finished yet.
 pub const NOT_YET: u32 = 26;
@@ -36,8 +36,8 @@ pub struct Progress {
 }
 
 // A refusal that carries neither mark.
-fn refuse(why: Diagnostic, rounds: usize) -> Progress
-    ensures { λ r. ⌜ r ≡ record { answer = refusalOf (record { why = why; mismatch = false }); rounds = rounds } ⌝ }
+pub fn refuse(why: Diagnostic, rounds: usize) -> Progress
+    ensures { λ r. ⌜ r ≡ refusing why rounds ⌝ }
 {
     let answer = outcome::refuse(Refusal {
         why,
@@ -90,11 +90,11 @@ pub fn resume(
         return Begun::Refused(text::plain(OTHER_STATE));
     }
     let opened = job::open_job(grammar, record, table, text);
-    let Begun::At(start) = opened else {
+    let Begun::At(_) = opened else {
         return Begun::Refused(text::plain(OTHER_STATE));
     };
-    let need = job::need(start.rules.size, start.chars.0);
-    job::lend(start, main, need, second)
+    let need = job::need_of(opened);
+    job::lend(opened, main, need, second)
 }
 
 // 1 for yes.
@@ -202,4 +202,24 @@ pub fn end_read(
         return Finishing::Refused(OTHER_STATE);
     };
     Finishing::Parsed(parse_of(chosen, start))
+}
+
+fn why_not_ended(finishing: Finishing) -> u32
+    ensures { λ r. ⌜ r ≡ whyNotEnded finishing ⌝ }
+{
+    match finishing {
+        Finishing::Parsed(_) => refusals::ANSWERED,
+        Finishing::Refused(number) => number,
+    }
+}
+
+// The answer to a read that does not end: with 26, how many rounds were done.
+pub fn not_ended(finishing: Finishing, rounds: usize) -> Progress
+    ensures { λ r. ⌜ r ≡ notEndedOf finishing rounds ⌝ }
+{
+    let number = why_not_ended(finishing);
+    if number == NOT_YET {
+        return refuse(text::plain(number), rounds);
+    }
+    refuse(text::plain(number), 0)
 }

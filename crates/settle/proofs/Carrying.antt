@@ -22,7 +22,7 @@ use Rattle.sparse.specs.Steps.{towardOf, OffersAt, Fell, On, overOf}
 use Rattle.sparse.proofs.Rows.{Over, by-terminal as over-t, by-symbol as over-s, over-some, over-other, over-away, last-is, last-not, rule-empty}
 use Rattle.sparse.proofs.Falls.{fell-refl, fell-join}
 use Rattle.sparse.proofs.Toward.{fell-toward}
-use Rattle.settle.specs.Queue.{Pending, countOf, Queued}
+use Rattle.queue.specs.Queue.{Pending, countOf, Queued}
 use Rattle.settle.specs.Settle.{LeftHeld, RightHeld, Pends, Moved, Offered, Put, Carried, AtLeft, LeftCarried}
 use Rattle.settle.proofs.Held.{left-kept, right-kept, pending-kept, rule-end}
 

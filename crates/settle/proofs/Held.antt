@@ -20,8 +20,8 @@ use Rattle.sparse.specs.Steps.{towardOf, Lowered, lowered, kept, Fell, On, over
 use Rattle.sparse.proofs.Rows.{last-is, row-inner, row-first, rest-row}
 use Rattle.sparse.proofs.Falls.{rule-same, rest-same, fell-refl, fell-join, Target, own, rules, fell-set, lowered-cell, other-row}
 use Rattle.sparse.proofs.Toward.{target-of, toward-row, fell-toward}
-use Rattle.settle.specs.Queue.{Pending, countOf, Queued}
-use Rattle.settle.specs.Queue.{Put as Enqueued}
+use Rattle.queue.specs.Queue.{Pending, countOf, Queued}
+use Rattle.queue.specs.Queue.{Put as Enqueued}
 use Rattle.settle.specs.Settle.{LeftHeld, RightHeld, Pends, Moved, Offered, Put}
 
 module _ (c M F : List ℕ) (size n i j : ℕ) where

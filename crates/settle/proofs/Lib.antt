@@ -1,5 +1,4 @@
 pub mod Held
-pub mod Ring
 pub mod Carrying
 pub mod Using
 pub mod Waking

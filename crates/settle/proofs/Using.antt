@@ -22,7 +22,7 @@ use Rattle.sparse.specs.Steps.{towardOf, On, overOf}
 use Rattle.sparse.proofs.Rows.{Over, by-terminal as over-t, by-symbol as over-s, over-some, last-is, rest-away, rest-last, rest-empty, empty-end}
 use Rattle.sparse.proofs.Falls.{fell-refl, fell-join}
 use Rattle.sparse.proofs.Toward.{toward-last}
-use Rattle.settle.specs.Queue.{Pending, Queued}
+use Rattle.queue.specs.Queue.{Pending, Queued}
 use Rattle.settle.specs.Settle.{LeftHeld, RightHeld, Pends, Moved, Offered, Carried, AtLeft, LeftCarried, RightDone, LastDone, Falls, Used, Revisited}
 use Rattle.settle.proofs.Held.{pending-kept, rule-end}
 use Rattle.settle.proofs.Carrying.{pick-most, end-left}

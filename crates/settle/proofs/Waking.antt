@@ -23,8 +23,8 @@ use Rattle.sparse.specs.Steps.{towardOf, Fell, On, overOf, Given, LeastOn, List
 use Rattle.sparse.proofs.Rows.{last-is, rule-none, rule-empty, rest-end, rest-empty, over-terminal, over-symbol}
 use Rattle.sparse.proofs.Falls.{fell-refl, fell-join}
 use Rattle.sparse.proofs.Toward.{fell-toward, fell-rule, fell-rest}
-use Rattle.settle.specs.Queue.{Pending, countOf, Waits, Queued, Taken}
-use Rattle.settle.specs.Queue.{Put as Enqueued}
+use Rattle.queue.specs.Queue.{Pending, countOf, Waits, Queued, Taken}
+use Rattle.queue.specs.Queue.{Put as Enqueued}
 use Rattle.settle.specs.Settle.{LeftHeld, RightHeld, Pends, Moved, AtLeft, LeftCarried, RightDone, LastDone, Falls, Revisited, Woken, AllWoken, Settled}
 use Rattle.settle.proofs.Held.{rule-end}
 use Rattle.settle.proofs.Carrying.{pick-most, end-left}

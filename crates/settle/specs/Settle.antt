@@ -12,7 +12,7 @@ use Rattle.heights.specs.Filling.{total, Only}
 use Rattle.reach.specs.Flags.{Wanted, homeOf}
 use Rattle.sparse.specs.Cells.{isLast, emptyRest, ruleOf, restOf, Tables}
 use Rattle.sparse.specs.Steps.{towardOf, OffersAt, Fell, On, overOf, Given, LeastOn, Listed}
-use Rattle.settle.specs.Queue.{Pending, countOf, Queued}
+use Rattle.queue.specs.Queue.{Pending, countOf, Queued}
 
 module _ (c M F : List ℕ) (size n i j : ℕ) where
   -- the dot q is not above what it has from the dot after it, where its symbol takes nothing

@@ -1,25 +1,22 @@
 // Settles a stretch: its rows take the least heights that follow from each other. What a dot gets, the dot before it gets too where its
 // symbol takes nothing, up to the rule; a rule that is lowered is put into a queue, and its uses are looked at when its turn comes.
-mod queue;
-
 ghost use mathlib.Core.Path.{_≡_};
 ghost use Prim.Native.Nat.{_<_};
 ghost use lib.ListN.{length};
 ghost use Rattle.chart.specs.Code.{nextKind};
 ghost use Rattle.reach.specs.Flags.{Wanted, homeOf};
 ghost use Rattle.sparse.specs.Steps.{Listed};
-ghost use Rattle.settle.specs.Queue.{countOf};
+ghost use Rattle.queue.specs.Queue.{countOf};
 ghost use Rattle.settle.specs.Settle.{Ready, Offered, Put, Carried, AtLeft, LeftCarried, Used, Revisited, Woken, AllWoken, Settled};
-use crate::queue::COUNT;
-use crate::queue::dequeue;
-use crate::queue::enqueue;
 use chart::AT_END;
 use chart::CODE_COLUMNS;
 use chart::CODE_GOES;
 use chart::CODE_OWNER;
 use chart::CODE_RULE;
 use chart::NONE;
-pub use queue::QUEUE;
+use queue::COUNT;
+use queue::dequeue;
+use queue::enqueue;
 use sparse::HOMES;
 use sparse::LISTED;
 use sparse::Offer;

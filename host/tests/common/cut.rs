@@ -137,10 +137,7 @@ pub fn lent<'a>(job: &'a Job, memory: &Memory) -> cut::Lent<'a> {
 
 /// An answer of the yardstick as one of the library.
 pub fn progress(of: cut::Progress) -> Progress {
-    Progress {
-        answer: yardstick(of.answer),
-        rounds: of.rounds,
-    }
+    of.into()
 }
 
 /// The refusals of these calls, with a count of rounds.

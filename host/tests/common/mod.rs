@@ -13,7 +13,7 @@ use std::time::Duration;
 use std::{fmt, thread};
 
 use ixml::limits::{main_table, GRAMMAR_TABLE, RECORD_CHARACTERS};
-use ixml::{Answer, Places};
+use ixml::Answer;
 use ixml_yardstick::gen::{Random, Style};
 use ixml_yardstick::{gen, statics, syntax};
 use lent::Lent;
@@ -54,17 +54,7 @@ pub fn processor_time() -> Duration {
 
 /// An answer of the yardstick as one of the library.
 pub fn yardstick(answer: ixml_yardstick::Answer) -> Answer {
-    Answer {
-        number: answer.number,
-        length: answer.length,
-        ambiguous: answer.ambiguous,
-        version: answer.version,
-        places: Places {
-            byte: answer.places.byte,
-            fault: answer.places.fault,
-            grammar: answer.places.grammar,
-        },
-    }
+    answer.into()
 }
 
 pub fn refused(number: u32) -> Answer {

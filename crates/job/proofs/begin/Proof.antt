@@ -1,5 +1,5 @@
 use Rattle.answer.specs.Answer.{job, mainNeed}
-use Rattle.job.proofs.Starts.{begins-ended, opened, small, few, begins-lent, need-is}
+use Rattle.job.proofs.Starts.{small, begins-lent, need-is}
 use borrow.Author.Needs.{needs}
 use Rattle.job.proofs.begin.Statement.{statement}
 use Rattle.job.proofs.begin.Tie as tie
@@ -7,14 +7,14 @@ use Rattle.job.proofs.begin.Tie as tie
 open-job-requires : tie.Need-open-job-requires
 open-job-requires c κs = search needs
 
-enum-known-opened : tie.Need-enum-known-opened
-enum-known-opened c = search needs
+need-of-requires : tie.Need-need-of-requires
+need-of-requires c κs =
+    let done = c .before .before .before .before .open-job in
+    let args = c .before .before .before .before .before .before .before .before .before .before .before .args in
+    small (args .grammar .now) (args .record .now) (done .last .1 .1 .0) (done .last .1 .1 .1 .0) (done .result) (done .ensures)
 
-enum-told : tie.Need-enum-told
-enum-told c = search needs
-
-why-begun-requires : tie.Need-why-begun-requires
-why-begun-requires c κs = search needs
+lend-requires : tie.Need-lend-requires
+lend-requires c κs = search needs
 
 same-length : tie.Need-same-length
 same-length c = search needs
@@ -24,56 +24,14 @@ same-length-2 c = search needs
 
 returns : tie.Need-returns
 returns c =
-    let at-open-job = c .before .before .before .before .before .before .before in
-    let start = at-open-job .before .before .before .before .before .before .before in
-    let args = start .args in
-    begins-ended mainNeed (job (args .grammar .now) (args .record .now) (args .main) (args .second)) _ _ _ (at-open-job .open-job .ensures) _ _ (c .before .enum-told
-    .given .1) (c .why-begun .ensures)
-
-need-requires : tie.Need-need-requires
-need-requires c κs =
-    let at-opened = c .before .before .before in
-    let at-open-job = at-opened .before .before .before .before .before .before in
-    let start = at-open-job .before .before .before .before .before .before .before in
-    let args = start .args in
-    let j = job (args .grammar .now) (args .record .now) (args .main) (args .second) in (
-      small mainNeed j _ _ _ (at-open-job .open-job .ensures) _ (at-opened .opened .given .1),
-      few mainNeed j _ _ _ (at-open-job .open-job .ensures) _ (at-opened .opened
-          .given .1),
-    )
-
-lend-requires : tie.Need-lend-requires
-lend-requires c κs = search needs
-
-same-length-3 : tie.Need-same-length-3
-same-length-3 c = search needs
-
-same-length-4 : tie.Need-same-length-4
-same-length-4 c = search needs
-
-returns-2 : tie.Need-returns-2
-returns-2 c =
-    let at-opened = c .before .before .before .before .before in
-    let at-open-job = at-opened .before .before .before .before .before .before in
-    let start = at-open-job .before .before .before .before .before .before .before in
-    let args = start .args in
+    let at-open = c .before .before .before .before .before .before in
+    let args = at-open .before .before .before .before .before .before .before .args in
+    let done = at-open .open-job in
     let j = job (args .grammar .now) (args .record .now) (args .main) (args .second) in
-    begins-lent mainNeed j _ _ _ (at-open-job .open-job .ensures) _ (at-opened .opened .given .1) _ (need-is (opened mainNeed j _ _ _ (at-open-job .open-job .ensures) _
-    (at-opened .opened .given .1)) _ (c .before .need .ensures)) _ (c .lend .ensures)
+    let need = c .before .need-of in
+    begins-lent mainNeed j (done .last .1 .1 .0) (done .last .1 .1 .1 .0) (need .result) (done .result) (done .ensures) (need-is (done .result) (need .result) (need .ensures)) _ (c .lend .ensures)
 
 pub begin-spec : {M : Type 1} → statement M
 begin-spec =
     tie.close
-    (tie.spec
-    open-job-requires
-    enum-known-opened
-    enum-told
-    why-begun-requires
-    same-length
-    same-length-2
-    returns
-    need-requires
-    lend-requires
-    same-length-3
-    same-length-4
-    returns-2)
+    (tie.spec open-job-requires need-of-requires lend-requires same-length same-length-2 returns)

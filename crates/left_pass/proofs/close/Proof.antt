@@ -2,7 +2,7 @@ use native.Mathlib.Omega.{arith}
 use Prim.Native.Nat.{_-_}
 use mathlib.Core.Path.{_∙_, sym}
 use borrow.Author.Needs.{needs}
-use Rattle.left_pass.proofs.Steps.{Draining, drain-start, drain-at, drain-tail, drain-next, drain-end, at-next}
+use Rattle.left_pass.proofs.Drains.{Draining, drain-start, drain-at, drain-tail, drain-next, drain-end, at-next}
 use Rattle.left_pass.proofs.close.Statement.{statement}
 use Rattle.left_pass.proofs.close.Tie as tie
 

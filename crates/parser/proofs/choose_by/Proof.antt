@@ -20,10 +20,17 @@ same-length-2 : tie.Need-same-length-2
 same-length-2 c = search needs
 
 returns : tie.Need-returns
-returns c = λ g ready. as-walked g (c .before .before .before .before .before .before .before .before .before .before .before .before .before .args .text .now) (c .before .before .before .before .before .before .walk-by .last .1 .1 .1 .1 .1 .1 .0) (c .before .before .before .before .before .before .walk-by .result) (c .of-walked .result) (c .of-walked .ensures) (c .before .match .keys2) (c .before .before .before .before .before .before .walk-by .ensures g ready)
+returns c =
+    let at-walk-by = c .before .before .before .before .before .before in
+    let start = at-walk-by .before .before .before .before .before .before .before in
+    λ g ready. as-walked g (start .args .text .now) (at-walk-by .walk-by .last .1 .1 .1 .1 .1 .1 .0) (at-walk-by .walk-by .result) (c .of-walked .result) (c .of-walked .ensures)
+    (c .before .match .keys2) (at-walk-by .walk-by .ensures g ready)
 
 locate-requires : tie.Need-locate-requires
-locate-requires c κs = locatable (c .before .before .before .before .before .before .before .before .before .before .before .before .before .before .pre) (c .before .before .before .before .before .before .before .walk-by .kept .1 .1 .1 .1 .1 .0)
+locate-requires c κs =
+    let at-walk-by = c .before .before .before .before .before .before .before in
+    let start = at-walk-by .before .before .before .before .before .before .before in
+    locatable (start .pre) (at-walk-by .walk-by .kept .1 .1 .1 .1 .1 .0)
 
 same-length-3 : tie.Need-same-length-3
 same-length-3 c = search needs
@@ -32,7 +39,12 @@ same-length-4 : tie.Need-same-length-4
 same-length-4 c = search needs
 
 returns-2 : tie.Need-returns-2
-returns-2 c = λ g ready. fails g (c .before .before .before .before .before .before .before .before .before .before .before .before .before .before .before .before .before .args .text .now) (c .before .before .before .before .before .before .before .before .before .before .walk-by .last .1 .1 .1 .1 .1 .1 .0) (c .before .before .before .before .before .before .before .before .before .before .walk-by .result) (c .before .before .before .before .enum-told .given .1) (c .before .before .before .before .before .before .before .before .before .before .walk-by .ensures g ready) (c .before .before .locate .ensures g ready)
+returns-2 c =
+    let at-enum-told = c .before .before .before .before in
+    let at-walk-by = at-enum-told .before .before .before .before .before .before in
+    let start = at-walk-by .before .before .before .before .before .before .before in
+    λ g ready. fails g (start .args .text .now) (at-walk-by .walk-by .last .1 .1 .1 .1 .1 .1 .0) (at-walk-by .walk-by .result) (at-enum-told .enum-told .given .1)
+    (at-walk-by .walk-by .ensures g ready) (c .before .before .locate .ensures g ready)
 
 pub choose-by-spec : {M : Type 1} → statement M
 choose-by-spec =

@@ -3,7 +3,7 @@ use Prim.Native.Nat.{ℕ, _<_, _+_, _*_}
 use native.Mathlib.Omega.{arith}
 use borrow.Author.Needs.{needs}
 use Rattle.heights.specs.Filling.{total}
-use Rattle.settle.specs.Queue.{countOf}
+use Rattle.queue.specs.Queue.{countOf}
 use Rattle.sparse.specs.Cells.{Tables}
 use Rattle.settle.proofs.Waking.{Settling, settling-start, settling-from, settling-again, settling-less, settled}
 use Rattle.settle.proofs.settle.Statement.{statement}

@@ -7,7 +7,7 @@
 
 use std::path::Path;
 use std::process::ExitCode;
-use std::{env, fs, io};
+use std::{env, fs};
 
 const USAGE: &str = "usage: tidy [--check] FILE...";
 
@@ -56,27 +56,11 @@ fn tidy(path: &Path, check: bool) -> Outcome {
         say(&"not tidy");
         return Outcome::NotTidy;
     }
-    match replace(path, &text) {
+    match ixml::files::replace(path, &text) {
         Ok(()) => Outcome::Tidy,
         Err(error) => {
             say(&error);
             Outcome::Failed
         }
     }
-}
-
-/// Writes beside the file and then renames, so that there is always a whole one.
-fn replace(path: &Path, text: &str) -> io::Result<()> {
-    let path = fs::canonicalize(path)?;
-    let mut name = path.file_name().unwrap_or_default().to_os_string();
-    name.push(".tidy");
-    let beside = path.with_file_name(name);
-    fs::write(&beside, text)?;
-    let renamed = fs::set_permissions(&beside, fs::metadata(&path)?.permissions())
-        .and_then(|()| fs::rename(&beside, &path));
-    if renamed.is_err() {
-        // Whatever is left of it says nothing.
-        let _ = fs::remove_file(&beside);
-    }
-    renamed
 }

@@ -1,0 +1,22 @@
+use borrow.Author.Needs.{needs}
+use native.Mathlib.Omega.{arith}
+use mathlib.Core.Path.{_≡_, refl, sym, ap, subst, _∙_}
+use mathlib.Core.Logic.{_⊎_, inl, inr, ⊎-elim}
+use Prim.Native.Nat.{ℕ, _+_, _*_, _-_, _/_, _%_, _^_, _<_, _≤_}
+use lib.ListN.{length, getD}
+use Rattle.bits.specs.Bits.{bitOf, Lit, Has}
+use Rattle.bits.proofs.Laws.{lit-or, lit-and, lit-zero, lit-shifted, lit-power, has-put, masked-next}
+use Rattle.bits.proofs.mask.Statement.{statement}
+use Rattle.bits.proofs.mask.Tie as tie
+
+lit-requires : tie.Need-lit-requires
+lit-requires c κs = search needs
+
+returns : tie.Need-returns
+returns c = λ _. c .before .lit .ensures (c .if1 .taken)
+
+returns-2 : tie.Need-returns-2
+returns-2 c = search needs
+
+pub mask-spec : {M : Type 1} → statement M
+mask-spec = tie.close (tie.spec lit-requires returns returns-2)

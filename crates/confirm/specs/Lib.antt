@@ -1,0 +1,3 @@
+pub mod Stood
+pub mod Sets
+pub mod Find
