@@ -3,7 +3,7 @@ use Prim.Native.Nat.{ℕ}
 use lib.ListN.{length-replicate}
 use Rattle.chart.proofs.Users.{all-zero}
 use Rattle.sparse.proofs.Coded.{shape-of}
-use Rattle.parser.proofs.Plain.{finished-plain}
+use Rattle.plain_reading.proofs.Plain.{finished-plain}
 use Rattle.parser.proofs.Located.{as-walked, fails}
 use Rattle.finish.proofs.Off.{roomy, settled-finished, settled-placing, settled-fault}
 use borrow.Author.Needs.{needs}
@@ -16,10 +16,9 @@ slice-aggregate-mark-all c = search needs
 
 mark-all-requires : tie.Need-mark-all-requires
 mark-all-requires c κs =
-    let start = c .before .before .before .before .before .before .before in (
-      record { small = start .pre .small; room = omega (arith, start .pre .small, start .pre .code-long); fits-room = omega (arith, start .pre .small, start .pre .fits-long); short = start .pre .short },
-      length-replicate {A = ℕ} 308736 0,
-    )
+    let start = c .before .before .before .before .before .before .before in
+    (record { small = start .pre .small; room = omega (arith, start .pre .small, start .pre .code-long); fits-room = omega (arith, start .pre .small, start .pre .fits-long); short = start .pre .short },
+    length-replicate {A = ℕ} 308736 0)
 
 slice-aggregate-note-rules : tie.Need-slice-aggregate-note-rules
 slice-aggregate-note-rules c = search needs
@@ -35,15 +34,12 @@ slice-aggregate-walk c = search needs
 slice-aggregate-walk-2 : tie.Need-slice-aggregate-walk-2
 slice-aggregate-walk-2 c = search needs
 
-slice-aggregate-walk-3 : tie.Need-slice-aggregate-walk-3
-slice-aggregate-walk-3 c = search needs
-
 walk-requires : tie.Need-walk-requires
 walk-requires c κs =
-    let at-note-rules = c .before .before .before .before .before in
+    let at-note-rules = c .before .before .before .before in
     let at-mark-all = at-note-rules .before .before .before in
     let start = at-mark-all .before .before .before .before .before .before .before .before in
-    record { tables = settled-finished (start .pre) (at-mark-all .mark-all .ensures) (at-note-rules .note-rules .ensures) (start .pre .ruled); room = start .pre .numbers; stack = search needs }
+    (settled-finished (start .pre) (at-mark-all .mark-all .ensures) (at-note-rules .note-rules .ensures) (start .pre .ruled), start .pre .numbers)
 
 enum-told : tie.Need-enum-told
 enum-told c = search needs
@@ -59,8 +55,8 @@ unfolding settled-finished finished-plain
 returns c =
     let at-of-walked = c in
     let at-match = at-of-walked .before in
-    let at-walk = at-match .before .before .before .before in
-    let at-note-rules = at-walk .before .before .before .before .before .before in
+    let at-walk = at-match .before .before .before in
+    let at-note-rules = at-walk .before .before .before .before .before in
     let at-mark-all = at-note-rules .before .before .before in
     let start = at-mark-all .before .before .before .before .before .before .before .before in
     λ g k. as-walked g _ _ (at-walk .walk .result) (at-of-walked .of-walked .result) (at-of-walked .of-walked .ensures) (at-match .match .keys2) (at-walk .walk .ensures (settled-finished (start .pre) (at-mark-all .mark-all .ensures) (at-note-rules .note-rules .ensures) k))
@@ -73,7 +69,7 @@ slice-aggregate-place-2 c = search needs
 
 place-requires : tie.Need-place-requires
 place-requires c κs =
-    let at-note-rules = c .before .before .before .before .before .before .before .before .before .before .before .before .before in
+    let at-note-rules = c .before .before .before .before .before .before .before .before .before .before .before in
     let at-mark-all = at-note-rules .before .before .before in
     let start = at-mark-all .before .before .before .before .before .before .before .before in
     settled-placing (start .pre) (at-mark-all .mark-all .ensures) (at-note-rules .note-rules .ensures) (start .pre .ruled)
@@ -86,8 +82,8 @@ unfolding settled-finished finished-plain
 returns-2 c =
     let at-place = c in
     let at-enum-told = at-place .before .before .before in
-    let at-walk = at-enum-told .before .before .before .before .before in
-    let at-note-rules = at-walk .before .before .before .before .before .before in
+    let at-walk = at-enum-told .before .before .before .before in
+    let at-note-rules = at-walk .before .before .before .before .before in
     let at-mark-all = at-note-rules .before .before .before in
     let start = at-mark-all .before .before .before .before .before .before .before .before in
     λ g k. fails g _ _ (at-walk .walk .result) (at-enum-told .enum-told .given .1) (at-walk .walk .ensures (settled-finished (start .pre) (at-mark-all .mark-all .ensures) (at-note-rules .note-rules .ensures) k))
@@ -103,7 +99,6 @@ read-off-spec =
     note-rules-requires
     slice-aggregate-walk
     slice-aggregate-walk-2
-    slice-aggregate-walk-3
     walk-requires
     enum-told
     of-walked-requires
