@@ -33,9 +33,10 @@ module _ (Uncut : Job → List ℕ → defined.Answer → List ℕ → Type 0) (
   Gives = EndedAs Uncut j M S old
 
   -- 27 and 15
-  by-line : (d : Diagnostic) → NotResumed j S d → Topmost (laterLines j S last) (d .number) × (d .number ≡ 0 → ⊥) × (d .number ≡ 16 → ⊥) × (d ≡ plainly (d .number)) → (d .number ≡ 26 → ⊥)
+  by-line : (d : Diagnostic) → NotResumed j S d → Topmost (laterLines j S last) (d .number) × (d .number ≡ 0 → ⊥) × (d .number ≡ 16 → ⊥) × (d ≡ plainly (d .number))
+      → (d .number ≡ 26 → ⊥)
       → Gives (record { answer = refusalOf (record { why = d; mismatch = false }); rounds = 0 }) old
-  by-line d w (t, z, y, e) n = early (d .number) 0 t z (ap (λ (x : Diagnostic). record { answer = refusalOf (record { why = x; mismatch = false }); rounds = 0 }) e) (λ q. absurd (n q)) (λ _. refl) refl
+  by-line d w (t, z, y, e) n = early (d .number) 0 t z (ap (λ (x : Diagnostic). refusing x 0) e) (λ q. absurd (n q)) (λ _. refl) refl
 
   not-26 : (d : Diagnostic) → NotResumed j S d → d .number ≡ 26 → ⊥
   not-26 _ (alien n) e = omega arith

@@ -142,13 +142,15 @@ module _ (j : Job) (S : List ℕ) where
   pub rounds-refused : (d : Diagnostic) → NotResumed j S d → Rounds j S (shown (refusalOf (record { why = d; mismatch = false })))
   rounds-refused d w = by (later-refused [] d w)
     where
-      by : Topmost (laterLines j S []) (d .number) × (d .number ≡ 0 → ⊥) × (d .number ≡ 16 → ⊥) × (d ≡ plainly (d .number)) → Rounds j S (shown (refusalOf (record { why = d; mismatch = false })))
+      by : Topmost (laterLines j S []) (d .number) × (d .number ≡ 0 → ⊥) × (d .number ≡ 16 → ⊥) × (d ≡ plainly (d .number))
+          → Rounds j S (shown (refusalOf (record { why = d; mismatch = false })))
       by (t, z, y, e) = record {
         number = t;
         answered = λ x. absurd (z x);
         refused = λ _. (refl, refl, refl);
         version = (λ q. absurd (no-mark (eqb (d .number) 16) q), λ x. absurd (⊎-elim z y (x .0)));
-        places = subst (λ (x : Diagnostic). Placed noNotes (d .number) (shown (refusalOf (record { why = x; mismatch = false })) .places)) (sym e) (record { byte = refl; fault = refl; grammar = refl });
+        places = subst (λ (x : Diagnostic). Placed noNotes (d .number) (shown (refusalOf (record { why = x; mismatch = false })) .places)) (sym e)
+            (record { byte = refl; fault = refl; grammar = refl });
       }
 
   pub rounds-done : {T new : List ℕ} {s : Start} → Resumed j S T new s → Rounds j S (shown (done 0 false (s .rules .mismatch)))

@@ -53,8 +53,11 @@ returns : tie.Need-returns Inv-loop μ-loop
 returns c =
     let at-loop-test = c in
     let at-loop = at-loop-test .before in
-    let start = at-loop .before .before in
-    (count-all (start .args .code .now) (at-loop .loop .count) (at-loop .loop .e) (start .args .size) (at-loop .loop .inv .0) (omega (arith, at-loop-test .loop-test .left)) (at-loop .loop .inv .2), omega (arith, at-loop .loop .inv .0, at-loop .loop .inv .1))
+    let start = at-loop .before .before in (
+      count-all (start .args .code .now) (at-loop .loop .count) (at-loop .loop .e) (start .args .size) (at-loop .loop .inv .0) (omega (arith, at-loop-test .loop-test .left))
+          (at-loop .loop .inv .2),
+      omega (arith, at-loop .loop .inv .0, at-loop .loop .inv .1),
+    )
 
 pub count-rules-spec : {M : Type 1} → statement M
 count-rules-spec =

@@ -45,7 +45,11 @@ mul-most : tie.Need-mul-most
 mul-most c =
     let at-count-rules = c in
     let start = at-count-rules .before .before .before .before .before .before .before .before .before .before in
-    omega (arith, few-rounds (at-count-rules .count-rules .result) (length (start .args .text .now) + 1) (omega (arith, at-count-rules .count-rules .ensures .1, start .pre .small)) (omega (arith, start .pre .short)))
+    omega (
+      arith,
+      few-rounds (at-count-rules .count-rules .result) (length (start .args .text .now) + 1) (omega (arith, at-count-rules .count-rules .ensures .1, start .pre .small))
+          (omega (arith, start .pre .short)),
+    )
 
 returns : tie.Need-returns
 returns c =
@@ -53,8 +57,10 @@ returns c =
     let at-count-rules = at-if1 .before in
     let at-prepare = at-count-rules .before .before .before .before in
     let start = at-prepare .before .before .before .before .before .before in
-    λ g ready. round-late (at-prepare .prepare .last .1 .1 .1 .1 .1 .0) (at-prepare .prepare .ensures g ready) ready (start .pre .small) (omega (arith, start .pre .small, at-prepare .prepare .kept .1 .1 .1 .1 .0)) (start .pre .short)
-    (omega (arith, start .pre .small, at-prepare .prepare .kept .1 .1 .1 .1 .1 .0)) (at-count-rules .count-rules .result) (at-count-rules .count-rules .ensures .0) (at-count-rules .count-rules .ensures .1) (start .args .done) (start .args .main .now) (omega (arith, at-if1 .if1 .taken))
+    λ g ready. round-late (at-prepare .prepare .last .1 .1 .1 .1 .1 .0) (at-prepare .prepare .ensures g ready) ready (start .pre .small)
+    (omega (arith, start .pre .small, at-prepare .prepare .kept .1 .1 .1 .1 .0)) (start .pre .short)
+    (omega (arith, start .pre .small, at-prepare .prepare .kept .1 .1 .1 .1 .1 .0)) (at-count-rules .count-rules .result) (at-count-rules .count-rules .ensures .0)
+    (at-count-rules .count-rules .ensures .1) (start .args .done) (start .args .main .now) (omega (arith, at-if1 .if1 .taken))
 
 slice-aggregate-advance : tie.Need-slice-aggregate-advance
 slice-aggregate-advance c = search needs
@@ -68,9 +74,14 @@ advance-requires c κs =
     let at-count-rules = at-if1 .before in
     let at-prepare = at-count-rules .before .before .before .before in
     let start = at-prepare .before .before .before .before .before .before in
-    let x = coded {f = at-prepare .prepare .last .1 .1 .1 .1 .1 .0} (at-prepare .prepare .ensures (start .pre .grammar) (start .pre .ready)) (start .pre .small) (omega (arith, start .pre .small, at-prepare .prepare .kept .1 .1 .1 .1 .0)) (start .pre .short)
-    (omega (arith, start .pre .small, at-prepare .prepare .kept .1 .1 .1 .1 .1 .0)) in
-    (safe _ _ _ _ _ _ _ _ x (start .pre .room), omega (arith, at-if1 .if1 .left), few-rounds (at-count-rules .count-rules .result) (length (start .args .text .now) + 1) (omega (arith, at-count-rules .count-rules .ensures .1, start .pre .small)) (omega (arith, start .pre .short)))
+    let x = coded {f = at-prepare .prepare .last .1 .1 .1 .1 .1 .0} (at-prepare .prepare .ensures (start .pre .grammar) (start .pre .ready)) (start .pre .small)
+    (omega (arith, start .pre .small, at-prepare .prepare .kept .1 .1 .1 .1 .0)) (start .pre .short)
+    (omega (arith, start .pre .small, at-prepare .prepare .kept .1 .1 .1 .1 .1 .0)) in (
+      safe _ _ _ _ _ _ _ _ x (start .pre .room),
+      omega (arith, at-if1 .if1 .left),
+      few-rounds (at-count-rules .count-rules .result) (length (start .args .text .now) + 1)
+          (omega (arith, at-count-rules .count-rules .ensures .1, start .pre .small)) (omega (arith, start .pre .short)),
+    )
 
 same-length : tie.Need-same-length
 same-length c =
@@ -85,8 +96,10 @@ returns-2 c =
     let at-prepare = at-count-rules .before .before .before .before in
     let at-slice-known = at-prepare .before .before .before in
     let start = at-slice-known .before .before .before in
-    λ g ready. round-by (at-prepare .prepare .last .1 .1 .1 .1 .1 .0) (at-prepare .prepare .ensures g ready) ready (start .pre .small) (omega (arith, start .pre .small, at-prepare .prepare .kept .1 .1 .1 .1 .0)) (start .pre .short)
-    (omega (arith, start .pre .small, at-prepare .prepare .kept .1 .1 .1 .1 .1 .0)) (at-count-rules .count-rules .result) (at-count-rules .count-rules .ensures .0) (at-count-rules .count-rules .ensures .1) (start .args .done) (start .args .main .now) _ _
+    λ g ready. round-by (at-prepare .prepare .last .1 .1 .1 .1 .1 .0) (at-prepare .prepare .ensures g ready) ready (start .pre .small)
+    (omega (arith, start .pre .small, at-prepare .prepare .kept .1 .1 .1 .1 .0)) (start .pre .short)
+    (omega (arith, start .pre .small, at-prepare .prepare .kept .1 .1 .1 .1 .1 .0)) (at-count-rules .count-rules .result) (at-count-rules .count-rules .ensures .0)
+    (at-count-rules .count-rules .ensures .1) (start .args .done) (start .args .main .now) _ _
     (start .pre .room) (λ x. most-by (at-slice-known .slice-known .given x)) (omega (arith, at-if1 .if1 .left)) (at-advance .advance .ensures)
 
 pub round-spec : {M : Type 1} → statement M

@@ -39,7 +39,8 @@ is-fixpoint-requires c κs =
     let at-code-rules = at-fit-rows .before .before .before in
     let start = at-code-rules .before .before .before .before .before .before in
     let k = fitted (at-code-rules .code-rules .ensures (start .pre .grammar) (start .pre .ready)) (at-fit-rows .fit-rows .ensures) in
-    safe _ _ _ _ _ _ _ _ (coded {f = at-fit-rows .fit-rows .last .1 .1 .1 .0} k (start .pre .small) (omega (arith, start .pre .small, at-code-rules .code-rules .kept .1 .1 .1 .0)) (start .pre .short)
+    safe _ _ _ _ _ _ _ _ (coded {f = at-fit-rows .fit-rows .last .1 .1 .1 .0} k (start .pre .small) (omega (arith, start .pre .small, at-code-rules .code-rules .kept .1 .1 .1 .0))
+    (start .pre .short)
     (omega (arith, start .pre .small, at-fit-rows .fit-rows .kept .1 .1 .1 .0))) (start .pre .room)
 
 returns : tie.Need-returns
@@ -50,7 +51,8 @@ returns c =
     let at-code-rules = at-fit-rows .before .before .before in
     let at-shared-slice-known3 = at-code-rules .before .before .before in
     let start = at-shared-slice-known3 .before .before .before in
-    λ g ready. not-finished (at-code-rules .code-rules .ensures g ready) (at-fit-rows .fit-rows .ensures) ready (start .pre .small) (omega (arith, at-code-rules .code-rules .kept .1 .1 .1 .0)) (omega (arith, at-fit-rows .fit-rows .kept .1 .1 .1 .0)) (start .pre .short)
+    λ g ready. not-finished (at-code-rules .code-rules .ensures g ready) (at-fit-rows .fit-rows .ensures) ready (start .pre .small)
+    (omega (arith, at-code-rules .code-rules .kept .1 .1 .1 .0)) (omega (arith, at-fit-rows .fit-rows .kept .1 .1 .1 .0)) (start .pre .short)
     (λ x. most-by (at-shared-slice-known3 .shared-slice-known3 .given x)) (not-so (at-is-fixpoint .is-fixpoint .ensures) (not-true (at-is-fixpoint .is-fixpoint .result) (at-if1 .if1 .taken)))
 
 slice-aggregate-read-off : tie.Need-slice-aggregate-read-off

@@ -17,7 +17,13 @@ slice-aggregate-mark-all c = search needs
 mark-all-requires : tie.Need-mark-all-requires
 mark-all-requires c κs =
     let start = c .before .before .before .before .before .before .before in (
-      record { small = start .pre .small; room = omega (arith, start .pre .small, start .pre .code-long); fits-room = omega (arith, start .pre .small, start .pre .fits-long); short = start .pre .short },
+      record {
+        small = start .pre .small;
+        room = omega (arith, start .pre .small, start .pre .code-long);
+        fits-room = omega
+            (arith, start .pre .small, start .pre .fits-long);
+        short = start .pre .short;
+      },
       length-replicate {A = ℕ} 308736 0,
     )
 
@@ -60,7 +66,8 @@ returns c =
     let at-note-rules = at-walk .before .before .before .before .before in
     let at-mark-all = at-note-rules .before .before .before in
     let start = at-mark-all .before .before .before .before .before .before .before .before in
-    λ g k. as-walked g _ _ (at-walk .walk .result) (at-of-walked .of-walked .result) (at-of-walked .of-walked .ensures) (at-match .match .keys2) (at-walk .walk .ensures (settled-finished (start .pre) (at-mark-all .mark-all .ensures) (at-note-rules .note-rules .ensures) k))
+    λ g k. as-walked g _ _ (at-walk .walk .result) (at-of-walked .of-walked .result) (at-of-walked .of-walked .ensures) (at-match .match .keys2)
+    (at-walk .walk .ensures (settled-finished (start .pre) (at-mark-all .mark-all .ensures) (at-note-rules .note-rules .ensures) k))
 
 slice-aggregate-place : tie.Need-slice-aggregate-place
 slice-aggregate-place c = search needs
@@ -87,7 +94,8 @@ returns-2 c =
     let at-note-rules = at-walk .before .before .before .before .before in
     let at-mark-all = at-note-rules .before .before .before in
     let start = at-mark-all .before .before .before .before .before .before .before .before in
-    λ g k. fails g _ _ (at-walk .walk .result) (at-enum-told .enum-told .given .1) (at-walk .walk .ensures (settled-finished (start .pre) (at-mark-all .mark-all .ensures) (at-note-rules .note-rules .ensures) k))
+    λ g k. fails g _ _ (at-walk .walk .result) (at-enum-told .enum-told .given .1)
+    (at-walk .walk .ensures (settled-finished (start .pre) (at-mark-all .mark-all .ensures) (at-note-rules .note-rules .ensures) k))
     (settled-fault (start .pre) (at-mark-all .mark-all .ensures) (at-note-rules .note-rules .ensures) k (at-place .place .ensures))
 
 pub read-off-spec : {M : Type 1} → statement M

@@ -29,7 +29,8 @@ returns c =
     let at-loop = at-loop-test .before in
     let start = at-loop .before .before .before .before in
     none-missed (λ (i : ℕ). DotsFixed (start .args .code .now) (start .args .fits .now) (start .args .size) (start .args .n) (start .args .main .now) i (start .args .j) (start .args .size))
-    (at-loop .loop .i) (start .args .j + 1) (omega (arith, at-loop-test .loop-test .taken)) (not-so (at-stretch-fixed .stretch-fixed .ensures) (not-true (at-stretch-fixed .stretch-fixed .result) (at-if1 .if1 .taken)))
+    (at-loop .loop .i) (start .args .j + 1) (omega (arith, at-loop-test .loop-test .taken))
+    (not-so (at-stretch-fixed .stretch-fixed .ensures) (not-true (at-stretch-fixed .stretch-fixed .result) (at-if1 .if1 .taken)))
 
 add-i : tie.Need-add-i Inv-loop μ-loop
 add-i c =

@@ -30,7 +30,8 @@ returns c =
     let at-shared-slice-known4 = at-if1 .before in
     let at-cell = at-shared-slice-known4 .before in
     let start = at-cell .before .before .before .before in
-    dot-greatest _ _ _ _ _ (start .pre .0 .shape) _ _ _ _ _ (ap (λ (z : ℕ). getD (start .args .main .now) z 0) (at-cell .cell .ensures)) (most-by (at-shared-slice-known4 .shared-slice-known4 .given (at-cell .cell .result))) (at-if1 .if1 .taken)
+    dot-greatest _ _ _ _ _ (start .pre .0 .shape) _ _ _ _ _ (ap (λ (z : ℕ). getD (start .args .main .now) z 0) (at-cell .cell .ensures))
+    (most-by (at-shared-slice-known4 .shared-slice-known4 .given (at-cell .cell .result))) (at-if1 .if1 .taken)
 
 below-requires : tie.Need-below-requires
 below-requires c κs =
@@ -44,7 +45,8 @@ returns-2 c =
     let at-shared-slice-known4 = at-below .before .before in
     let at-cell = at-shared-slice-known4 .before in
     let start = at-cell .before .before .before .before in
-    dot-lower _ _ _ _ _ (start .pre .0 .shape) _ _ _ _ _ (ap (λ (z : ℕ). getD (start .args .main .now) z 0) (at-cell .cell .ensures)) (most-by (at-shared-slice-known4 .shared-slice-known4 .given (at-cell .cell .result))) (at-below .below .ensures .yes (at-if2 .if2 .taken))
+    dot-lower _ _ _ _ _ (start .pre .0 .shape) _ _ _ _ _ (ap (λ (z : ℕ). getD (start .args .main .now) z 0) (at-cell .cell .ensures))
+    (most-by (at-shared-slice-known4 .shared-slice-known4 .given (at-cell .cell .result))) (at-below .below .ensures .yes (at-if2 .if2 .taken))
 
 returns-3 : tie.Need-returns-3
 returns-3 c =
@@ -54,7 +56,8 @@ returns-3 c =
     let at-shared-slice-known4 = at-below .before .before in
     let at-cell = at-shared-slice-known4 .before in
     let start = at-cell .before .before .before .before in
-    dot-none _ _ _ _ _ (start .pre .0 .shape) _ _ _ _ _ (ap (λ (z : ℕ). getD (start .args .main .now) z 0) (at-cell .cell .ensures)) (most-by (at-shared-slice-known4 .shared-slice-known4 .given (at-cell .cell .result))) (not-so (at-below .below .ensures) (at-if2 .if2 .left)) (at-if3 .if3 .taken)
+    dot-none _ _ _ _ _ (start .pre .0 .shape) _ _ _ _ _ (ap (λ (z : ℕ). getD (start .args .main .now) z 0) (at-cell .cell .ensures))
+    (most-by (at-shared-slice-known4 .shared-slice-known4 .given (at-cell .cell .result))) (not-so (at-below .below .ensures) (at-if2 .if2 .left)) (at-if3 .if3 .taken)
 
 add-below : tie.Need-add-below
 add-below c =
@@ -78,7 +81,9 @@ returns-4 c =
     let at-shared-slice-known4 = at-if1 .before in
     let at-cell = at-shared-slice-known4 .before in
     let start = at-cell .before .before .before .before in
-    dot-given _ _ _ _ _ (start .pre .0 .shape) _ _ _ _ _ (ap (λ (z : ℕ). getD (start .args .main .now) z 0) (at-cell .cell .ensures)) (most-by (at-shared-slice-known4 .shared-slice-known4 .given (at-cell .cell .result))) (not-so (at-below .below .ensures) (at-if2 .if2 .left)) (at-if1 .if1 .left) (at-if3 .if3 .left) (at-below2 .below2 .ensures)
+    dot-given _ _ _ _ _ (start .pre .0 .shape) _ _ _ _ _ (ap (λ (z : ℕ). getD (start .args .main .now) z 0) (at-cell .cell .ensures))
+    (most-by (at-shared-slice-known4 .shared-slice-known4 .given (at-cell .cell .result))) (not-so (at-below .below .ensures) (at-if2 .if2 .left)) (at-if1 .if1 .left) (at-if3 .if3 .left)
+    (at-below2 .below2 .ensures)
 
 pub dot-fixed-spec : {M : Type 1} → statement M
 dot-fixed-spec =

@@ -27,7 +27,8 @@ returns c =
     let at-column-fixed = at-if1 .before in
     let at-loop-test = at-column-fixed .before in
     let at-loop = at-loop-test .before in
-    miss (λ a. not-so (at-column-fixed .column-fixed .ensures) (not-true (at-column-fixed .column-fixed .result) (at-if1 .if1 .taken)) (fixed-ends _ _ _ _ _ a (at-loop .loop .j) (omega (arith, at-loop-test .loop-test .taken))))
+    miss (λ a. not-so (at-column-fixed .column-fixed .ensures) (not-true (at-column-fixed .column-fixed .result) (at-if1 .if1 .taken))
+    (fixed-ends _ _ _ _ _ a (at-loop .loop .j) (omega (arith, at-loop-test .loop-test .taken))))
 
 add-j : tie.Need-add-j Inv-loop μ-loop
 add-j c =

@@ -77,7 +77,8 @@ returns-2 c =
     let at-value = at-if2 .before .before in
     let at-if1 = at-value .before in
     let start = at-if1 .before .before .before .before .before in
-    lower-set _ _ _ _ _ _ _ (at-value .value .result) (at-if1 .if1 .left) (omega (arith, owner-inside (start .args .p) (start .pre .0) (start .pre .1 .inside) (at-if1 .if1 .left), start .pre .2)) (at-value .value .ensures) (at-if2 .if2 .taken)
+    lower-set _ _ _ _ _ _ _ (at-value .value .result) (at-if1 .if1 .left)
+    (omega (arith, owner-inside (start .args .p) (start .pre .0) (start .pre .1 .inside) (at-if1 .if1 .left), start .pre .2)) (at-value .value .ensures) (at-if2 .if2 .taken)
 
 returns-3 : tie.Need-returns-3
 returns-3 c =

@@ -19,8 +19,14 @@ slice-aggregate-rule-heights c = search needs
 
 rule-heights-requires : tie.Need-rule-heights-requires Inv-loop μ-loop
 rule-heights-requires c κs =
-    let start = c .before .before .before .before in
-    (start .pre .0 .shape, start .pre .1, start .pre .2, omega (arith, start .pre .0 .shape .cells .few, length-replicate {A = ℕ} 512 4294967295), leasts-start _ _ _ _ _ _ (start .pre .0 .shape .cells .few))
+    let start = c .before .before .before .before in (
+      start .pre .0 .shape,
+      start .pre .1,
+      start .pre .2,
+      omega (arith, start .pre .0 .shape .cells .few, length-replicate {A = ℕ} 512 4294967295),
+      leasts-start _ _ _ _ _ _
+          (start .pre .0 .shape .cells .few),
+    )
 
 loop-holds : tie.Need-loop-holds Inv-loop μ-loop
 loop-holds c = (omega arith, λ q l. absurd (omega arith))
@@ -32,8 +38,13 @@ position-fixed-requires : tie.Need-position-fixed-requires Inv-loop μ-loop
 position-fixed-requires c κs =
     let at-loop-test = c .before in
     let at-rule-heights = at-loop-test .before .before .before in
-    let start = at-rule-heights .before .before .before .before .before in
-    (start .pre .0, record { inside = at-loop-test .loop-test .taken; order = start .pre .1; stop = start .pre .2 }, omega (arith, start .pre .0 .shape .cells .few, at-rule-heights .rule-heights .kept .1 .1 .1 .0, length-replicate {A = ℕ} 512 4294967295), at-rule-heights .rule-heights .ensures)
+    let start = at-rule-heights .before .before .before .before .before in (
+      start .pre .0,
+      record { inside = at-loop-test .loop-test .taken; order = start .pre .1; stop = start .pre .2 },
+      omega
+          (arith, start .pre .0 .shape .cells .few, at-rule-heights .rule-heights .kept .1 .1 .1 .0, length-replicate {A = ℕ} 512 4294967295),
+      at-rule-heights .rule-heights .ensures,
+    )
 
 returns : tie.Need-returns Inv-loop μ-loop
 returns c =
@@ -43,7 +54,8 @@ returns c =
     let at-loop = at-loop-test .before in
     let start = at-loop .before .before .before .before .before .before .before in
     none-missed (λ (q : ℕ). Fixed (start .args .code .now) (start .args .fits .now) (start .args .at .size) (start .args .at .n) (start .args .main .now) q (start .args .at .i) (start .args .at .j))
-    (at-loop .loop .p) (start .args .at .size) (at-loop-test .loop-test .taken) (not-so (at-position-fixed .position-fixed .ensures) (not-true (at-position-fixed .position-fixed .result) (at-if1 .if1 .taken)))
+    (at-loop .loop .p) (start .args .at .size) (at-loop-test .loop-test .taken)
+    (not-so (at-position-fixed .position-fixed .ensures) (not-true (at-position-fixed .position-fixed .result) (at-if1 .if1 .taken)))
 
 add-p : tie.Need-add-p Inv-loop μ-loop
 add-p c = search needs

@@ -44,7 +44,8 @@ returns-2 c =
     let at-finish = at-enum-told .before .before .before .before in
     let at-if1 = at-finish .before .before .before in
     let at-finished = at-if1 .before in
-    λ j w. not-this-table j _ _ _ w _ _ (at-finished .finished .ensures .yes (not-false (at-finished .finished .result) (at-if1 .if1 .left))) (at-enum-told .enum-told .given .1) (at-finish .finish .ensures (w .grammar .tree) (w .grammar .ready))
+    λ j w. not-this-table j _ _ _ w _ _ (at-finished .finished .ensures .yes (not-false (at-finished .finished .result) (at-if1 .if1 .left))) (at-enum-told .enum-told .given .1)
+    (at-finish .finish .ensures (w .grammar .tree) (w .grammar .ready))
 
 parse-of-requires : tie.Need-parse-of-requires
 parse-of-requires c κs = search needs
@@ -59,7 +60,8 @@ returns-3 c =
     let at-finish = at-ended .before .before .before .before in
     let at-if1 = at-finish .before .before .before in
     let at-finished = at-if1 .before in
-    λ j w. ended-with j _ _ _ w _ _ _ _ _ (at-finished .finished .ensures .yes (not-false (at-finished .finished .result) (at-if1 .if1 .left))) (at-ended .ended .given .1) (at-parse-of .parse-of .ensures) (at-finish .finish .ensures (w .grammar .tree) (w .grammar .ready))
+    λ j w. ended-with j _ _ _ w _ _ _ _ _ (at-finished .finished .ensures .yes (not-false (at-finished .finished .result) (at-if1 .if1 .left))) (at-ended .ended .given .1)
+    (at-parse-of .parse-of .ensures) (at-finish .finish .ensures (w .grammar .tree) (w .grammar .ready))
 
 pub end-read-spec : {M : Type 1} → statement M
 end-read-spec =

@@ -21,7 +21,9 @@ returns c =
     let at-if1 = at-plain .before in
     let at-keeps = at-if1 .before in
     let start = at-keeps .before .before .before .before .before .before in
-    rw (at-plain .plain .ensures) (not-kept (job (start .args .grammar .now) (start .args .record .now) (start .args .main) (start .args .second)) (start .args .state .now) (start .args .table .now) (start .args .text .now) (not-so (at-keeps .keeps .ensures) (not-true (at-keeps .keeps .result) (at-if1 .if1 .taken))))
+    let j = job (start .args .grammar .now) (start .args .record .now) (start .args .main) (start .args .second) in
+    rw (at-plain .plain .ensures) (not-kept j (start .args .state .now) (start .args .table .now) (start .args .text .now)
+    (not-so (at-keeps .keeps .ensures) (not-true (at-keeps .keeps .result) (at-if1 .if1 .taken))))
 
 open-job-requires : tie.Need-open-job-requires
 open-job-requires c κs =
@@ -49,13 +51,15 @@ returns-2 c =
     let at-enum-told2 = at-plain2 .before in
     let at-open-job = at-enum-told2 .before .before .before .before .before .before in
     let start = at-open-job .before .before .before .before .before .before .before .before .before .before in
-    rw (at-plain2 .plain2 .ensures) (not-opened (job (start .args .grammar .now) (start .args .record .now) (start .args .main) (start .args .second)) _ _ _ _ _ (at-enum-told2 .enum-told2 .given .1) (at-open-job .open-job .ensures))
+    let j = job (start .args .grammar .now) (start .args .record .now) (start .args .main) (start .args .second) in
+    rw (at-plain2 .plain2 .ensures) (not-opened j _ _ _ _ _ (at-enum-told2 .enum-told2 .given .1) (at-open-job .open-job .ensures))
 
 need-of-requires : tie.Need-need-of-requires
 need-of-requires c κs =
     let at-open-job = c .before .before .before .before .before .before in
     let start = at-open-job .before .before .before .before .before .before .before .before .before .before in
-    small (start .args .grammar .now) (start .args .record .now) (at-open-job .open-job .last .1 .1 .0) (at-open-job .open-job .last .1 .1 .1 .0) (at-open-job .open-job .result) (at-open-job .open-job .ensures)
+    small (start .args .grammar .now) (start .args .record .now) (at-open-job .open-job .last .1 .1 .0) (at-open-job .open-job .last .1 .1 .1 .0) (at-open-job .open-job .result)
+    (at-open-job .open-job .ensures)
 
 lend-requires : tie.Need-lend-requires
 lend-requires c κs = search needs
@@ -75,7 +79,9 @@ returns-3 c =
     let at-if1 = at-open-job .before .before .before in
     let at-keeps = at-if1 .before in
     let start = at-keeps .before .before .before .before .before .before in
-    lent-or-not (job (start .args .grammar .now) (start .args .record .now) (start .args .main) (start .args .second)) _ _ _ _ _ (at-enum-told .enum-told .given .1) (at-open-job .open-job .ensures) (at-keeps .keeps .ensures .yes (not-false (at-keeps .keeps .result) (at-if1 .if1 .left))) _ (at-need-of .need-of .ensures) _ (at-lend .lend .ensures)
+    let j = job (start .args .grammar .now) (start .args .record .now) (start .args .main) (start .args .second) in
+    lent-or-not j _ _ _ _ _ (at-enum-told .enum-told .given .1) (at-open-job .open-job .ensures) (at-keeps .keeps .ensures .yes (not-false (at-keeps .keeps .result) (at-if1 .if1 .left))) _
+    (at-need-of .need-of .ensures) _ (at-lend .lend .ensures)
 
 pub resume-spec : {M : Type 1} → statement M
 resume-spec =

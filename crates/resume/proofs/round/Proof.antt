@@ -45,7 +45,8 @@ returns c =
     let at-enum-told = at-why-begun .before in
     let at-resume = at-enum-told .before .before .before .before in
     let start = at-resume .before .before .before .before .before .before .before .before in
-    rounded-refused (job (start .args .grammar .now) (start .args .record .now) (length (start .args .main .now)) (start .args .second)) _ _ _ _ _ _ _ _ (at-enum-told .enum-told .given .1) (at-why-begun .why-begun .ensures) (at-resume .resume .ensures) (at-refuse .refuse .ensures)
+    let j = job (start .args .grammar .now) (start .args .record .now) (length (start .args .main .now)) (start .args .second) in
+    rounded-refused j _ _ _ _ _ _ _ _ (at-enum-told .enum-told .given .1) (at-why-begun .why-begun .ensures) (at-resume .resume .ensures) (at-refuse .refuse .ensures)
 
 answered-requires : tie.Need-answered-requires
 answered-requires c κs = search needs
@@ -76,8 +77,9 @@ returns-2 c =
     let at-begun = at-answered .before .before in
     let at-resume = at-begun .before .before .before .before in
     let start = at-resume .before .before .before .before .before .before .before .before in
-    let w = resumed-at (job (start .args .grammar .now) (start .args .record .now) (length (start .args .main .now)) (start .args .second)) _ _ _ _ _ (at-begun .begun .given .1) (at-resume .resume .ensures) in
-    rounded-over (job (start .args .grammar .now) (start .args .record .now) (length (start .args .main .now)) (start .args .second)) _ _ _ _ _ w _ (at-answered .answered .ensures) _ (at-wide .wide .ensures ∙ at-rounds .rounds .ensures) (at-finished .finished .ensures .yes (at-if1 .if1 .taken))
+    let j = job (start .args .grammar .now) (start .args .record .now) (length (start .args .main .now)) (start .args .second) in
+    let w = resumed-at j _ _ _ _ _ (at-begun .begun .given .1) (at-resume .resume .ensures) in
+    rounded-over j _ _ _ _ _ w _ (at-answered .answered .ensures) _ (at-wide .wide .ensures ∙ at-rounds .rounds .ensures) (at-finished .finished .ensures .yes (at-if1 .if1 .taken))
 
 slice-aggregate-round : tie.Need-slice-aggregate-round
 slice-aggregate-round c = search needs
@@ -87,7 +89,8 @@ array-share-prefix-text c =
     let at-begun = c .before .before .before .before .before .before .before .before .before in
     let at-resume = at-begun .before .before .before .before in
     let start = at-resume .before .before .before .before .before .before .before .before in
-    let w = resumed-at (job (start .args .grammar .now) (start .args .record .now) (length (start .args .main .now)) (start .args .second)) _ _ _ _ _ (at-begun .begun .given .1) (at-resume .resume .ensures) in
+    let j = job (start .args .grammar .now) (start .args .record .now) (length (start .args .main .now)) (start .args .second) in
+    let w = resumed-at j _ _ _ _ _ (at-begun .begun .given .1) (at-resume .resume .ensures) in
     omega (arith, w .started .input .count, w .started .input .short, at-resume .resume .kept .1 .1 .1 .1 .1 .1 .0)
 
 slice-aggregate-round-2 : tie.Need-slice-aggregate-round-2
@@ -95,14 +98,17 @@ slice-aggregate-round-2 c =
     let at-begun = c .before .before .before .before .before .before .before .before .before .before in
     let at-resume = at-begun .before .before .before .before in
     let start = at-resume .before .before .before .before .before .before .before .before in
-    got-part (resumed-at (job (start .args .grammar .now) (start .args .record .now) (length (start .args .main .now)) (start .args .second)) _ _ _ _ _ (at-begun .begun .given .1) (at-resume .resume .ensures) .started .input)
+    let j = job (start .args .grammar .now) (start .args .record .now) (length (start .args .main .now)) (start .args .second) in
+    got-part (resumed-at j _ _ _ _ _ (at-begun .begun .given .1) (at-resume .resume .ensures) .started .input)
 
 round-requires : tie.Need-round-requires
 round-requires c κs =
     let at-begun = c .before .before .before .before .before .before .before .before .before .before .before in
     let at-resume = at-begun .before .before .before .before in
     let start = at-resume .before .before .before .before .before .before .before .before in
-    readable (job (start .args .grammar .now) (start .args .record .now) (length (start .args .main .now)) (start .args .second)) (at-resume .resume .last .1 .1 .1 .1 .1 .0) (at-resume .resume .last .1 .1 .1 .1 .1 .1 .0) (start .args .main .now) _ _ (resumed-at (job (start .args .grammar .now) (start .args .record .now) (length (start .args .main .now)) (start .args .second)) _ _ _ _ _ (at-begun .begun .given .1) (at-resume .resume .ensures)) refl (search needs)
+    let j = job (start .args .grammar .now) (start .args .record .now) (length (start .args .main .now)) (start .args .second) in
+    readable j (at-resume .resume .last .1 .1 .1 .1 .1 .0) (at-resume .resume .last .1 .1 .1 .1 .1 .1 .0) (start .args .main .now) _ _
+    (resumed-at j _ _ _ _ _ (at-begun .begun .given .1) (at-resume .resume .ensures)) refl (search needs)
 
 add-count : tie.Need-add-count
 add-count c =
@@ -110,7 +116,8 @@ add-count c =
     let at-begun = at-rounds .before .before .before .before in
     let at-resume = at-begun .before .before .before .before in
     let start = at-resume .before .before .before .before .before .before .before .before in
-    omega (arith, at-rounds .rounds .ensures, resumed-at (job (start .args .grammar .now) (start .args .record .now) (length (start .args .main .now)) (start .args .second)) _ _ _ _ _ (at-begun .begun .given .1) (at-resume .resume .ensures) .keeps .head .few)
+    let j = job (start .args .grammar .now) (start .args .record .now) (length (start .args .main .now)) (start .args .second) in
+    omega (arith, at-rounds .rounds .ensures, resumed-at j _ _ _ _ _ (at-begun .begun .given .1) (at-resume .resume .ensures) .keeps .head .few)
 
 flag-of-requires : tie.Need-flag-of-requires
 flag-of-requires c κs = search needs
@@ -127,7 +134,8 @@ add-t17 c =
     let at-begun = at-rounds .before .before .before .before in
     let at-resume = at-begun .before .before .before .before in
     let start = at-resume .before .before .before .before .before .before .before .before in
-    omega (arith, at-wide .wide .ensures, at-rounds .rounds .ensures, resumed-at (job (start .args .grammar .now) (start .args .record .now) (length (start .args .main .now)) (start .args .second)) _ _ _ _ _ (at-begun .begun .given .1) (at-resume .resume .ensures) .keeps .head .few)
+    let j = job (start .args .grammar .now) (start .args .record .now) (length (start .args .main .now)) (start .args .second) in
+    omega (arith, at-wide .wide .ensures, at-rounds .rounds .ensures, resumed-at j _ _ _ _ _ (at-begun .begun .given .1) (at-resume .resume .ensures) .keeps .head .few)
 
 same-length-3 : tie.Need-same-length-3
 same-length-3 c = search needs
@@ -148,8 +156,10 @@ returns-3 c =
     let at-begun = at-answered .before .before in
     let at-resume = at-begun .before .before .before .before in
     let start = at-resume .before .before .before .before .before .before .before .before in
-    let w = resumed-at (job (start .args .grammar .now) (start .args .record .now) (length (start .args .main .now)) (start .args .second)) _ _ _ _ _ (at-begun .begun .given .1) (at-resume .resume .ensures) in
-    rounded-on (job (start .args .grammar .now) (start .args .record .now) (length (start .args .main .now)) (start .args .second)) _ _ _ _ _ w _ (at-answered .answered .ensures) _ (at-wide .wide .ensures ∙ at-rounds .rounds .ensures) (not-so (at-finished .finished .ensures) (at-if1 .if1 .left)) _ _ (at-round .round .result) _ _ (ap (λ x. x + 1) (at-rounds .rounds .ensures)) (at-flag-of .flag-of .ensures) (at-count .count .ensures) (at-round .round .ensures)
+    let j = job (start .args .grammar .now) (start .args .record .now) (length (start .args .main .now)) (start .args .second) in
+    let w = resumed-at j _ _ _ _ _ (at-begun .begun .given .1) (at-resume .resume .ensures) in
+    rounded-on j _ _ _ _ _ w _ (at-answered .answered .ensures) _ (at-wide .wide .ensures ∙ at-rounds .rounds .ensures) (not-so (at-finished .finished .ensures) (at-if1 .if1 .left)) _ _
+    (at-round .round .result) _ _ (ap (λ x. x + 1) (at-rounds .rounds .ensures)) (at-flag-of .flag-of .ensures) (at-count .count .ensures) (at-round .round .ensures)
 
 pub round-spec : {M : Type 1} → statement M
 round-spec =

@@ -43,14 +43,16 @@ returns c =
     let at-enum-told = at-wipe .before .before in
     let at-begin = at-enum-told .before .before .before .before in
     let start = at-begin .before .before .before .before .before .before .before in
-    started-refused (job (start .args .grammar .now) (start .args .record .now) (length (start .args .main .now)) (start .args .second)) _ _ _ _ _ _ _ _ (at-enum-told .enum-told .given .1) (at-why-begun .why-begun .ensures) (at-begin .begin .ensures) (at-refuse .refuse .ensures) (at-wipe .wipe .ensures)
+    let j = job (start .args .grammar .now) (start .args .record .now) (length (start .args .main .now)) (start .args .second) in
+    started-refused j _ _ _ _ _ _ _ _ (at-enum-told .enum-told .given .1) (at-why-begun .why-begun .ensures) (at-begin .begin .ensures) (at-refuse .refuse .ensures) (at-wipe .wipe .ensures)
 
 need-requires : tie.Need-need-requires
 need-requires c κs =
     let at-begun = c .before in
     let at-begin = at-begun .before .before .before .before in
     let start = at-begin .before .before .before .before .before .before .before in
-    let w = begun-at (job (start .args .grammar .now) (start .args .record .now) (length (start .args .main .now)) (start .args .second)) _ _ _ _ (at-begun .begun .given .1) (at-begin .begin .ensures) in
+    let j = job (start .args .grammar .now) (start .args .record .now) (length (start .args .main .now)) (start .args .second) in
+    let w = begun-at j _ _ _ _ (at-begun .begun .given .1) (at-begin .begin .ensures) in
     (omega (arith, w .grammar .sized, w .grammar .small), omega (arith, w .input .count, w .input .short))
 
 clear-requires : tie.Need-clear-requires
@@ -59,18 +61,20 @@ clear-requires c κs =
     let at-begun = at-need .before .before in
     let at-begin = at-begun .before .before .before .before in
     let start = at-begin .before .before .before .before .before .before .before in
-    let w = begun-at (job (start .args .grammar .now) (start .args .record .now) (length (start .args .main .now)) (start .args .second)) _ _ _ _ (at-begun .begun .given .1) (at-begin .begin .ensures) in
-    start-room (job (start .args .grammar .now) (start .args .record .now) (length (start .args .main .now)) (start .args .second)) _ _ _ w _ (at-need .need .ensures)
+    let j = job (start .args .grammar .now) (start .args .record .now) (length (start .args .main .now)) (start .args .second) in
+    let w = begun-at j _ _ _ _ (at-begun .begun .given .1) (at-begin .begin .ensures) in
+    start-room j _ _ _ w _ (at-need .need .ensures)
 
 begin-requires-2 : tie.Need-begin-requires-2
 begin-requires-2 c κs =
     let at-begun = c .before .before .before .before .before .before .before in
     let at-begin = at-begun .before .before .before .before in
     let start = at-begin .before .before .before .before .before .before .before in
-    let w = begun-at (job (start .args .grammar .now) (start .args .record .now) (length (start .args .main .now)) (start .args .second)) _ _ _ _ (at-begun .begun .given .1) (at-begin .begin .ensures) in (
+    let j = job (start .args .grammar .now) (start .args .record .now) (length (start .args .main .now)) (start .args .second) in
+    let w = begun-at j _ _ _ _ (at-begun .begun .given .1) (at-begin .begin .ensures) in (
       start .pre,
-      grammar-fits (job (start .args .grammar .now) (start .args .record .now) (length (start .args .main .now)) (start .args .second)) w,
-      input-fits (job (start .args .grammar .now) (start .args .record .now) (length (start .args .main .now)) (start .args .second)) w,
+      grammar-fits j w,
+      input-fits j w,
     )
 
 answered-requires : tie.Need-answered-requires
@@ -91,8 +95,9 @@ returns-2 c =
     let at-begun = at-need .before .before in
     let at-begin = at-begun .before .before .before .before in
     let start = at-begin .before .before .before .before .before .before .before in
-    let w = begun-at (job (start .args .grammar .now) (start .args .record .now) (length (start .args .main .now)) (start .args .second)) _ _ _ _ (at-begun .begun .given .1) (at-begin .begin .ensures) in
-    started-done (job (start .args .grammar .now) (start .args .record .now) (length (start .args .main .now)) (start .args .second)) _ _ _ _ _ _ _ w (at-answered .answered .ensures) (at-clear .clear .kept .0) _ (at-need .need .ensures) (at-clear .clear .ensures) (at-begin2 .begin2 .ensures)
+    let j = job (start .args .grammar .now) (start .args .record .now) (length (start .args .main .now)) (start .args .second) in
+    let w = begun-at j _ _ _ _ (at-begun .begun .given .1) (at-begin .begin .ensures) in
+    started-done j _ _ _ _ _ _ _ w (at-answered .answered .ensures) (at-clear .clear .kept .0) _ (at-need .need .ensures) (at-clear .clear .ensures) (at-begin2 .begin2 .ensures)
 
 pub start-spec : {M : Type 1} → statement M
 start-spec =

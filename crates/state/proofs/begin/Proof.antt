@@ -45,7 +45,8 @@ returns c =
     let at-keep2 = at-put-head .before .before .before .before in
     let at-keep = at-keep2 .before .before .before .before in
     let start = at-keep .before .before .before .before .before in
-    rw (at-put-head .put-head .ensures) (begun _ (at-keep2 .keep2 .ensures .long ∙ at-keep .keep .ensures .long ∙ start .pre .0) (start .pre .1) (start .pre .2) (at-keep .keep .ensures) (at-keep2 .keep2 .ensures))
+    rw (at-put-head .put-head .ensures) (begun _ (at-keep2 .keep2 .ensures .long ∙ at-keep .keep .ensures .long ∙ start .pre .0) (start .pre .1) (start .pre .2) (at-keep .keep .ensures)
+    (at-keep2 .keep2 .ensures))
 
 pub begin-spec : {M : Type 1} → statement M
 begin-spec =

@@ -46,7 +46,8 @@ returns c =
     let at-loop-test = at-wide-byte .before .before .before in
     let at-loop = at-loop-test .before in
     let start = at-loop .before .before .before in
-    bytes-differ (start .args .state .now) (start .args .bytes .now) (start .args .at) (at-loop .loop .i) (at-wide-byte .wide-byte .result) (at-loop-test .loop-test .taken) (at-wide-byte .wide-byte .ensures) (at-if1 .if1 .taken)
+    bytes-differ (start .args .state .now) (start .args .bytes .now) (start .args .at) (at-loop .loop .i) (at-wide-byte .wide-byte .result) (at-loop-test .loop-test .taken)
+    (at-wide-byte .wide-byte .ensures) (at-if1 .if1 .taken)
 
 add-i : tie.Need-add-i Inv-loop μ-loop
 add-i c =
@@ -65,8 +66,11 @@ loop-again c =
     let at-wide-byte = at-if1 .before in
     let at-loop-test = at-wide-byte .before .before .before in
     let at-loop = at-loop-test .before in
-    let start = at-loop .before .before .before in
-    (omega (arith, at-loop-test .loop-test .taken), upto-next (start .args .state .now) (start .args .bytes .now) (start .args .at) (at-loop .loop .i) (at-wide-byte .wide-byte .result) (at-loop .loop .inv .1) (at-wide-byte .wide-byte .ensures) (at-if1 .if1 .left))
+    let start = at-loop .before .before .before in (
+      omega (arith, at-loop-test .loop-test .taken),
+      upto-next (start .args .state .now) (start .args .bytes .now) (start .args .at) (at-loop .loop .i) (at-wide-byte .wide-byte .result)
+          (at-loop .loop .inv .1) (at-wide-byte .wide-byte .ensures) (at-if1 .if1 .left),
+    )
 
 returns-2 : tie.Need-returns-2 Inv-loop μ-loop
 returns-2 c =

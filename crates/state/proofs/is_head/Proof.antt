@@ -77,7 +77,8 @@ returns-7 c =
     let at-if3 = at-if4 .before .before in
     let at-if2 = at-if3 .before .before in
     let at-if1 = at-if2 .before in
-    head-by _ _ _ (at-wide2 .wide2 .result) (at-wide2 .wide2 .ensures) (at-if3 .if3 .left) (omega (arith, at-if4 .if4 .left)) (omega (arith, at-if5 .if5 .left)) (sym (at-wide .wide .ensures) ∙ at-if6 .if6 .left) (omega (arith, at-if1 .if1 .left)) (omega (arith, at-if2 .if2 .left))
+    head-by _ _ _ (at-wide2 .wide2 .result) (at-wide2 .wide2 .ensures) (at-if3 .if3 .left) (omega (arith, at-if4 .if4 .left)) (omega (arith, at-if5 .if5 .left))
+    (sym (at-wide .wide .ensures) ∙ at-if6 .if6 .left) (omega (arith, at-if1 .if1 .left)) (omega (arith, at-if2 .if2 .left))
 
 pub is-head-spec : {M : Type 1} → statement M
 is-head-spec =

@@ -42,7 +42,8 @@ returns-3 c =
     let at-bytes-at = at-if2 .before in
     let at-if1 = at-bytes-at .before in
     let at-is-head = at-if1 .before in
-    keeps-by (at-is-head .is-head .ensures .yes (not-false (at-is-head .is-head .result) (at-if1 .if1 .left))) (at-bytes-at .bytes-at .ensures .yes (not-false (at-bytes-at .bytes-at .result) (at-if2 .if2 .left))) (at-bytes-at2 .bytes-at2 .ensures)
+    keeps-by (at-is-head .is-head .ensures .yes (not-false (at-is-head .is-head .result) (at-if1 .if1 .left)))
+    (at-bytes-at .bytes-at .ensures .yes (not-false (at-bytes-at .bytes-at .result) (at-if2 .if2 .left))) (at-bytes-at2 .bytes-at2 .ensures)
 
 pub keeps-spec : {M : Type 1} → statement M
 keeps-spec =

@@ -34,8 +34,12 @@ loop-less c =
 loop-again : tie.Need-loop-again Inv-loop μ-loop
 loop-again c =
     let at-loop-test = c in
-    let at-loop = at-loop-test .before in
-    (omega (arith, at-loop-test .loop-test .taken, length-set (at-loop .loop .state) (at-loop .loop .x) 0), length-set (at-loop .loop .state) (at-loop .loop .x) 0 ∙ at-loop .loop .inv .1, blank-next (at-loop .loop .state) (at-loop .loop .x) (at-loop .loop .inv .2) (at-loop-test .loop-test .taken))
+    let at-loop = at-loop-test .before in (
+      omega (arith, at-loop-test .loop-test .taken, length-set (at-loop .loop .state) (at-loop .loop .x) 0),
+      length-set (at-loop .loop .state)
+          (at-loop .loop .x) 0 ∙ at-loop .loop .inv .1,
+      blank-next (at-loop .loop .state) (at-loop .loop .x) (at-loop .loop .inv .2) (at-loop-test .loop-test .taken),
+    )
 
 same-length : tie.Need-same-length Inv-loop μ-loop
 same-length c =
