@@ -1,7 +1,7 @@
 -- A read from its start on.
 use mathlib.Core.Bool.{Bool, true, false}
 use mathlib.Core.List.{List, [], _∷_}
-use mathlib.Core.Logic.{_⊎_, inl, inr, ⊎-elim}
+use mathlib.Core.Logic.{_⊎_, inl, inr, ⊎-elim, _↔_}
 use mathlib.Core.Path.{_≡_, refl, sym, ap, subst, _∙_}
 use Prim.Native.Nat.{ℕ, zero, suc, _+_, _*_, _<_, _≤_}
 use native.Mathlib.Nat.{mul-le-mul}
@@ -19,7 +19,7 @@ use Rattle.answer.specs.Answer.{Line, line, Topmost, Job, job, ofJob, GrammarTr
 use Rattle.answer.proofs.Agree.{one-grammar, one-record}
 use Rattle.rounds.specs.Rounds.{mostRounds}
 use Rattle.text.specs.Utf8.{Utf8}
-use Rattle.rounds.specs.After.{TableSays, After, Finished}
+use Rattle.rounds.specs.After.{TableSays, After, Ends, Finished}
 use Rattle.rounds.proofs.Says.{after-says}
 use Rattle.advance.specs.Round.{Rounded}
 use Rattle.advance.proofs.Turns.{flag-most}
@@ -38,12 +38,25 @@ module _ (gs rs : List ℕ) where
       let er = one-record (jobOf gs rs) (x .1) (w .1) in
       (g, r, w, (p, subst (λ (y : Grammar). Q y r) eg (subst (Q h) er q)))
 
+  -- the last round was the last one exactly if it ended the read; none before it did
+  abbrev Told : List ℕ → Grammar → Text → Type 0
+  Told S g r = (k : ℕ) → roundsOf S ≡ suc k → FinishedBy S ↔ Ends g r k
+
+  abbrev First : List ℕ → Grammar → Text → Type 0
+  First S g r = (k : ℕ) → suc k < roundsOf S → Ends g r k → ⊥
+
+  -- there are rounds to come
+  abbrev Running : List ℕ → List ℕ → Grammar → Text → Type 0
+  Running M S g r = After g r (roundsOf S) M × (roundsOf S < mostRounds g r)
+
   -- what holds after each call
   record Now (M S : List ℕ) : Type 0 where
     belongs : Belongs gs rs S
     says : ofJob (jobOf gs rs) (λ g r. TableSays g r (roundsOf S) M)
-    running : (FinishedBy S → ⊥) → ofJob (jobOf gs rs) (λ g r. After g r (roundsOf S) M × (roundsOf S < mostRounds g r))
+    running : (FinishedBy S → ⊥) → ofJob (jobOf gs rs) (Running M S)
     over : FinishedBy S → ofJob (jobOf gs rs) (λ g r. Finished g r M)
+    ends : ofJob (jobOf gs rs) (Told S)
+    first : ofJob (jobOf gs rs) (First S)
 
   -- a read takes a round at least
   some-rounds : (g : Grammar) (r : Text) → 0 < mostRounds g r
@@ -58,6 +71,8 @@ module _ (gs rs : List ℕ) where
         says = (at .0, at .1, at .2, after-says (omega (arith, b .1)) (at .3));
         running = λ _. (at .0, at .1, at .2, (at .3, omega (arith, b .1, some-rounds (at .0) (at .1))));
         over = λ f. absurd (b .2 f);
+        ends = (at .0, at .1, at .2, λ k e. absurd (omega (arith, b .1)));
+        first = (at .0, at .1, at .2, λ k l. absurd (omega (arith, b .1)));
       }
     where
       by-rounds : roundsOf S ≡ 0 → ofJob (jobOf gs rs) (λ g r. After g r 0 M) → ofJob (jobOf gs rs) (λ g r. After g r (roundsOf S) M)
@@ -82,8 +97,8 @@ module _ (gs rs : List ℕ) where
   module _ {M S M' S' : List ℕ} (now : Now M S) (open-yet : FinishedBy S → ⊥) where
     -- with what `last` tells
     next : (last : Bool) → Counted S S' (roundsOf S + 1) (flag last) → (g : Grammar) (r : Text) → GrammarTree gs g × Utf8 rs r → After g r (roundsOf S) M → roundsOf S < mostRounds g r
-        → Rounded g r (roundsOf S) M M' last → Now M' S'
-    next last c g r w a l t =
+        → Told S g r → First S g r → Rounded g r (roundsOf S) M M' last → Now M' S'
+    next last c g r w a l told first t =
         let k : roundsOf S' ≡ suc (roundsOf S) = omega (arith, c .rounds-are) in
         record {
           belongs = record {
@@ -95,8 +110,27 @@ module _ (gs rs : List ℕ) where
           says = (g, r, w, subst (λ (x : ℕ). TableSays g r x M') (sym k) (t .says l a));
           running = λ z. (g, r, w, on last c t z k);
           over = λ f. (g, r, w, t .ends l a (finishes last c f));
+          ends = (
+            g,
+            r,
+            w,
+            λ x e. (let y : x ≡ roundsOf S = omega arith in
+                subst (λ (z : ℕ). FinishedBy S' ↔ Ends g r z) (sym y) (λ f. t .tells l a .yes (finishes last c f), λ o. says-last last c (t .tells l a .no o))),
+          );
+          first = (
+            g,
+            r,
+            w,
+            λ x b. elim (ℕ-discrete (suc x) (roundsOf S)) as (λ _. Ends g r x → ⊥) [
+              | yes e ↦ (λ o. open-yet (told x (sym e) .1 o))
+              | no e ↦ first x (omega arith)
+            ],
+          );
         }
       where
+        says-last : (last : Bool) → Counted S S' (roundsOf S + 1) (flag last) → last ≡ true → FinishedBy S'
+        says-last last c e = c .told ∙ ap flag e
+
         finishes : (last : Bool) → Counted S S' (roundsOf S + 1) (flag last) → FinishedBy S' → last ≡ true
         finishes true c f = refl
         finishes false c f = absurd (omega (arith, c .told))
@@ -113,10 +147,12 @@ module _ (gs rs : List ℕ) where
         )
 
     counted-now : (second : ℕ) (a : Progress) → Counts (job gs rs (length M) second) M S a M' S' → Now M' S'
-    counted-now second a c = go (both (λ g r. After g r (roundsOf S) M × (roundsOf S < mostRounds g r)) (λ g r. Rounded g r (roundsOf S) M M' (c .last)) (now .running open-yet) (c .table))
+    counted-now second a c =
+        go (both (λ g r. Told S g r × First S g r) (λ g r. Running M S g r × Rounded g r (roundsOf S) M M' (c .last)) (both (Told S) (First S) (now .ends) (now .first))
+        (both (Running M S) (λ g r. Rounded g r (roundsOf S) M M' (c .last)) (now .running open-yet) (c .table)))
       where
-        go : ofJob (jobOf gs rs) (λ g r. (After g r (roundsOf S) M × (roundsOf S < mostRounds g r)) × Rounded g r (roundsOf S) M M' (c .last)) → Now M' S'
-        go (g, r, w, ((a, l), t)) = next (c .last) (c .state) g r w a l t
+        go : ofJob (jobOf gs rs) (λ g r. (Told S g r × First S g r) × (Running M S g r × Rounded g r (roundsOf S) M M' (c .last))) → Now M' S'
+        go (g, r, w, ((told, first), ((a, l), t))) = next (c .last) (c .state) g r w a l told first t
 
   round-now : {M S M' S' : List ℕ} (second : ℕ) (a : Progress) → Now M S → RoundedAs (job gs rs (length M) second) M S a M' S' → Now M' S'
   round-now {M} {S} {M'} {S'} second a now w = elim (ℕ-discrete (a .answer .number) 0) as (λ _. Now M' S') [
@@ -176,6 +212,8 @@ laws gs rs M S read =
     let now = now-of gs rs read in
     record {
       says = now .says;
+      ends = now .ends;
+      first = now .first;
       fewer = λ f. (let x = now .running f in (x .0, x .1, x .2, x .3 .1));
       finished = λ U second old a new f e room. at-end gs rs U now second old a new room f e;
       unfinished = λ U second old a new f e room. before-end gs rs U now second old a new room f e;

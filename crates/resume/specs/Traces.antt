@@ -1,12 +1,13 @@
 -- A read in rounds from its start on, "where each call after the start is lent the table and state just as that same read's last call left them".
 use mathlib.Core.Path.{_≡_}
+use mathlib.Core.Logic.{_↔_}
 use mathlib.Core.List.{List}
-use Prim.Native.Nat.{ℕ, _<_}
+use Prim.Native.Nat.{ℕ, suc, _<_}
 use lib.ListN.{length}
 use Rattle.answer.specs.Answer.{Job, job, ofJob, Reads, Converts}
 use Rattle.answer.specs.Answer as defined
 use Rattle.rounds.specs.Rounds.{mostRounds}
-use Rattle.rounds.specs.After.{TableSays, Finished}
+use Rattle.rounds.specs.After.{TableSays, Ends}
 use Rattle.state.specs.State.{roundsOf, FinishedBy, Keeps}
 use Rattle.outcome.specs.Outcome.{shown}
 use Rattle.resume.specs.declared.Progress.{Progress}
@@ -25,6 +26,9 @@ pub record Laws (gs rs M S : List ℕ) (read : Underway gs rs M S) : Type 1 wher
   -- "After k rounds from a fresh start the main table alone … says of every nonterminal and every stretch exactly whether it has a derivation
   -- of height at most k."
   pub says : ofJob (jobOf gs rs) (λ g r. TableSays g r (roundsOf S) M)
+  -- "a read is finished after the first round that adds no nonterminal on any stretch, or after round N × (n+1)": exactly then
+  pub ends : ofJob (jobOf gs rs) (λ g r. (k : ℕ) → roundsOf S ≡ suc k → FinishedBy S ↔ Ends g r k)
+  pub first : ofJob (jobOf gs rs) (λ g r. (k : ℕ) → suc k < roundsOf S → Ends g r k → ⊥)
   -- one that is not finished had fewer than N × (n+1) rounds
   pub fewer : (FinishedBy S → ⊥) → ofJob (jobOf gs rs) (λ g r. roundsOf S < mostRounds g r)
   -- "Demand 3 holds of a finished read": it never answers 27, and what it answers where there is room is what the uncut read answers

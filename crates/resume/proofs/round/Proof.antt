@@ -124,7 +124,8 @@ flag-of-requires c κs = search needs
 
 count-requires : tie.Need-count-requires
 count-requires c κs =
-    let start = c .before .before .before .before .before .before .before .before .before .before .before .before .before .before .before .before .before .before .before .before .before .before .before .before .before .before .before .before in
+    let middle = c .before .before .before .before .before .before .before .before .before .before .before .before .before .before in
+    let start = middle .before .before .before .before .before .before .before .before .before .before .before .before .before .before in
     start .pre
 
 add-t17 : tie.Need-add-t17
