@@ -1,6 +1,7 @@
 /*
  * Invisible XML 1.0 for short records: check a grammar, tidy it, read a record,
- * convert a record to XML, and tell the category of a character.
+ * at once or in rounds, convert a record to XML, and tell the category of a
+ * character.
  *
  * Link with libcalls.a, which `rt staticlib calls` writes to
  * target/staticlib/. It is for x86-64 Linux and needs no other library. The
@@ -118,7 +119,9 @@ typedef struct {
  * The numbers of an answer, in the order in which they are judged: the first
  * that applies is given. ixml_check gives 0 to 11 and 24; ixml_tidy these, 28
  * and 23; ixml_read and ixml_read_plain 0 to 16, 24, 29 and 23; ixml_convert any
- * but 25 and 28; ixml_judge any but 16, 28 and 29.
+ * but 25 to 28; ixml_judge any but 16 and 26 to 29; ixml_start 0 to 15 and 24;
+ * ixml_round 0, 27 and 15; ixml_finish_read 27, 15, 26, 16, 29, 23 and 0;
+ * ixml_finish_convert 27, 15, 26 and what ixml_convert gives from 16 on.
  *
  * On every refusal each cell of the result buffer is as it was.
  */
@@ -161,8 +164,15 @@ enum {
     IXML_RECORD_CHARACTER = 13,
     /* The record has over 200 characters. */
     IXML_RECORD_TOO_LONG = 14,
+    /* The state, or at the end the main table, is not that of this read: lent
+       with another grammar or record, left by a start that was refused, or
+       altered in between (ixml_round and the ends of a read alone). */
+    IXML_OTHER_STATE = 27,
     /* The main table, the scratch or the grammar table is too short. */
     IXML_TABLE_TOO_SHORT = 15,
+    /* The read is not finished: it needs more rounds (the ends of a read
+       alone). */
+    IXML_NOT_YET = 26,
     /* The grammar does not derive the record: there is no reading. */
     IXML_NO_READING = 16,
     /* The list of numbers, used to its last, is no derivation of the record
@@ -258,6 +268,103 @@ ixml_answer ixml_judge(const uint8_t *grammar, size_t grammar_length,
                        size_t grammar_table_length,
                        uint64_t *scratch, size_t scratch_length,
                        uint8_t *result, size_t result_length);
+
+/* ---- Reading in rounds ----------------------------------------------- */
+
+/*
+ * A read that the caller counts out, to do something else in between: start it,
+ * do rounds until it is finished, and end it as numbers or as XML.
+ *
+ *     static uint32_t state[IXML_STATE];
+ *     ixml_progress p = ixml_start(GRAMMAR, RECORD, MAIN, SECOND, state);
+ *     while (p.answer.number == 0 && state[IXML_STATE_FINISHED] == 0)
+ *         p = ixml_round(GRAMMAR, RECORD, MAIN, SECOND, state);
+ *     if (p.answer.number == 0)
+ *         p = ixml_finish_read(GRAMMAR, RECORD, MAIN, SECOND, state, RESULT);
+ *
+ * where each name in capitals stands for a pointer and a length. The state is
+ * one array of fixed length, lent without it. State and main table are the
+ * caller's between the calls, one of each for a read; the grammar table is
+ * known by its length alone and may be shared. Any number of reads may go on at
+ * once.
+ *
+ * After k rounds the main table says of each rule, written or made from a
+ * repetition or a bracket, and each stretch of the record exactly whether it has
+ * a derivation of height at most k: the cell of the rule holds a number below
+ * 2^32 - 1 if it has, and 2^32 - 1 if not. The cell of position p on the stretch
+ * from i to j of n characters is number
+ * p * (n + 1) * (n + 2) / 2 + j * (j + 1) / 2 + i, and a rule's position is that
+ * of the end of its last alternative; docs/DESIGN.md has the order of positions.
+ *
+ * A read is finished after the first round that adds no rule on any stretch, or
+ * after round N * (n + 1) for N rules, written and made. A round after that
+ * changes nothing and is not counted.
+ *
+ * All of this holds where each call after the start is lent the table and the
+ * state just as that same read's last call left them. Whatever else is lent, a
+ * call ends with an answer, and an end of a read never gives another result than
+ * the uncut call: 27 is given where the main table is not a finished one.
+ */
+
+/* Length of the state. */
+#define IXML_STATE 4904
+/* The number of the state that is 1 where the read is finished, else 0. */
+#define IXML_STATE_FINISHED 2
+
+/* What these calls answer. */
+typedef struct {
+    ixml_answer answer;
+    /* The rounds done; 0 with a refused start, with 27 and with 15. */
+    size_t rounds;
+} ixml_progress;
+
+/*
+ * Starts a read. Refused exactly where 1 to 15 or 24 stops ixml_read, with that
+ * answer; the state is then one of zeros, which no later call takes, and the main
+ * table as it was. Otherwise 0, with length 0 and no ambiguous mark: the first
+ * cells of the main table, as many as the job needs, are cleared.
+ */
+ixml_progress ixml_start(const uint8_t *grammar, size_t grammar_length,
+                         const uint8_t *record, size_t record_length,
+                         uint32_t *main_table, size_t main_table_length,
+                         const uint32_t *grammar_table,
+                         size_t grammar_table_length, uint32_t *state);
+
+/*
+ * Does one round. 27, then 15, leave table and state as they were; otherwise 0,
+ * with length 0 and no ambiguous mark.
+ */
+ixml_progress ixml_round(const uint8_t *grammar, size_t grammar_length,
+                         const uint8_t *record, size_t record_length,
+                         uint32_t *main_table, size_t main_table_length,
+                         const uint32_t *grammar_table,
+                         size_t grammar_table_length, uint32_t *state);
+
+/*
+ * End a read that is finished: 27, then 15, then 26, and otherwise the answer
+ * and the result of ixml_read and of ixml_convert. Neither table nor state is
+ * written, so a read can be ended more than once and in both ways.
+ */
+ixml_progress ixml_finish_read(const uint8_t *grammar, size_t grammar_length,
+                               const uint8_t *record, size_t record_length,
+                               const uint32_t *main_table,
+                               size_t main_table_length,
+                               const uint32_t *grammar_table,
+                               size_t grammar_table_length,
+                               const uint32_t *state,
+                               uint32_t *result, size_t result_length);
+
+ixml_progress ixml_finish_convert(const uint8_t *grammar,
+                                  size_t grammar_length,
+                                  const uint8_t *record, size_t record_length,
+                                  const uint32_t *main_table,
+                                  size_t main_table_length,
+                                  const uint32_t *grammar_table,
+                                  size_t grammar_table_length,
+                                  const uint32_t *state,
+                                  uint8_t *result, size_t result_length);
+
+/* ---- Categories ------------------------------------------------------ */
 
 /*
  * Unicode's general category of a code point, as its place in this list:

@@ -3,10 +3,11 @@
 
 use std::fmt::Debug;
 
-use ixml::limits::{main_table, GRAMMAR_TABLE, READING_NUMBERS, RECORD_CHARACTERS};
+use ixml::limits::{main_table, GRAMMAR_TABLE, READING_NUMBERS, RECORD_CHARACTERS, STATE};
 use ixml::Answer;
 use ixml_yardstick::gen::{self, Random, Style};
 
+use crate::cut::Lengths;
 use crate::pages::Pages;
 
 /// Cells of a result buffer, at most.
@@ -15,17 +16,22 @@ const RESULT: usize = 1 << 16;
 /// The longest grammar and record that are made up, in bytes.
 const TEXT: usize = 1 << 13;
 
+/// Records that the plain engine is given have fewer bytes, and so have those that
+/// are read in rounds.
+const SHORT: usize = 30;
+
 /// What did not agree, in words.
-type Difference = String;
+pub type Difference = String;
 
 /// Memory for calls.
 pub struct Bench {
     grammar: Pages<u8>,
     record: Pages<u8>,
-    main_table: Pages<u32>,
-    grammar_table: Pages<u32>,
-    numbers: Pages<u32>,
-    bytes: Pages<u8>,
+    pub main_table: Pages<u32>,
+    pub grammar_table: Pages<u32>,
+    pub state: Pages<u32>,
+    pub numbers: Pages<u32>,
+    pub bytes: Pages<u8>,
 }
 
 impl Bench {
@@ -35,6 +41,7 @@ impl Bench {
             record: Pages::new(TEXT),
             main_table: Pages::new(ixml::limits::MAIN_TABLE),
             grammar_table: Pages::new(GRAMMAR_TABLE + 1),
+            state: Pages::new(STATE),
             numbers: Pages::new(READING_NUMBERS + 1),
             bytes: Pages::new(RESULT),
         }
@@ -44,12 +51,22 @@ impl Bench {
     pub fn job(&mut self, random: &mut Random) -> Result<u64, Difference> {
         let (grammar, record) = texts(random);
         let at_end = random.chance(75);
-        let grammar_text = copy(&mut self.grammar, &grammar, at_end);
-        let record_text = copy(&mut self.record, &record, at_end);
         let says = |call: &str, what: &dyn Debug| {
             let (grammar, record) = (grammar.escape_ascii(), record.escape_ascii());
             format!("{call}: grammar {grammar} record {record}\n{what:?}")
         };
+        if record.len() < SHORT && random.chance(20) {
+            let lengths = Lengths {
+                main: main_length(random, &grammar, &record),
+                table: table_length(random),
+                numbers: near(random, 30, READING_NUMBERS),
+                bytes: near(random, 100, RESULT),
+            };
+            let cut = self.cut(&grammar, &record, lengths, random);
+            return cut.map_err(|what| says("cut", &(what, lengths)));
+        }
+        let grammar_text = copy(&mut self.grammar, &grammar, at_end);
+        let record_text = copy(&mut self.record, &record, at_end);
 
         let checked = ixml::check(grammar_text);
         let expected = Answer::from(ixml_yardstick::check(&grammar));
@@ -67,15 +84,10 @@ impl Bench {
         }
 
         let main = main_length(random, &grammar, &record);
-        let table = match random.below(20) {
-            0 => GRAMMAR_TABLE - 1,
-            1 => 0,
-            2 => GRAMMAR_TABLE + 1,
-            _ => GRAMMAR_TABLE,
-        };
+        let table = table_length(random);
         let main_table = dirty(&mut self.main_table, main, at_end, random);
         let grammar_table = dirty(&mut self.grammar_table, table, at_end, random);
-        let plain = random.chance(10) && record.len() < 30;
+        let plain = random.chance(10) && record.len() < SHORT;
         let room = near(random, 30, READING_NUMBERS);
         let numbers = dirty(&mut self.numbers, room, at_end, random);
         let mut like = numbers.to_vec();
@@ -110,6 +122,16 @@ impl Bench {
             _ => need,
         }
     }
+
+/// Just enough mostly.
+fn table_length(random: &mut Random) -> usize {
+    match random.below(20) {
+        0 => GRAMMAR_TABLE - 1,
+        1 => 0,
+        2 => GRAMMAR_TABLE + 1,
+        _ => GRAMMAR_TABLE,
+    }
+}
 
 /// The size of an accepted grammar, as the yardstick has it.
 fn size(grammar: &[u8]) -> Option<usize> {
@@ -168,7 +190,7 @@ fn copy<'a>(pages: &'a mut Pages<u8>, text: &[u8], at_end: bool) -> &'a [u8] {
     cells
 }
 
-trait Cell: Copy {
+pub trait Cell: Copy {
     fn of(number: u64) -> Self;
 }
 
@@ -186,7 +208,7 @@ impl Cell for u32 {
 
 /// Cells that hold anything. Of a long table only the first, and some others, are
 /// made new: the rest holds what earlier jobs left.
-fn dirty<'a, T: Cell>(
+pub fn dirty<'a, T: Cell>(
     pages: &'a mut Pages<T>,
     length: usize,
     at_end: bool,

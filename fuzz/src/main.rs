@@ -8,6 +8,7 @@
 //! first difference is printed, with the seed that shows it again, and ends the
 //! run with status 1.
 
+mod cut;
 mod jobs;
 mod pages;
 

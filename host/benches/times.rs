@@ -1,10 +1,12 @@
 //! Times of the library's calls beside the yardstick's, as Markdown tables.
 //!
 //! Arguments choose among the tables: `check`, `read`, `hard`, `fails`, `dense`,
-//! `convert`, `write`, `judge`.
+//! `convert`, `write`, `judge`, `rounds`.
 
 #[path = "../tests/common/mod.rs"]
 mod common;
+#[path = "tables/rounds.rs"]
+mod rounds;
 
 use std::hint::black_box;
 use std::time::Duration;
@@ -14,7 +16,7 @@ use ixml::limits::{GRAMMAR_TABLE, MAIN_TABLE, READING_NUMBERS, RECORD_CHARACTERS
 use ixml::{Answer, Error};
 use ixml_yardstick::gen::{self, Random};
 
-const TABLES: [(&str, fn()); 8] = [
+const TABLES: [(&str, fn()); 9] = [
     ("check", check_table),
     ("read", read_table),
     ("hard", hard_table),
@@ -23,6 +25,7 @@ const TABLES: [(&str, fn()); 8] = [
     ("convert", convert_table),
     ("write", write_table),
     ("judge", judge_table),
+    ("rounds", rounds::rounds_table),
 ];
 
 fn main() {
@@ -385,6 +388,10 @@ fn fails_table() {
 /// A random grammar whose symbols are mostly nonterminals.
 fn dense_grammar(random: &mut Random) -> String {
     let rules = 2 + random.below(20);
+    dense_rules(random, rules)
+}
+
+fn dense_rules(random: &mut Random, rules: usize) -> String {
     let mut text = String::new();
     for rule in 0..rules {
         let alternatives: Vec<String> = (0..1 + random.below(6))

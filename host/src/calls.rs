@@ -137,7 +137,7 @@ pub fn read_plain(
     }
 }
 
-/// Converts a record to XML: all numbers but 28.
+/// Converts a record to XML: all numbers but 25 to 28.
 ///
 /// With 0 the first bytes of `result`, as many as the answer's length, are the
 /// XML of the chosen reading, in UTF-8. All other bytes of `result`, and with a

@@ -101,7 +101,9 @@ errors! {
     RecordNotUtf8 { byte: usize = byte, quote: Quote = unquoted } = 12, "the record is not UTF-8";
     RecordCharacter { byte: usize = byte, quote: Quote = unquoted } = 13, "the record holds a character outside the alphabet (U+0000 to U+017F, U+0300 to U+036F, U+203F, U+2040)";
     RecordTooLong = 14, "the record has over 200 characters";
+    OtherState = 27, "the state or the main table is not that of this read: another grammar or record, a start that was refused, or something altered in between";
     TableTooShort = 15, "the main table, the scratch or the grammar table is too short";
+    NotYet = 26, "the read is not finished: it needs more rounds";
     NoReading { version_mismatch: bool = version, place: usize = fault } = 16, "the grammar does not derive the record";
     NoDerivation = 25, "the list of numbers is no derivation of the record by the grammar";
     ReadingTooLong = 29, "the chosen reading has over 4,096 numbers";

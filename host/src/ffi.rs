@@ -3,7 +3,7 @@
 //! Each slice is a pointer and a length. The functions at the crate's root are
 //! the same calls, safe for every caller.
 
-use crate::Answer;
+use crate::{Answer, Progress, State};
 
 /// The answer of a gate: 0 and a verdict (1 inside, 2 swapped, 3 suspect), or
 /// the number of a refusal and 0.
@@ -107,4 +107,52 @@ extern "C" {
         result: *mut u8,
         result_length: usize,
     ) -> Answer;
+    pub fn ixml_start(
+        grammar: *const u8,
+        grammar_length: usize,
+        record: *const u8,
+        record_length: usize,
+        main_table: *mut u32,
+        main_table_length: usize,
+        grammar_table: *const u32,
+        grammar_table_length: usize,
+        state: *mut State,
+    ) -> Progress;
+    pub fn ixml_round(
+        grammar: *const u8,
+        grammar_length: usize,
+        record: *const u8,
+        record_length: usize,
+        main_table: *mut u32,
+        main_table_length: usize,
+        grammar_table: *const u32,
+        grammar_table_length: usize,
+        state: *mut State,
+    ) -> Progress;
+    pub fn ixml_finish_read(
+        grammar: *const u8,
+        grammar_length: usize,
+        record: *const u8,
+        record_length: usize,
+        main_table: *const u32,
+        main_table_length: usize,
+        grammar_table: *const u32,
+        grammar_table_length: usize,
+        state: *const State,
+        result: *mut u32,
+        result_length: usize,
+    ) -> Progress;
+    pub fn ixml_finish_convert(
+        grammar: *const u8,
+        grammar_length: usize,
+        record: *const u8,
+        record_length: usize,
+        main_table: *const u32,
+        main_table_length: usize,
+        grammar_table: *const u32,
+        grammar_table_length: usize,
+        state: *const State,
+        result: *mut u8,
+        result_length: usize,
+    ) -> Progress;
 }

@@ -17,6 +17,9 @@
 //! [`Answer::ok`] turns it into a `Result` whose [`Error`] has a sentence for each
 //! refusal, and shows where a grammar is at fault ([`Error::shown_in`]).
 //!
+//! [`Rounds`] reads a record in rounds, so that a program can do other things in
+//! between; [`rounds`] has the calls that it is made of.
+//!
 //! [`Gate`] judges a position by the texts of its two attributes, and [`number`]
 //! gives the value of such a text.
 //!
@@ -32,6 +35,7 @@ pub mod files;
 mod gate;
 pub mod limits;
 mod reader;
+pub mod rounds;
 mod second;
 mod spot;
 
@@ -42,5 +46,6 @@ pub use error::{Error, NotRefused, Quote};
 pub use fault::Fault;
 pub use gate::{number, Gate, GateError, Latitude, Longitude, Verdict};
 pub use reader::{Converted, Engine, Reader, Reading};
+pub use rounds::{Progress, Round, Rounds, State};
 pub use second::{second_reading, TwoReadings};
 pub use spot::Spot;

@@ -16,6 +16,9 @@ pub const READING_NUMBERS: usize = 4096;
 /// Length of the grammar table, the same for every job.
 pub const GRAMMAR_TABLE: usize = 16_384;
 
+/// Length of the state of a read in rounds, the same for every job.
+pub const STATE: usize = 4904;
+
 /// Length of a main table that is enough for every job.
 pub const MAIN_TABLE: usize = main_table(GRAMMAR_SIZE, RECORD_CHARACTERS);
 
@@ -48,7 +51,7 @@ pub fn main_table_for(record: &[u8]) -> usize {
 }
 
 /// How many characters a text in UTF-8 has: its bytes that continue none.
-fn characters(text: &[u8]) -> usize {
+pub(crate) fn characters(text: &[u8]) -> usize {
     let begins = |byte: &&u8| **byte & 0xC0 != 0x80;
     text.iter().filter(begins).count()
 }

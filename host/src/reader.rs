@@ -138,7 +138,7 @@ impl Reader {
             convert(grammar, record, main_table, grammar_table, xml)
         })
         .map_err(|error| error.quoting(grammar, record))?;
-        Ok(self.converted(answer))
+        Ok(converted(&self.xml, answer))
     }
 
     /// Judges a list of numbers, whoever made it: the XML of the derivation of
@@ -169,22 +169,22 @@ impl Reader {
             judge(grammar, record, list, grammar_table, scratch, xml)
         })
         .map_err(|error| error.quoting(grammar, record))?;
-        Ok(self.converted(answer))
-    }
-
-    /// What an answer says of the XML that it counts.
-    fn converted(&self, answer: Answer) -> Converted {
-        let xml = self.xml[..answer.length].to_vec();
-        Converted {
-            xml: String::from_utf8(xml).expect("the library writes UTF-8"),
-            ambiguous: answer.ambiguous,
-            version_mismatch: answer.version,
-        }
+        Ok(converted(&self.xml, answer))
     }
 
     fn provide_tables(&mut self, record: &[u8]) {
         provide(&mut self.main_table, main_table_for(record));
         provide(&mut self.grammar_table, GRAMMAR_TABLE);
+    }
+}
+
+/// What an answer says of the XML that it counts.
+pub(crate) fn converted(xml: &[u8], answer: Answer) -> Converted {
+    let xml = xml[..answer.length].to_vec();
+    Converted {
+        xml: String::from_utf8(xml).expect("the library writes UTF-8"),
+        ambiguous: answer.ambiguous,
+        version_mismatch: answer.version,
     }
 }
 
@@ -200,7 +200,7 @@ fn provide<T: Clone + Default>(buffer: &mut Vec<T>, length: usize) {
 const XML_BYTES: usize = 1 << 16;
 
 /// Calls with a buffer, and again with a longer one while the result is too long.
-fn with_room(
+pub(crate) fn with_room(
     xml: &mut Vec<u8>,
     mut call: impl FnMut(&mut [u8]) -> Answer,
 ) -> Result<Answer, Error> {

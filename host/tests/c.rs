@@ -4,7 +4,7 @@ use std::path::{Path, PathBuf};
 use std::process::{Command, Output};
 
 use ixml::ffi::{GateAnswer, NumberAnswer};
-use ixml::{limits, Answer, Error, GateError};
+use ixml::{limits, Answer, Error, GateError, Progress};
 
 const HOST: &str = env!("CARGO_MANIFEST_DIR");
 
@@ -67,6 +67,12 @@ fn program(assert: &str) -> String {
         "IXML_MAIN_TABLE_LENGTH(2, 1) == 6".to_string(),
         format!("IXML_CATEGORY_NOT_KNOWN == {}", ixml::Category::ALL.len()),
         format!("sizeof(ixml_answer) == {}", size_of::<Answer>()),
+        format!("sizeof(ixml_progress) == {}", size_of::<Progress>()),
+        format!(
+            "offsetof(ixml_progress, rounds) == {}",
+            std::mem::offset_of!(Progress, rounds)
+        ),
+        format!("IXML_STATE == {}", limits::STATE),
         "IXML_ANSWERED == 0".to_string(),
     ];
     let fields = [
@@ -76,7 +82,7 @@ fn program(assert: &str) -> String {
         ("version", std::mem::offset_of!(Answer, version)),
     ];
     facts.extend(fields.map(|(name, place)| format!("offsetof(ixml_answer, {name}) == {place}")));
-    for number in (1..=25).chain([28, 29]) {
+    for number in 1..=29 {
         facts.push(format!("IXML_{} == {number}", name(number)));
     }
     let facts: String = facts
@@ -119,6 +125,30 @@ fn program(assert: &str) -> String {
                  grammar_table, IXML_GRAMMAR_TABLE, scratch, 4, xml, 16);\n\
              if (judged.number != IXML_RESULT_TOO_LONG || xml[0] != 0) return 10;\n\
              if (declined.number != IXML_NO_DERIVATION || declined.version) return 11;\n\
+             static uint32_t state[IXML_STATE];\n\
+             ixml_progress p = ixml_start(text, sizeof twice - 1, record, 1, main_table,\n\
+                 sizeof main_table / sizeof *main_table, grammar_table, IXML_GRAMMAR_TABLE, state);\n\
+             while (p.answer.number == 0 && state[IXML_STATE_FINISHED] == 0) {{\n\
+                 if (!p.answer.version || p.answer.ambiguous) return 12;\n\
+                 p = ixml_finish_read(text, sizeof twice - 1, record, 1, main_table,\n\
+                     sizeof main_table / sizeof *main_table, grammar_table,\n\
+                     IXML_GRAMMAR_TABLE, state, numbers, 3);\n\
+                 if (p.answer.number != IXML_NOT_YET || p.rounds != state[1]) return 13;\n\
+                 p = ixml_round(text, sizeof twice - 1, record, 1, main_table,\n\
+                     sizeof main_table / sizeof *main_table, grammar_table,\n\
+                     IXML_GRAMMAR_TABLE, state);\n\
+             }}\n\
+             if (p.answer.number != 0 || p.rounds != 2) return 14;\n\
+             numbers[0] = 7;\n\
+             p = ixml_finish_read(text, sizeof twice - 1, record, 1, main_table,\n\
+                 sizeof main_table / sizeof *main_table, grammar_table,\n\
+                 IXML_GRAMMAR_TABLE, state, numbers, 3);\n\
+             if (p.answer.number != 0 || p.rounds != 2 || !p.answer.ambiguous) return 15;\n\
+             if (numbers[0] != 1 || numbers[1] != 7) return 16;\n\
+             p = ixml_finish_convert(text, sizeof twice - 1, record, 0, main_table,\n\
+                 sizeof main_table / sizeof *main_table, grammar_table,\n\
+                 IXML_GRAMMAR_TABLE, state, xml, 16);\n\
+             if (p.answer.number != IXML_OTHER_STATE || xml[0] != 0) return 17;\n\
              const uint8_t unruled[5] = {{'a', ':', ' ', 'b', '.'}};\n\
              const ixml_answer refused = ixml_convert(unruled, 5, record, 1, main_table, 1,\n\
                  grammar_table, IXML_GRAMMAR_TABLE, xml, 16);\n\

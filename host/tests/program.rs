@@ -284,7 +284,7 @@ fn sentences() {
     numbers.sort_unstable();
     numbers.dedup();
     assert_eq!(numbers.len(), table.lines().count());
-    for number in (1..=25).chain(28..=32) {
+    for number in 1..=32 {
         assert!(numbers.contains(&number), "{number}");
     }
 }

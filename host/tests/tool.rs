@@ -86,6 +86,16 @@ fn vectors_of_judge() {
 }
 
 #[test]
+fn vectors_of_reads_in_rounds() {
+    let cut = vectors::lines_of("cut", 7);
+    assert!(cut.len() > 500);
+    run_lines(cut);
+    let rounds = vectors::lines_of("rounds", 3);
+    assert!(rounds.len() > 90);
+    run_lines(rounds);
+}
+
+#[test]
 fn vectors_of_gates() {
     let lines = vectors::lines_of("gate", 5);
     assert!(lines.len() > 800);

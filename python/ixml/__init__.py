@@ -39,6 +39,7 @@ __all__ = [
     "NoReading",
     "Reading",
     "Refused",
+    "Rounds",
     "Verdict",
     "category",
     "check",
@@ -219,6 +220,59 @@ def _in_room(call: Callable[[int], Tuple[_library.Answer, bytes]]) -> Converted:
         answer, xml = call(room)
     length = _settled(answer).length
     return Converted(xml[:length].decode("utf-8"), answer.ambiguous, answer.version)
+
+
+class Rounds:
+    """A record read in rounds, so that a program can do other things in between: an
+    iterator that does one round at each step, gives how many were done and ends when
+    the read is finished. To cancel it, stop asking.
+
+    >>> rounds = Rounds("a: 'x'*.", "xx")
+    >>> list(rounds)
+    [1, 2, 3, 4, 5]
+    >>> rounds.read().numbers
+    (0, 0, 0, 1)
+    >>> rounds.convert().xml
+    '<a>xx</a>'
+
+    Asked too early it is refused as 26:
+
+    >>> Rounds("a: 'x'.", "x").read()
+    Traceback (most recent call last):
+        ...
+    ixml.Refused: refused 26: the read is not finished: it needs more rounds
+    """
+
+    def __init__(self, grammar: Text, record: Text) -> None:
+        record = _encoded(record)
+        table = _library.GRAMMAR_TABLE
+        self._cut = _library.Cut(_encoded(grammar), record, _room(record), table)
+        _settled(self._cut.started.answer)
+
+    def __iter__(self) -> "Rounds":
+        return self
+
+    def __next__(self) -> int:
+        if self._cut.is_finished():
+            raise StopIteration
+        progress = self._cut.round()
+        _settled(progress.answer)
+        return progress.rounds
+
+    def read(self) -> Reading:
+        """The chosen reading, once the read is finished."""
+        progress, numbers = self._cut.read(_library.READING_NUMBERS)
+        answer = _settled(progress.answer)
+        return Reading(tuple(numbers[: answer.length]), answer.ambiguous, answer.version)
+
+    def convert(self) -> Converted:
+        """The record as XML, once the read is finished."""
+
+        def end(room: int) -> Tuple[_library.Answer, bytes]:
+            progress, xml = self._cut.convert(room)
+            return progress.answer, xml
+
+        return _in_room(end)
 
 
 def category(character: Union[str, int]) -> Optional[str]:

@@ -17,6 +17,8 @@ GRAMMAR_SIZE = 512
 RECORD_CHARACTERS = 200
 READING_NUMBERS = 4_096
 GRAMMAR_BYTES = 4_096
+STATE = 4_904
+_FINISHED = 2
 
 
 class Places(Structure):
@@ -43,6 +45,14 @@ class Answer(Structure):
     ambiguous: bool
     version: bool
     places: Places
+
+
+class Progress(Structure):
+    """What a call of a read in rounds answers: the common answer, and the rounds done."""
+
+    _fields_ = [("answer", Answer), ("rounds", c_size_t)]
+    answer: Answer
+    rounds: int
 
 
 class GateAnswer(Structure):
@@ -93,6 +103,11 @@ _read_plain = _declare("ixml_read_plain", _JOB + _NUMBERS, Answer)
 _convert = _declare("ixml_convert", _JOB + _BYTES, Answer)
 _SCRATCH = [POINTER(c_uint64), c_size_t]
 _judge = _declare("ixml_judge", _BYTES + _BYTES + _NUMBERS + _NUMBERS + _SCRATCH + _BYTES, Answer)
+_STATE = [POINTER(c_uint32)]
+_start = _declare("ixml_start", _JOB + _STATE, Progress)
+_round = _declare("ixml_round", _JOB + _STATE, Progress)
+_finish_read = _declare("ixml_finish_read", _JOB + _STATE + _NUMBERS, Progress)
+_finish_convert = _declare("ixml_finish_convert", _JOB + _STATE + _BYTES, Progress)
 _box = _declare("ixml_gate_box", [c_double] * 4 + _BYTES + _BYTES, GateAnswer)
 _band = _declare("ixml_gate_band", [c_double] * 2 + _BYTES + _BYTES, GateAnswer)
 _anywhere = _declare("ixml_gate_anywhere", _BYTES + _BYTES, GateAnswer)
@@ -179,6 +194,37 @@ def judge(
     job = [_bytes(grammar), len(grammar), _bytes(record), len(record), entries, len(numbers)]
     answer = _judge(*job, _tables.grammar, grammar_table, notes, scratch, result, room)
     return answer, bytes(result)[:room]
+
+
+class Cut:
+    """A read in rounds, with a main table and a state of its own. ``started`` is what
+    its start answered."""
+
+    def __init__(self, grammar: bytes, record: bytes, main: int, grammar_table: int) -> None:
+        self._main = (c_uint32 * max(main, 1))()
+        self._state = (c_uint32 * STATE)()
+        texts = [_bytes(grammar), len(grammar), _bytes(record), len(record)]
+        self._job = [*texts, self._main, main, _tables.grammar, grammar_table]
+        self.started = _start(*self._job, self._state)
+
+    def is_finished(self) -> bool:
+        return self._state[_FINISHED] == 1
+
+    def round(self) -> Progress:
+        return _round(*self._job, self._state)
+
+    def read(self, room: int) -> tuple[Progress, list[int]]:
+        """Ends the read as numbers. The buffer held 7 in every cell."""
+        result = (c_uint32 * max(room, 1))(*[7] * max(room, 1))
+        progress = _finish_read(*self._job, self._state, result, room)
+        return progress, list(result)[:room]
+
+    def convert(self, room: int) -> tuple[Progress, bytes]:
+        """Ends the read as XML. The buffer held 7 in every cell."""
+        result = (c_uint8 * max(room, 1))()
+        ctypes.memset(result, 7, len(result))
+        progress = _finish_convert(*self._job, self._state, result, room)
+        return progress, bytes(result)[:room]
 
 
 def gate(limits: list[float], lat: bytes, lon: bytes) -> GateAnswer:

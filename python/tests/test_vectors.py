@@ -5,7 +5,7 @@ import pathlib
 import struct
 import unittest
 
-from ixml import _CATEGORIES, Verdict, _library
+from ixml import _CATEGORIES, Rounds, Verdict, _library
 
 VECTORS = pathlib.Path(__file__).parents[2] / "tests" / "vectors"
 
@@ -77,6 +77,29 @@ class Vectors(unittest.TestCase):
             self.assertEqual(cells, result + b"\x07" * (room - len(result)))
             count += 1
         self.assertGreater(count, 900)
+
+    def test_cut(self):
+        count = 0
+        for fields in lines("cut"):
+            main, table, room, rounds = (int(field) for field in fields[2:6])
+            table += _library.GRAMMAR_TABLE
+            cut = _library.Cut(unhex(fields[0]), unhex(fields[1]), main, table)
+            progress, cells = cut.started, [7] * room
+            if progress.answer.number == 0:
+                for _ in range(rounds):
+                    self.assertEqual(cut.round().answer.number, 0)
+                progress, cells = cut.read(room)
+            self.answered(progress.answer, fields[6:])
+            self.assertEqual(progress.rounds, int(fields[14]))
+            result = numbers(fields[10])
+            self.assertEqual(cells, result + [7] * (room - len(result)))
+            count += 1
+        self.assertGreater(count, 500)
+
+    def test_rounds(self):
+        for grammar, record, _, rounds, _ in lines("rounds"):
+            read = Rounds(unhex(grammar), unhex(record))
+            self.assertEqual(list(read), list(range(1, int(rounds) + 1)))
 
     def test_tidy(self):
         count = 0

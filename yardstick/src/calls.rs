@@ -169,16 +169,24 @@ fn accept(grammar: &[u8]) -> Result<Accepted<'_>, Refusal> {
     })
 }
 
+/// The plain rules, the record's characters and the version mark: 1 to 14, and 24.
+pub(crate) fn opened<'t>(
+    grammar: &'t [u8],
+    record: &[u8],
+) -> Result<(Plain<'t>, Vec<char>, bool), Refusal> {
+    let accepted = accept(grammar)?;
+    Ok((accepted.plain, text::record(record)?, accepted.version))
+}
+
 /// The lengths of the work tables that the caller provides.
-struct Tables {
-    main: usize,
-    grammar: usize,
+pub(crate) struct Tables {
+    pub main: usize,
+    pub grammar: usize,
 }
 
 impl Tables {
-    fn suffice(&self, plain: &Plain, record: &[char]) -> bool {
-        self.main >= limits::main_table(plain.size(), record.len())
-            && self.grammar >= limits::GRAMMAR_TABLE
+    pub fn suffice(&self, size: usize, characters: usize) -> bool {
+        self.main >= limits::main_table(size, characters) && self.grammar >= limits::GRAMMAR_TABLE
     }
 }
 
@@ -195,7 +203,7 @@ fn derive(
     let outcome = accept(grammar).and_then(|accepted| {
         let record = text::record(record)?;
         let plain = accepted.plain;
-        if !tables.suffice(&plain, &record) {
+        if !tables.suffice(plain.size(), record.len()) {
             return Err(Refusal::TableTooShort);
         }
         version = accepted.version;

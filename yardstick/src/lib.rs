@@ -4,11 +4,12 @@
 //! of one derivation) and its XML. The modules follow the order of a job:
 //! decode the texts, read the grammar, check it, reduce it to plain rules,
 //! parse the record, choose a reading, write the XML. The position gate stands
-//! apart, and so does the writer of tidy grammars.
+//! apart, and so do the writer of tidy grammars and the read in rounds.
 
 pub mod alphabet;
 pub mod category;
 pub mod charset;
+pub mod cut;
 pub mod engine;
 pub mod gate;
 pub mod gen;

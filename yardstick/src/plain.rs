@@ -13,6 +13,9 @@ pub struct Plain<'t> {
     pub rules: Vec<Rule<'t>>,
     pub terminals: Vec<Terminal>,
     pub insertions: Vec<Vec<char>>,
+    /// The rules as they stand in the main table: behind those that its body
+    /// makes comes each written one.
+    pub layout: Vec<usize>,
 }
 
 #[derive(Debug)]
@@ -71,6 +74,19 @@ impl Plain<'_> {
         let alternatives = self.rules.iter().flat_map(|rule| &rule.alternatives);
         alternatives.map(|symbols| symbols.len() + 1).sum()
     }
+
+    /// For each rule its position in the main table: that of the end of its last
+    /// alternative.
+    pub fn names(&self) -> Vec<usize> {
+        let mut names = vec![0; self.rules.len()];
+        let mut dots = 0;
+        for &rule in &self.layout {
+            let alternatives = self.rules[rule].alternatives.iter();
+            dots += alternatives.map(|symbols| symbols.len() + 1).sum::<usize>();
+            names[rule] = dots - 1;
+        }
+        names
+    }
 }
 
 /// The plain rules of a grammar that passed the static checks.
@@ -89,13 +105,18 @@ pub fn plain<'t>(grammar: &Grammar<'t>) -> Plain<'t> {
             alternatives: Vec::new(),
         });
     }
+    let mut layout = Vec::with_capacity(grammar.rules.len());
     for (number, rule) in grammar.rules.iter().enumerate() {
+        let made = builder.rules.len();
         builder.rules[number].alternatives = builder.alternatives(&rule.alternatives);
+        layout.extend(made..builder.rules.len());
+        layout.push(number);
     }
     Plain {
         rules: builder.rules,
         terminals: builder.terminals,
         insertions: builder.insertions,
+        layout,
     }
 }
 

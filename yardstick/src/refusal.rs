@@ -13,8 +13,9 @@ pub struct Places {
 
 /// The refusals in the order in which they are judged, which is not the order
 /// of their numbers: 24 stands right after 11, 29 right after 16. The last
-/// three are the gate's; 28 is of tidying alone, where it stands before 23, and
-/// 25 of judging a list alone, where it stands in the place of 16 and 29.
+/// three are the gate's; 28 is of tidying alone, where it stands before 23,
+/// 25 of judging a list alone, where it stands in the place of 16 and 29, and 27
+/// and 26 of reading in rounds, where they stand before and after 15.
 #[derive(Clone, Copy, Debug, PartialEq, Eq, PartialOrd, Ord, Hash)]
 pub enum Refusal {
     GrammarTooLong,
@@ -35,7 +36,9 @@ pub enum Refusal {
     RecordNotUtf8(usize),
     RecordAlphabet(usize),
     RecordTooLong,
+    OtherState,
     TableTooShort,
+    NotYet,
     /// With how many of the record's first characters begin some text.
     NoReading(usize),
     NoDerivation,
@@ -72,7 +75,9 @@ impl Refusal {
             Refusal::RecordNotUtf8(_) => 12,
             Refusal::RecordAlphabet(_) => 13,
             Refusal::RecordTooLong => 14,
+            Refusal::OtherState => 27,
             Refusal::TableTooShort => 15,
+            Refusal::NotYet => 26,
             Refusal::NoReading(_) => 16,
             Refusal::NoDerivation => 25,
             Refusal::ReadingTooLong => 29,

@@ -3,6 +3,8 @@
 mod common;
 
 use common::{assert_check, assert_reading};
+use ixml_yardstick::cut::{rounds, start, Lent, Progress, State};
+use ixml_yardstick::limits::GRAMMAR_TABLE;
 
 /// T-06: every rule counts, used or not, written or made.
 #[test]
@@ -56,4 +58,60 @@ fn places_in_a_grammar() {
         }
     }
     assert_eq!(ixml_yardstick::check(b"a: a.").places, Default::default());
+}
+
+/// T-12: rules written and made, the rounds until finished, and what each finds.
+#[test]
+fn rounds_of_a_read() {
+    let cases = [
+        ("a: \"x\"*, \"x\"*.", "", (3, 3, vec![0, 2, 3, 3])),
+        ("a: b. b: .", "", (2, 2, vec![0, 1, 2])),
+        ("a: ; a.", "", (1, 1, vec![0, 1])),
+        ("a: \"x\".", "y", (1, 1, vec![0, 0])),
+        ("a: \"x\".", "x", (1, 2, vec![0, 1, 1])),
+    ];
+    for (grammar, record, expected) in cases {
+        let got = rounds(grammar.as_bytes(), record.as_bytes());
+        assert_eq!(got, Ok(expected), "{grammar} | {record}");
+    }
+    assert_eq!(
+        rounds(b"a: b.", b"").map_err(|answer| answer.number),
+        Err(5)
+    );
+}
+
+/// 27, then 15, then 26; the count of rounds is 0 with the first two.
+#[test]
+fn refusals_of_a_read_in_rounds() {
+    let lent = Lent {
+        grammar: b"a: b. b: 'x'.",
+        record: b"x",
+        main_table: 12,
+        grammar_table: GRAMMAR_TABLE,
+    };
+    let other = Lent {
+        record: b"y",
+        main_table: 0,
+        ..lent
+    };
+    let short = Lent {
+        main_table: 11,
+        ..lent
+    };
+    let (_, mut state) = start(lent);
+    let end = |state: &State, lent| {
+        let Progress { answer, rounds } = state.finish_read(lent, &mut [0; 9]);
+        (answer.number, rounds)
+    };
+    state.round(lent);
+    assert_eq!(end(&state, other), (27, 0));
+    assert_eq!(end(&state, short), (15, 0));
+    assert_eq!(end(&state, lent), (26, 1));
+    state.round(lent);
+    assert_eq!(end(&state, lent), (26, 2));
+    state.round(lent);
+    state.round(lent);
+    assert_eq!(end(&state, lent), (0, 3));
+    assert_eq!(end(&start(short).1, lent), (27, 0));
+    assert_eq!(end(&State::default(), lent), (27, 0));
 }

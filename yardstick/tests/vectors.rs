@@ -1,5 +1,6 @@
 //! Every line of the shared test vectors.
 
+use ixml_yardstick::cut::{self, Lent, Progress};
 use ixml_yardstick::gate::{self, Gate, Verdict};
 use ixml_yardstick::limits::GRAMMAR_TABLE;
 use ixml_yardstick::{category, check, convert, judge, program, read, second, tidy};
@@ -86,6 +87,62 @@ fn calls() {
             }
             call => panic!("line {number}: no call {call}"),
         }
+    }
+}
+
+/// A read in rounds, finished after so many of them: as numbers, and as XML.
+#[test]
+fn cut_into_rounds() {
+    let lines = lines(&["cut"]);
+    assert!(lines.len() > 500);
+    for line in &lines {
+        let less: isize = line[4].parse().unwrap();
+        let (grammar, record) = (bytes(&line[1]), bytes(&line[2]));
+        let lent = Lent {
+            grammar: &grammar,
+            record: &record,
+            main_table: line[3].parse().unwrap(),
+            grammar_table: GRAMMAR_TABLE.checked_add_signed(less).unwrap(),
+        };
+        let room: usize = line[5].parse().unwrap();
+        let filling: Vec<u32> = (0..room as u32).map(|cell| cell ^ 0xA5A5_5A5A).collect();
+        let mut buffer = filling.clone();
+        let (mut got, mut state) = cut::start(lent);
+        if got.answer.number == 0 {
+            for _ in 0..line[6].parse().unwrap() {
+                assert_eq!(state.round(lent).answer.number, 0, "{line:?}");
+            }
+            got = state.finish_read(lent, &mut buffer);
+        }
+        let answer = Answer {
+            number: line[7].parse().unwrap(),
+            length: line[8].parse().unwrap(),
+            ambiguous: line[9] == "1",
+            version: line[10] == "1",
+            places: Places {
+                byte: line[12].parse().unwrap(),
+                fault: line[13].parse().unwrap(),
+                grammar: line[14].parse().unwrap(),
+            },
+        };
+        let rounds = line[15].parse().unwrap();
+        assert_eq!(got, Progress { answer, rounds }, "{line:?}");
+        let numbers = line[11].split(',').filter(|number| *number != "-");
+        let result: Vec<u32> = numbers.map(|number| number.parse().unwrap()).collect();
+        assert_eq!(buffer, expected(&result, &filling), "{line:?}");
+    }
+}
+
+/// The rules, the rounds until finished, and what each round finds.
+#[test]
+fn rounds() {
+    let lines = lines(&["rounds"]);
+    assert!(lines.len() > 90);
+    for line in &lines {
+        let (rules, rounds, counts) = cut::rounds(&bytes(&line[1]), &bytes(&line[2])).unwrap();
+        let counts: Vec<String> = counts.iter().map(usize::to_string).collect();
+        let got = [rules.to_string(), rounds.to_string(), counts.join(",")];
+        assert_eq!(got, line[3..], "{line:?}");
     }
 }
 

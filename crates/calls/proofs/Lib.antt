@@ -4,3 +4,4 @@ pub mod ConvertsAs
 pub mod Agree
 pub mod TidiesAs
 pub mod JudgesAs
+mod Ended

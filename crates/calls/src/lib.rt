@@ -1,12 +1,15 @@
 // The public calls. None requires anything of its caller.
 ghost use lib.ListN.{length};
-ghost use Rattle.answer.specs.Answer.{job, Categorizes};
+ghost use Rattle.answer.specs.Answer.{job, Categorizes, Reads, Converts};
 ghost use Rattle.calls.specs.Calls.{Checked, ReadAs, ConvertedAs, JudgedAs, TidiedAs};
+ghost use Rattle.resume.specs.Resume.{StartedAs, RoundedAs, EndedAs};
 use accept::Accepted;
 use job::Begun;
 use job::Lending;
 use job::Refusal;
 use outcome::Answer;
+use resume::Finishing;
+use resume::Progress;
 use text::limits;
 
 // Checks a grammar.
@@ -165,4 +168,108 @@ pub extern "C" fn ixml_tidy(grammar: &[u8], result: &mut [u8]) -> Answer
     let mut table = [0u32; limits::GRAMMAR_TABLE];
     let accepted = accept::accept_grammar(grammar, &mut table);
     outcome::give_tidy(accepted, &table, result)
+}
+
+// Starts a read in rounds. The caller keeps the main table and the state between the calls as they are left.
+#[no_mangle]
+pub extern "C" fn ixml_start(
+    grammar: &[u8],
+    record: &[u8],
+    main: &mut [u32],
+    second: &[u32],
+    state: &mut [u32; state::LENGTH],
+) -> Progress
+    ensures { λ r. ⌜ StartedAs (job (now (grammar .entry)) (now («record» .entry)) (length (now (main .entry))) (length (now (second .entry)))) (now (main .entry)) r
+        (now (main .exit)) (now (state .exit)) ⌝ }
+{
+    resume::start(grammar, record, main, second.len(), state)
+}
+
+// Does one round of a read.
+#[no_mangle]
+pub extern "C" fn ixml_round(
+    grammar: &[u8],
+    record: &[u8],
+    main: &mut [u32],
+    second: &[u32],
+    state: &mut [u32; state::LENGTH],
+) -> Progress
+    ensures { λ r. ⌜ RoundedAs (job (now (grammar .entry)) (now («record» .entry)) (length (now (main .entry))) (length (now (second .entry)))) (now (main .entry)) (now (state .entry)) r
+        (now (main .exit)) (now (state .exit)) ⌝ }
+{
+    resume::round(grammar, record, main, second.len(), state)
+}
+
+// Ends a read in rounds as a reading.
+#[no_mangle]
+pub extern "C" fn ixml_finish_read(
+    grammar: &[u8],
+    record: &[u8],
+    main: &[u32],
+    second: &[u32],
+    state: &[u32; state::LENGTH],
+    result: &mut [u32],
+) -> Progress
+    ensures { λ r. ⌜ EndedAs Reads (job (now (grammar .entry)) (now («record» .entry)) (length (now (main .entry))) (length (now (second .entry)))) (now (main .entry)) (now (state .entry))
+        (now (result .entry)) r (now (result .exit)) ⌝ }
+{
+    let mut table = [0u32; limits::GRAMMAR_TABLE];
+    let mut text = [0u32; limits::RECORD_CHARACTERS];
+    let mut parse = [0u32; limits::READING_NUMBERS];
+    let begun = resume::resume(
+        state,
+        grammar,
+        record,
+        main.len(),
+        second.len(),
+        &mut table,
+        &mut text,
+    );
+    let Begun::At(start) = begun else {
+        return resume::refuse(job::why_begun(begun), 0);
+    };
+    let rounds = text::wide(state::rounds(state));
+    let ended = resume::end_read(state, &table, start, &text, main, &mut parse);
+    let Finishing::Parsed(parsed) = ended else {
+        return resume::not_ended(ended, rounds);
+    };
+    let answer = outcome::give_numbers(parsed, &parse, result);
+    Progress { answer, rounds }
+}
+
+// Ends a read in rounds as XML.
+#[no_mangle]
+pub extern "C" fn ixml_finish_convert(
+    grammar: &[u8],
+    record: &[u8],
+    main: &[u32],
+    second: &[u32],
+    state: &[u32; state::LENGTH],
+    result: &mut [u8],
+) -> Progress
+    ensures { λ r. ⌜ EndedAs Converts (job (now (grammar .entry)) (now («record» .entry)) (length (now (main .entry))) (length (now (second .entry)))) (now (main .entry)) (now (state .entry))
+        (now (result .entry)) r (now (result .exit)) ⌝ }
+{
+    let mut table = [0u32; limits::GRAMMAR_TABLE];
+    let mut text = [0u32; limits::RECORD_CHARACTERS];
+    let mut parse = [0u32; limits::READING_NUMBERS];
+    let begun = resume::resume(
+        state,
+        grammar,
+        record,
+        main.len(),
+        second.len(),
+        &mut table,
+        &mut text,
+    );
+    let Begun::At(start) = begun else {
+        return resume::refuse(job::why_begun(begun), 0);
+    };
+    let rounds = text::wide(state::rounds(state));
+    let ended = resume::end_read(state, &table, start, &text, main, &mut parse);
+    let Finishing::Parsed(parsed) = ended else {
+        return resume::not_ended(ended, rounds);
+    };
+    let answer = outcome::give_xml(parsed, &table, &text, &parse, result);
+    Progress { answer, rounds }
 }

@@ -8,6 +8,7 @@ use Rattle.text.specs.Limits.{mostSize, recordChars}
 use Rattle.text.specs.Lists.{Text}
 use Rattle.tree.specs.Tree.{Terminal, Symbol, terminal, Grammar}
 use Rattle.plain.specs.Plain.{alts, fits, width, ruled}
+use Rattle.layout.specs.Layout.{layout, dotsOf, nameAt}
 use Rattle.derive.specs.Derive.{alternative, root}
 use Rattle.derive.specs.Bound.{symbolsOf}
 
@@ -103,6 +104,10 @@ pub record Ruled (At : ℕ → Terminal → Type 0) (c : List ℕ) (g : Grammar)
   -- what stands after a dot are symbols of the plain rules, of which there are few
   pub within : (p : ℕ) → p < size → (s : Symbol) → In s (afterDot dots p) → In s (symbolsOf g)
   pub few : length (symbolsOf g) ≤ 4 * size + 1
+  -- dots and rules are numbered as the layout does it
+  pub laid : (p : ℕ) → p < size → afterDot dots p ≡ getD (dotsOf g) p []
+  pub named : (q : ℕ) → q < length (layout g) → RuleOf c g dots heads (getD (layout g) q (root g)) (nameAt g q)
+  pub names : (e : ℕ) → e < size → nextKind c e ≡ 0 → goesAt c e ≡ 0 → (q : ℕ) × (q < length (layout g)) × (e ≡ nameAt g q)
 
 -- c and f are the code of the grammar g on the record r; the root's rule is named top and begins at first
 pub record Coded (c f : List ℕ) (g : Grammar) (r : Text) (size top first : ℕ) : Type 0 where

@@ -144,6 +144,9 @@ wide k = record {
   only = k .only;
   within = k .within;
   few = k .few;
+  laid = k .laid;
+  named = k .named;
+  names = k .names;
 }
 
 -- the value of a dot lowers the height at its row

@@ -40,7 +40,7 @@ use Rattle.full.specs.Whole.{Marked}
 use Rattle.full.proofs.Marks.{flag-other, flag-fits, flag-misfits}
 
 -- what the plain engine is given
-pub coded : {c f : List ℕ} {g : Grammar} {r : Text} {size top first : ℕ} → Ruled (Fitting f r) c g size top first → size ≤ mostSize
+unfoldable pub coded : {c f : List ℕ} {g : Grammar} {r : Text} {size top first : ℕ} → Ruled (Fitting f r) c g size top first → size ≤ mostSize
     → 4 * size ≤ length c → length r ≤ recordChars → size * (recordChars + 1) ≤ length f → Coded c f g r size top first
 coded w small room short fits-room = record {
   dots = w .dots;
@@ -90,7 +90,7 @@ module _ {c f M : List ℕ} {g : Grammar} {r : Text} {size top first : ℕ} (k :
   shape = shape-of k small room
 
   -- all is flagged
-  reached : (p i : ℕ) → p < size → i ≤ n → Reached M p i
+  pub reached : (p i : ℕ) → p < size → i ≤ n → Reached M p i
   reached p i h l = elim (ℕ-discrete (nextKind c p) 1) as (λ _. Reached M p i) [
     | no z ↦ omega (arith, m .dots p i h (omega arith), flag-other c f p i z)
     | yes z ↦ (elim (ℕ-discrete (fitsAt f p i) 1) as (λ _. Reached M p i) [
@@ -99,11 +99,11 @@ module _ {c f M : List ℕ} {g : Grammar} {r : Text} {size top first : ℕ} (k :
     ])
   ]
 
-  wanted : (e j : ℕ) → e < size → j ≤ n → Wanted M e j
+  pub wanted : (e j : ℕ) → e < size → j ≤ n → Wanted M e j
   wanted e j h l = omega (arith, m .ends e j h (omega arith))
 
   -- and a terminal where it fits
-  flagged : (p : ℕ) (x : Terminal) → p < size → nextKind c p ≡ 1 → Fitting f r p x → Flagged M r p x
+  pub flagged : (p : ℕ) (x : Terminal) → p < size → nextKind c p ≡ 1 → Fitting f r p x → Flagged M r p x
   flagged p x h z a i l = (
     λ b. elim (ℕ-discrete (fitsAt f p i) 1) as (λ _. T (fits x (drop i r))) [
       | no e ↦ absurd (omega (arith, m .dots p i h (omega arith), flag-misfits c f p i z e))
@@ -112,7 +112,7 @@ module _ {c f M : List ℕ} {g : Grammar} {r : Text} {size top first : ℕ} (k :
     λ _ t. omega (arith, m .dots p i h (omega arith), flag-fits c f p i z (a i l ∙ flag-true (fits x (drop i r)) t)),
   )
 
-  pub whole-code : Ruled (Flagged M r) c g size top first
+  unfoldable pub whole-code : Ruled (Flagged M r) c g size top first
   whole-code = ruled-as flagged k
 
   -- a dot before something

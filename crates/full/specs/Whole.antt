@@ -7,7 +7,7 @@ use lib.ListN.{length, getD}
 use Rattle.text.specs.Limits.{mostSize, recordChars}
 use Rattle.text.specs.Lists.{pick}
 use Rattle.chart.specs.Code.{nextKind, fitsAt}
-use Rattle.reach.specs.Flags.{dotAt, endAt}
+use Rattle.reach.specs.Flags.{dotAt, beginAt, endAt}
 
 -- a dot is reached, and 2 says that no terminal stands after it that does not fit
 unfoldable pub dotFlag : List ℕ → List ℕ → ℕ → ℕ → ℕ
@@ -24,6 +24,7 @@ pub record Markable (c f : List ℕ) (size i : ℕ) : Type 0 where
 pub record PlaceMarked (c f : List ℕ) (size i b : ℕ) (M M' : List ℕ) : Type 0 where
   pub long : length M' ≡ length M
   pub dots : (p : ℕ) → p < b → dotAt M' p i ≡ dotFlag c f p i
+  pub begins : (p : ℕ) → p < b → beginAt M' p i ≡ 1
   pub ends : (p : ℕ) → p < b → endAt M' p i ≡ 2
   pub kept : (x : ℕ) → x < 1536 * i → getD M' x 0 ≡ getD M x 0
 
@@ -31,4 +32,5 @@ pub record PlaceMarked (c f : List ℕ) (size i b : ℕ) (M M' : List ℕ) : Typ
 pub record Marked (c f : List ℕ) (size b : ℕ) (M : List ℕ) : Type 0 where
   pub long : length M ≡ 308736
   pub dots : (p i : ℕ) → p < size → i < b → dotAt M p i ≡ dotFlag c f p i
+  pub begins : (p i : ℕ) → p < size → i < b → beginAt M p i ≡ 1
   pub ends : (p i : ℕ) → p < size → i < b → endAt M p i ≡ 2

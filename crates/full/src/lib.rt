@@ -1,5 +1,5 @@
-// Flags for a main table that is filled whole: every dot is reached at every place, every rule is wanted to end there, and a terminal is
-// flagged where it fits.
+// Flags for a main table that is filled whole: every dot is reached at every place, every rule may begin and is wanted to end there, and a
+// terminal is flagged where it fits.
 ghost use mathlib.Core.Path.{_≡_};
 ghost use Prim.Native.Nat.{_+_, _<_};
 ghost use lib.ListN.{length};
@@ -7,6 +7,7 @@ ghost use Rattle.full.specs.Whole.{dotFlag, Markable, PlaceMarked, Marke
 use chart::AT_TERMINAL;
 use chart::CODE_COLUMNS;
 use chart::FITS_ROW;
+use reach::BEGINS;
 use reach::ENDS;
 use reach::PLACE;
 
@@ -40,6 +41,7 @@ fn mark_place(code: &[u32], fits: &[u8], size: usize, i: usize, marks: &mut [u8]
     let mut p = 0;
     while p < size {
         marks[base + p] = dot_flag(code, fits, size, p, i);
+        marks[base + BEGINS + p] = REACHED;
         marks[base + ENDS + p] = WANTED;
         p += 1;
     }

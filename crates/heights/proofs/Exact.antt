@@ -19,7 +19,7 @@ use Rattle.chart.specs.Heights.{cellAt, stretches, none, Says, says-none, says-
 use Rattle.heights.specs.Table.{cellOf, valueOf, upOf, splitOf, Shape, Safe, Place}
 use Rattle.heights.specs.Filling.{Gives, by-terminal, by-split, by-owned, Steps, stay, step, Any, Closed, Settled, Before}
 use Rattle.chart.proofs.Cells.{rows-small}
-use Rattle.heights.proofs.Cells.{cell-inj, in-room}
+use Rattle.heights.proofs.Cells.{cell-inj, in-room, next-place, rule-place}
 use Rattle.heights.proofs.Lowering.{in-range, steps-le, steps-length}
 use Rattle.heights.proofs.Values.{Value, v-end, v-none, v-cell, value-is, value-cell, value-end, up-is, up-low}
 use Rattle.heights.proofs.Small.{height-small}
@@ -50,10 +50,10 @@ find (ch-next {q} h o b r) zero l = record { place = q; inside = h; owned = o; i
 find (ch-next h o b r) (suc a) l = find r a (omega arith)
 
 -- a row of an alternative of s
-record RuleLow (g : Grammar) (r : Text) (h : ℕ) (s : Symbol) (i j : ℕ) : Type 0 where
-  number : ℕ
-  exists : number < length (alts g s)
-  low : Low g r h (alternative g s number) i j
+pub record RuleLow (g : Grammar) (r : Text) (h : ℕ) (s : Symbol) (i j : ℕ) : Type 0 where
+  pub number : ℕ
+  pub exists : number < length (alts g s)
+  pub low : Low g r h (alternative g s number) i j
 
 module _ (c f : List ℕ) (g : Grammar) (r : Text) (size top first : ℕ) (k : Coded c f g r size top first) where
   abbrev n : ℕ
@@ -92,11 +92,11 @@ module _ (c f : List ℕ) (g : Grammar) (r : Text) (size top first : ℕ) (k : C
       name p h z (at-symbol s q _ _ _ l _) = omega (arith, l, k .count)
 
   -- a height has a row
-  record SoundAt (p i j v : ℕ) : Type 0 where
-    dot : (nextKind c p ≡ 0 → ⊥) → Low g r v (afterDot dots p) i j
-    rule : nextKind c p ≡ 0 → RuleLow g r v (headOf g (k .heads) p) i j
+  pub record SoundAt (p i j v : ℕ) : Type 0 where
+    pub dot : (nextKind c p ≡ 0 → ⊥) → Low g r v (afterDot dots p) i j
+    pub rule : nextKind c p ≡ 0 → RuleLow g r v (headOf g (k .heads) p) i j
 
-  abbrev Sound : List ℕ → Type 0
+  abbrev pub Sound : List ℕ → Type 0
   Sound t = (p i j : ℕ) → Place size n p i j → cellOf n t p i j < none → SoundAt p i j (cellOf n t p i j)
 
   end-after : (p : ℕ) → nextKind c p ≡ 0 → Stands c f g r dots (k .heads) p → afterDot dots p ≡ []
@@ -104,47 +104,64 @@ module _ (c f : List ℕ) (g : Grammar) (r : Text) (size top first : ℕ) (k : C
   end-after p z (at-terminal x q l _ _ _) = absurd (omega arith)
   end-after p z (at-symbol s q l _ _ _ _) = absurd (omega arith)
 
+  -- a row of what stands after a dot, by rows of its parts
+  pub shift-by : (p i j v : ℕ) → Place size n p i j → nextKind c p ≡ 1 → fitsAt f p i ≡ 1 → Low g r v (afterDot dots (p + 1)) (i + goesAt c p) j
+      → Stands c f g r dots (k .heads) p → Low g r v (afterDot dots p) i j
+  shift-by p i j v h z w u (at-end q _) = absurd (omega arith)
+  shift-by p i j v h z w u (at-symbol _ q _ _ _ _ _) = absurd (omega arith)
+  shift-by p i j v h z w u (at-terminal x q hp be gw ff) =
+      let d : Derives g r (u .row) (afterDot dots (p + 1)) (i + width x) j = subst (λ (w : ℕ). Derives g r (u .row) (afterDot dots (p + 1)) (i + w) j) gw (u .derives) in
+      let fit : T (fits x (drop i r)) = true-flag (fits x (drop i r)) (sym (ff i (omega (arith, h .order, h .stop))) ∙ w) in
+      record { row = leaf (i + width x) (u .row); derives = rw be (d-leaf fit d); low = u .low }
+
+  pub split-by : (p i j m a b v : ℕ) → nextKind c p ≡ 2 → RuleLow g r a (headOf g (k .heads) (ruleAt c p)) i m → Low g r b (afterDot dots (p + 1)) m j → a + 1 ≤ v → b ≤ v
+      → Stands c f g r dots (k .heads) p → Low g r v (afterDot dots p) i j
+  split-by p i j m a b v z one u la lb (at-end q _) = absurd (omega arith)
+  split-by p i j m a b v z one u la lb (at-terminal x q _ _ _ _) = absurd (omega arith)
+  split-by p i j m a b v z one u la lb (at-symbol y q hp be nt hr ea) =
+      let ex : one .number < length (alts g y) = rw ea at (one .exists) in
+      let d : Derives g r (one .low .row) (alternative g y (one .number)) i m = subst
+      (λ (ts : List (List Symbol)). Derives g r (one .low .row) (getD ts (one .number) []) i m) ea (one .low .derives) in
+      record { row = node (one .number) m (one .low .row) (u .row); derives = rw be (d-node ex d (u .derives)); low = omega (arith, one .low .low, u .low) }
+
+  pub owned-by : (q p i j v : ℕ) → q < size → ownerAt c q ≡ p + 1 → Low g r v (afterDot dots q) i j → RuleLow g r v (headOf g (k .heads) p) i j
+  owned-by q p i j v hq o u =
+      let w = k .owned q p hq o in
+      record { number = w .number; exists = w .exists; low = subst (λ (ss : List Symbol). Low g r v ss i j) (w .is) u }
+
+  pub value-by : (t : List ℕ) (q i j v : ℕ) → q < size → Value c t n q i j v → v < none → ((nextKind c q ≡ 0 → ⊥) → v ≡ cellOf n t q i j → Low g r v (afterDot dots q) i j)
+      → Low g r v (afterDot dots q) i j
+  value-by t q i j v h (v-end z e w) l s = record { row = end; derives = rw (end-after q z (k .stands q h), e) d-end; low = omega arith }
+  value-by t q i j v h (v-none w) l s = absurd (omega arith)
+  value-by t q i j v h (v-cell z w) l s = s z w
+
   module _ (t : List ℕ) (s : Sound t) where
-    value-by : (q i j v : ℕ) → Place size n q i j → Value c t n q i j v → v < none → Low g r v (afterDot dots q) i j
-    value-by q i j v h (v-end z e w) l = record { row = end; derives = rw (end-after q z (k .stands q (h .inside)), e) d-end; low = omega arith }
-    value-by q i j v h (v-none w) l = absurd (omega arith)
-    value-by q i j v h (v-cell z w) l = subst (λ (x : ℕ). Low g r x (afterDot dots q) i j) (sym w) (s q i j h (omega arith) .dot z)
-
     value-sound : (q i j v : ℕ) → Place size n q i j → v ≡ valueOf c t n q i j → v < none → Low g r v (afterDot dots q) i j
-    value-sound q i j v h e l = value-by q i j v h (subst (Value c t n q i j) (sym e) (value-is c t n q i j)) l
+    value-sound q i j v h e l = value-by t q i j v (h .inside) (subst (Value c t n q i j) (sym e) (value-is c t n q i j)) l
+        (λ z w. subst (λ (x : ℕ). Low g r x (afterDot dots q) i j) (sym w) (s q i j h (omega arith) .dot z))
 
-    shift-sound : (p i j v : ℕ) → Place size n p i j → nextKind c p ≡ 1 → fitsAt f p i ≡ 1 → i + goesAt c p ≤ j → v ≡ valueOf c t n (p + 1) (i + goesAt c p) j → v < none
-        → Stands c f g r dots (k .heads) p → Low g r v (afterDot dots p) i j
-    shift-sound p i j v h z w l e b (at-end q _) = absurd (omega arith)
-    shift-sound p i j v h z w l e b (at-symbol _ q _ _ _ _ _) = absurd (omega arith)
-    shift-sound p i j v h z w l e b (at-terminal x q hp be gw ff) =
-        let u = value-sound (p + 1) (i + goesAt c p) j v (record { inside = omega (arith, k .count); order = l; stop = h .stop }) e b in
-        let d : Derives g r (u .row) (afterDot dots (p + 1)) (i + width x) j = subst (λ (w : ℕ). Derives g r (u .row) (afterDot dots (p + 1)) (i + w) j) gw (u .derives) in
-        let fit : T (fits x (drop i r)) = true-flag (fits x (drop i r)) (sym (ff i (omega (arith, h .order, h .stop))) ∙ w) in
-        record { row = leaf (i + width x) (u .row); derives = rw be (d-leaf fit d); low = u .low }
-
-    split-sound : (p i j v m : ℕ) → Place size n p i j → nextKind c p ≡ 2 → i ≤ m → m ≤ j → v ≡ splitOf c t n p i j m → v < none
-        → Stands c f g r dots (k .heads) p → Low g r v (afterDot dots p) i j
-    split-sound p i j v m h z hm lm e b (at-end q _) = absurd (omega arith)
-    split-sound p i j v m h z hm lm e b (at-terminal x q _ _ _ _) = absurd (omega arith)
-    split-sound p i j v m h z hm lm e b (at-symbol y q hp be nt hr ea) =
+    split-sound : (p i j v m : ℕ) → Place size n p i j → nextKind c p ≡ 2 → i ≤ m → m ≤ j → v ≡ splitOf c t n p i j m → v < none → Low g r v (afterDot dots p) i j
+    split-sound p i j v m h z hm lm e b =
+        let sh = shape (size * stretches n) (omega arith) in
         let a = cellOf n t (ruleAt c p) i m in
         let la = up-low a (omega arith) in
         let ua = up-is a la in
-        let one = s (ruleAt c p) i m (record { inside = omega (arith, k .count); order = hm; stop = omega (arith, h .stop) }) la .rule (rule-end p (h .inside) z) in
-        let u = value-sound (p + 1) m j (valueOf c t n (p + 1) m j) (record { inside = omega (arith, k .count); order = lm; stop = h .stop }) refl (omega arith) in
-        let ex : one .number < length (alts g y) = rw ea at (one .exists) in
-        let d : Derives g r (one .low .row) (alternative g y (one .number)) i m = subst
-        (λ (ts : List (List Symbol)). Derives g r (one .low .row) (getD ts (one .number) []) i m) ea (one .low .derives) in
-        record { row = node (one .number) m (one .low .row) (u .row); derives = rw be (d-node ex d (u .derives)); low = omega (arith, one .low .low, u .low) }
+        let one = s (ruleAt c p) i m (rule-place sh h m z hm lm) la .rule (rule-end p (h .inside) z) in
+        let u = value-sound (p + 1) m j (valueOf c t n (p + 1) m j) (next-place sh h m (λ q. omega arith) hm lm) refl (omega arith) in
+        split-by p i j m a (valueOf c t n (p + 1) m j) v z one u (omega arith) (omega arith) (k .stands p (h .inside))
 
-    gives-sound : (p i j v : ℕ) → Place size n p i j → Gives c f size n t p i j v → v < none → SoundAt p i j v
-    gives-sound p i j v h (by-terminal z w l e) b = record { dot = λ _. shift-sound p i j v h z w l e b (k .stands p (h .inside)); rule = λ q. absurd (omega arith) }
-    gives-sound p i j v h (by-split m z hm lm e) b = record { dot = λ _. split-sound p i j v m h z hm lm e b (k .stands p (h .inside)); rule = λ q. absurd (omega arith) }
+    shift-sound : (p i j v : ℕ) → Place size n p i j → nextKind c p ≡ 1 → fitsAt f p i ≡ 1 → i + goesAt c p ≤ j → v ≡ valueOf c t n (p + 1) (i + goesAt c p) j → v < none
+        → Low g r v (afterDot dots p) i j
+    shift-sound p i j v h z w l e b =
+        let next = next-place (shape (size * stretches n) (omega arith)) h (i + goesAt c p) (λ q. omega arith) (omega arith) l in
+        shift-by p i j v h z w (value-sound (p + 1) (i + goesAt c p) j v next e b) (k .stands p (h .inside))
+
+    pub gives-sound : (p i j v : ℕ) → Place size n p i j → Gives c f size n t p i j v → v < none → SoundAt p i j v
+    gives-sound p i j v h (by-terminal z w l e) b = record { dot = λ _. shift-sound p i j v h z w l e b; rule = λ q. absurd (omega arith) }
+    gives-sound p i j v h (by-split m z hm lm e) b = record { dot = λ _. split-sound p i j v m h z hm lm e b; rule = λ q. absurd (omega arith) }
     gives-sound p i j v h (by-owned q hq o e) b =
-        let w = k .owned q p hq o in
         let u = value-sound q i j v (record { inside = hq; order = h .order; stop = h .stop }) e b in
-        record { dot = λ z. absurd (z (w .last)); rule = λ _. record { number = w .number; exists = w .exists; low = subst (λ (ss : List Symbol). Low g r v ss i j) (w .is) u } }
+        record { dot = λ z. absurd (z (k .owned q p hq o .last)); rule = λ _. owned-by q p i j v hq o u }
 
     set-sound : (p i j v : ℕ) → Place size n p i j → Gives c f size n t p i j v → v < cellOf n t p i j → v < none → Sound (set t (cellAt n p i j) v)
     set-sound p i j v h d l b p' i' j' h' l' =
@@ -162,15 +179,19 @@ module _ (c f : List ℕ) (g : Grammar) (r : Text) (size top first : ℕ) (k : C
   cell-in : {p i j : ℕ} → Place size n p i j → cellAt n p i j < size * stretches n
   cell-in = in-room (record { few = k .small; short = k .short; room = omega arith })
 
+  -- steps keep it
+  pub steps-keep : {A : ℕ → ℕ → Type 0} {t₀ t : List ℕ} → Sound t₀ → ((p i j : ℕ) → Place size n p i j → cellOf n t₀ p i j ≤ none) → Steps c f size n A t₀ t → Sound t
+  steps-keep s m stay = s
+  steps-keep s m (step {t = t} p i j v w ha hp hi hj d l) =
+      let h : Place size n p i j = record { inside = hp; order = hi; stop = hj } in
+      set-sound t (steps-keep s m w) p i j v h d l (omega (arith, steps-le c f size n w (cellAt n p i j), m p i j h))
+
   module _ {A : ℕ → ℕ → Type 0} {t₀ : List ℕ} (z : Empty t₀) where
     steps-most : {t : List ℕ} → Steps c f size n A t₀ t → {p i j : ℕ} → Place size n p i j → cellOf n t p i j ≤ none
     steps-most s {p} {i} {j} h = omega (arith, steps-le c f size n s (cellAt n p i j), z (cellAt n p i j) (cell-in h))
 
     steps-sound : {t : List ℕ} → Steps c f size n A t₀ t → Sound t
-    steps-sound stay = λ p i j h l. absurd (omega (arith, z (cellAt n p i j) (cell-in h)))
-    steps-sound (step {t = t} p i j v s ha hp hi hj d l) =
-        let h : Place size n p i j = record { inside = hp; order = hi; stop = hj } in
-        set-sound t (steps-sound s) p i j v h d l (omega (arith, steps-most s h))
+    steps-sound = steps-keep (λ p i j h l. absurd (omega (arith, z (cellAt n p i j) (cell-in h)))) (λ p i j h. omega (arith, z (cellAt n p i j) (cell-in h)))
 
     -- a rule's height has a row of its symbol
     pub rule-sound : {t : List ℕ} → Steps c f size n A t₀ t → (p e i j : ℕ) → p < size → ownerAt c p ≡ e + 1 → i ≤ j → j ≤ n → cellOf n t e i j < none
@@ -181,13 +202,13 @@ module _ (c f : List ℕ) (g : Grammar) (r : Text) (size top first : ℕ) (k : C
         record { row = node (u .number) j (u .low .row) end; derives = d-node (u .exists) (u .low .derives) d-end; low = omega (arith, u .low .low) }
 
   -- no derivation is lower
-  module _ (t : List ℕ) (closed : Before c f size n (n + 1) t) (small : (p i j : ℕ) → Place size n p i j → cellOf n t p i j < none → cellOf n t p i j ≤ size * stretches n) where
+  module _ (t : List ℕ) (closed : Before c f size n (n + 1) t) (small : (p i j : ℕ) → Place size n p i j → cellOf n t p i j < none → cellOf n t p i j + 1 < none) where
     closed-at : (i j : ℕ) → i ≤ j → j ≤ n → Closed c f size n t i j
     closed-at i j h l = closed i j h (omega arith)
 
-    record Reached (p i j h : ℕ) : Type 0 where
-      low : valueOf c t n p i j ≤ h
-      some : valueOf c t n p i j < none
+    pub record Reached (p i j h : ℕ) : Type 0 where
+      pub low : valueOf c t n p i j ≤ h
+      pub some : valueOf c t n p i j < none
 
     -- by the symbols' stands
     module _ (p i j : ℕ) (h : Place size n p i j) where
@@ -240,9 +261,9 @@ module _ (c f : List ℕ) (g : Grammar) (r : Text) (size top first : ℕ) (k : C
         let sm = small (ruleAt c p) i m (record { inside = omega (arith, k .count); order = hi; stop = omega arith }) (one .1) in
         let ux : upOf x ≡ x + 1 = up-is x (one .1) in
         reach-cell p i j (record { inside = hp; order = omega arith; stop = hj }) (splitOf c t n p i j m) (λ q. omega arith) (closed-at i j (omega arith) hj .split p m hp z hi hm (u .some))
-        (omega (arith, one .0, sm, u .some, rows-small size n (k .small) (k .short))) (max (suc hc) hd) (omega (arith, one .0, u .low))
+        (omega (arith, one .0, sm, u .some)) (max (suc hc) hd) (omega (arith, one .0, u .low))
 
-    complete : {d : Row} {ss : List Symbol} {i j : ℕ} → Derives g r d ss i j → (p : ℕ) → p < size → afterDot dots p ≡ ss → j ≤ n → Reached p i j (height d)
+    pub complete : {d : Row} {ss : List Symbol} {i j : ℕ} → Derives g r d ss i j → (p : ℕ) → p < size → afterDot dots p ≡ ss → j ≤ n → Reached p i j (height d)
     complete (d-end {i}) p hp b hj = reach-end p i i (record { inside = hp; order = omega arith; stop = hj }) refl b (k .stands p hp)
     complete (d-leaf {x} {ss} {t = d} {i = i} {j = j} fit dd) p hp b hj = shifted p i j (height d) x ss hp (forward g r dd) hj fit b (λ q hq e. complete dd q hq e hj) (k .stands p hp)
     complete (d-node {s} {ss} {c = e} {t = d} {a = a} {i = i} {m = m} {j = j} la dc dd) p hp b hj =
@@ -250,29 +271,27 @@ module _ (c f : List ℕ) (g : Grammar) (r : Text) (size top first : ℕ) (k : C
         (λ q hq w. complete dc q hq w (omega (arith, forward g r dd))) (λ q hq w. complete dd q hq w hj) (k .stands p hp)
 
     -- the same of a rule's symbol
-    complete-rule : (e q : ℕ) (s : Symbol) → Chain c dots e q (alts g s) → {d : Row} {i j : ℕ} → Derives g r d (s ∷ []) i j → j ≤ n
+    pub complete-rule : (e q : ℕ) (s : Symbol) → Chain c dots e q (alts g s) → {d : Row} {i j : ℕ} → Derives g r d (s ∷ []) i j → j ≤ n
         → (suc (cellOf n t e i j) ≤ height d) × (cellOf n t e i j < none)
     complete-rule e q s w (d-leaf fit dd) hj = absurd (none-in w refl)
     complete-rule e q s w (d-node {c = o} {a = a} {i = i} {m = m} la dc d-end) hj =
         let u = low-rule e i m (height o) (alternative g s a) (forward g r dc) hj (find w a la) (λ p hp b. complete dc p hp b hj) in
         (omega (arith, u .0), u .1)
 
-  -- the finished table
-  module _ (t₀ t : List ℕ) (z : Empty t₀) (w : Settled c f size n Any (Before c f size n (n + 1)) t₀ t) (room : size * stretches n ≤ length t₀) where
-    abbrev small-by : (p i j : ℕ) → Place size n p i j → cellOf n t p i j < none → cellOf n t p i j ≤ size * stretches n
-    small-by p i j h l = height-small c f size n (length t₀) (shape (length t₀) room) (w .steps) z h l
-
+  -- a table whose heights have rows, and which is closed, has the least heights
+  module _ (t : List ℕ) (sound : Sound t) (most : (p i j : ℕ) → Place size n p i j → cellOf n t p i j ≤ none) (closed : Before c f size n (n + 1) t)
+      (small : (p i j : ℕ) → Place size n p i j → cellOf n t p i j < none → cellOf n t p i j + 1 < none) where
     dot-says : (p i j : ℕ) → p < size → (nextKind c p ≡ 0 → ⊥) → i ≤ j → j ≤ n → Says g r (afterDot dots p) i j (cellOf n t p i j)
     dot-says p i j hp kn hi hj =
         let h : Place size n p i j = record { inside = hp; order = hi; stop = hj } in
         let v = cellOf n t p i j in
         let ev : valueOf c t n p i j ≡ v = value-cell c t n p i j kn in
         elim (decLt v none) as (λ _. Says g r (afterDot dots p) i j v) [
-          | yes l ↦ (let u = steps-sound z (w .steps) p i j h l .dot kn in
-              says-height {h = v} (u .row) (u .derives) (omega (arith, u .low, complete t (w .closed) small-by (u .derives) p hp refl hj .low))
-              (λ d dd. omega (arith, complete t (w .closed) small-by dd p hp refl hj .low)) l)
-          | no l ↦ (let e : v ≡ none = omega (arith, steps-most z (w .steps) h) in
-              subst (Says g r (afterDot dots p) i j) (sym e) (says-none (λ d dd. omega (arith, complete t (w .closed) small-by dd p hp refl hj .some))))
+          | yes l ↦ (let u = sound p i j h l .dot kn in
+              says-height {h = v} (u .row) (u .derives) (omega (arith, u .low, complete t closed small (u .derives) p hp refl hj .low))
+              (λ d dd. omega (arith, complete t closed small dd p hp refl hj .low)) l)
+          | no l ↦ (let e : v ≡ none = omega (arith, most p i j h) in
+              subst (Says g r (afterDot dots p) i j) (sym e) (says-none (λ d dd. omega (arith, complete t closed small dd p hp refl hj .some))))
         ]
 
     rule-says : (p e i j : ℕ) → p < size → ownerAt c p ≡ e + 1 → i ≤ j → j ≤ n → SaysRule g r (headOf g (k .heads) e) i j (cellOf n t e i j)
@@ -281,18 +300,26 @@ module _ (c f : List ℕ) (g : Grammar) (r : Text) (size top first : ℕ) (k : C
         let h : Place size n e i j = record { inside = omega (arith, own .inside, k .count); order = hi; stop = hj } in
         let s = headOf g (k .heads) e in
         let v = cellOf n t e i j in
-        let lows : (d : Row) → Derives g r d (s ∷ []) i j → (suc v ≤ height d) × (v < none) = λ d dd. complete-rule t (w .closed) small-by e (own .first) s (own .chain) dd hj in
+        let lows : (d : Row) → Derives g r d (s ∷ []) i j → (suc v ≤ height d) × (v < none) = λ d dd. complete-rule t closed small e (own .first) s (own .chain) dd hj in
         elim (decLt v none) as (λ _. SaysRule g r s i j v) [
-          | yes l ↦ (let u = steps-sound z (w .steps) e i j h l .rule (own .last) in
+          | yes l ↦ (let u = sound e i j h l .rule (own .last) in
               let d = node (u .number) j (u .low .row) end in
               let dd : Derives g r d (s ∷ []) i j = d-node (u .exists) (u .low .derives) d-end in
               rule-height {h = v} (record { tree = d; derives = dd; attained = omega (arith, u .low .low, lows d dd .0); least = λ x dx. lows x dx .0 }) l)
-          | no l ↦ (let e : v ≡ none = omega (arith, steps-most z (w .steps) h) in
+          | no l ↦ (let e : v ≡ none = omega (arith, most e i j h) in
               subst (SaysRule g r s i j) (sym e) (rule-none (λ d dd. omega (arith, lows d dd .1))))
         ]
 
+    pub heights-of : size * stretches n ≤ length t → Heights c f g r size top first k t
+    heights-of room = record { room = room; dot = dot-says; rule = rule-says }
+
+  -- the finished table
+  module _ (t₀ t : List ℕ) (z : Empty t₀) (w : Settled c f size n Any (Before c f size n (n + 1)) t₀ t) (room : size * stretches n ≤ length t₀) where
+    small-by : (p i j : ℕ) → Place size n p i j → cellOf n t p i j < none → cellOf n t p i j + 1 < none
+    small-by p i j h l = omega (arith, height-small c f size n (length t₀) (shape (length t₀) room) (w .steps) z h l, rows-small size n (k .small) (k .short))
+
     pub heights : Heights c f g r size top first k t
-    heights = record { room = omega (arith, steps-length c f size n (w .steps)); dot = dot-says; rule = rule-says }
+    heights = heights-of t (steps-sound z (w .steps)) (λ p i j h. steps-most z (w .steps) h) (w .closed) small-by (omega (arith, steps-length c f size n (w .steps)))
 
 -- the same with the number of characters
 pub filled : (c f : List ℕ) (size n : ℕ) (t₀ t : List ℕ) → ((x : ℕ) → x < size * stretches n → getD t₀ x 0 ≡ none)

@@ -14,7 +14,8 @@ use Rattle.tree.specs.Tree.{Symbol, terminal, nonterminal, group, option, repea
 use Rattle.tree.specs.Tokens.{Token, include, exclude, set-end, open-group, close-group, next-alternative, to-option, to-repeat0, to-repeat1, to-repeat0sep, to-repeat1sep, encode, numbers}
 use Rattle.tree.specs.Tokens.{memberToken, memberTokens, terminalTokens, symbolTokens, alternativeTokens, bodyTokens}
 use Rattle.plain.specs.Written.{heads, terminals, namesIn, terminalsIn, within, withinAlternative, withinBody, kind, made}
-use Rattle.plain.specs.Plain.{symbols, alternatives, alts, makes}
+use Rattle.plain.specs.Plain.{symbols, alternatives, alts, makes, weight}
+use Rattle.layout.specs.Layout.{laid, laidAlternative, laidBody}
 use Rattle.tokens.specs.Proper.{Proper, ProperAlternative, ProperBody}
 use Rattle.tokens.specs.Lengths.{firstNumber}
 use Rattle.measure.specs.Costs.{cost, costs, costOf, repeatCostOf}
@@ -33,6 +34,7 @@ use Rattle.items.proofs.Blocks.{Rows, r-last, r-more, r-item, Blocks, b
 use Rattle.items.proofs.Runs.{Trace, t-done, t-step, trace-append, sound-block, at-left, at-right, Ok, Run, shorter, run-none}
 use Rattle.items.proofs.Runs.{run-then, run-quiet, run-block, reads-final, means-made, among-later}
 use Rattle.items.proofs.Adds.{Adds, adds-none}
+use Rattle.items.proofs.Lays.{LaysIn, lays-none}
 
 -- the name has no rule
 abbrev pub Bad : Grammar → Text → Bool
@@ -75,6 +77,7 @@ pub record Sym (g : Grammar) (K : List ℕ) (s : Symbol) (at : ℕ) (a : Abs) (S
   pub depth : after .depth ≡ a .depth + 1
   pub cost : after .items + after .depth ≡ a .items + a .depth + costs (symbolTokens s)
   pub adds : Adds S starts (concatMap makes (within s))
+  pub lays : LaysIn g starts (a .items) (after .items) (laid s)
   pub leads : (F : List ℕ) (T : Starts) → Final g K (after .list) starts F T → Reads F (e .token) (lead s)
   pub means : (F : List ℕ) (T : Starts) → Final g K (after .list) starts F T → (p : ℕ) → Placed F g T p (e .sort) (e .target) (e .token) → Stands F g T p s
 
@@ -88,8 +91,10 @@ pub record Alt (g : Grammar) (K : List ℕ) (x : Alternative) (at : ℕ) (a : Ab
   pub stack : after .stack ≡ a .stack ++ entries
   pub depth : after .depth ≡ a .depth + count
   pub wide : length entries ≡ 3 * count
+  pub counts : count ≡ length (symbols x)
   pub cost : after .items + after .depth ≡ a .items + a .depth + costs (alternativeTokens x)
   pub adds : Adds S starts (concatMap makes (withinAlternative x))
+  pub lays : LaysIn g starts (a .items) (after .items) (laidAlternative x)
   pub rows : (F : List ℕ) (T : Starts) → Final g K (after .list) starts F T → (tail : List ℕ) (ts : List (List Symbol))
       → Rows F g T tail ([] ∷ ts) → Rows F g T (entries ++ tail) (symbols x ∷ ts)
 
@@ -102,8 +107,10 @@ pub record Bod (g : Grammar) (K : List ℕ) (x : Body) (at : ℕ) (a : Abs) (S :
   pub stack : after .stack ≡ a .stack ++ entries
   pub depth : after .depth ≡ a .depth + count
   pub wide : length entries ≡ 3 * count
+  pub weighs : count + 1 ≡ weight (alternatives x)
   pub cost : after .items + after .depth ≡ a .items + a .depth + costs (bodyTokens x)
   pub adds : Adds S starts (concatMap makes (withinBody x))
+  pub lays : LaysIn g starts (a .items) (after .items) (laidBody x)
   pub rows : (F : List ℕ) (T : Starts) → Final g K (after .list) starts F T → Rows F g T (entries ++ nums (entry 6 0 0)) (alternatives x)
 
 pub ok-pushed : {K : List ℕ} {a : Abs} (e : Entry) (b : ℕ) → Ok K a → a .depth + 1 ≤ 512 → b ≤ 512 → Ok K (pushed a e b)
@@ -176,6 +183,7 @@ module _ {g : Grammar} {K : List ℕ} where
     depth = refl;
     cost = omega (arith, terminal-costs x);
     adds = adds-none S;
+    lays = lays-none;
     leads = λ F T f. reads-final w F T f;
     means = λ F T f p v. let k = v .kept (λ e. omega arith) in st-terminal (k .0) (subst (λ (q : ℕ). Reads F q (terminalTokens x)) (sym (k .2)) (reads-final w F T f)) i;
   }
@@ -192,6 +200,7 @@ module _ {g : Grammar} {K : List ℕ} where
     depth = refl;
     cost = omega (arith, name-cost m n);
     adds = adds-none S;
+    lays = lays-none;
     leads = λ F T f. reads-final w F T f;
     means = λ F T f p v. v .named refl m n (reads-final w F T f) (not-false (any (same n) (heads g)) (or-false (Bad g n) false (known .0) .0));
   }

@@ -17,6 +17,7 @@ use Rattle.tree.specs.Tokens.{name, rule-head, markNumber, counted}
 use Rattle.plain.specs.Written.{written, heads}
 use Rattle.plain.specs.Static.{duplicate}
 use Rattle.plain.specs.Plain.{alts, alternatives, ruleFor, makes, ruled, weight, size, ruleMark, over}
+use Rattle.layout.specs.Layout.{startsOf}
 use Rattle.items.specs.declared.State.{State}
 use Rattle.items.specs.Items.{kindAt, targetAt, tokenAt, Reads, markKind, Starts, Among, st-name, Alternatives, Items}
 use Rattle.items.specs.Machine.{kindBy}
@@ -133,6 +134,24 @@ first-clean F (r ∷ rs) (x ∷ xs) n c = by (first-clean F rs xs n (c .1)) (sam
     by : Clean F 0 (firstFor rs xs n) → (b : Bool) → Clean F 0 (pick b x (firstFor rs xs n))
     by d true = c .0
     by d false = d
+
+-- where a rule begins, its name finds it, if no name has two rules
+name-begins : (rs : List Rule) (xs : List ℕ) (x : ℕ) (s : Symbol) → repeats (concatMap (λ r. r .name ∷ []) rs) ≡ false → RuleBegins x s rs xs → Named (firstFor rs xs) rs x s
+name-begins [] xs x s d b = absurd b
+name-begins (r ∷ rs) [] x s d b = absurd b
+name-begins (r ∷ rs) (y ∷ xs) x s d (inl e) = record { called = r .name; place = rw (same-refl (r .name)) (e .0); symbol = e .1; known = rw (same-refl (r .name)) }
+name-begins (r ∷ rs) (y ∷ xs) x s d (inr b) = go (name-begins rs xs x s (or-right-false (any (same (r .name)) names) (repeats names) d) b)
+  where
+    names : List Text
+    names = concatMap (λ r. r .name ∷ []) rs
+
+    go : Named (firstFor rs xs) rs x s → Named (firstFor (r ∷ rs) (y ∷ xs)) (r ∷ rs) x s
+    go w = by (same (w .called) (r .name)) refl
+      where
+        by : (b : Bool) → same (w .called) (r .name) ≡ b → Named (firstFor (r ∷ rs) (y ∷ xs)) (r ∷ rs) x s
+        by true q = absurd (clash (or-left-false (any (same (r .name)) names) (repeats names) d)
+            (subst (λ (n : Text). any (same n) names ≡ true) (same-is (w .called) (r .name) (isT q)) (w .known)))
+        by false q = record { called = w .called; place = rw q (w .place); symbol = w .symbol; known = rw q (w .known) }
 
 -- where all rules begin
 abbrev allStarts : (g : Grammar) → Starts → List ℕ → Starts
@@ -304,6 +323,19 @@ module _ {g : Grammar} {K T : List ℕ} {s : State} (w : Scanned g K T s) where
         (λ b. in-left (concatMap makes (written g)) (names-only (firstFor (rules g) (w .firsts)) (rules g) x y b))
         (among-split x y (w .starts) (nameStarts (firstFor (rules g) (w .firsts)) (rules g)) m)
 
+    start-laid : duplicate g ≡ false → (x : ℕ) (y : Symbol) → Among x y (startsOf g) → Among x y (allStarts g (w .starts) (w .firsts))
+    unfolding duplicate
+    start-laid d x y m =
+        ⊎-elim (λ a. among-left x y (w .starts) ns a)
+        (λ b. among-right x y (w .starts) ns (there (name-begins (rules g) (w .firsts) x y d b))) (w .laid d x y m)
+      where
+        ns : Starts
+        ns = nameStarts (firstFor (rules g) (w .firsts)) (rules g)
+
+        there : Named (firstFor (rules g) (w .firsts)) (rules g) x y → Among x y ns
+        there v = subst (λ (z : Symbol). Among x z ns) (v .symbol) (subst (λ (k : ℕ). Among k (nonterminal unmarked (v .called)) ns) (v .place)
+            (name-among (firstFor (rules g) (w .firsts)) (v .called) (rules g) (v .known)))
+
     pub scanned-built : (root : ℕ) → root ≡ getD F 13825 0 → Built F g root
     scanned-built root e = record {
       items = scanned-items root e;
@@ -313,6 +345,7 @@ module _ {g : Grammar} {K T : List ℕ} {s : State} (w : Scanned g K T s) where
         single = λ x y z m n. scanned-whole .single x y z (start-begins x y m) (start-begins x z n);
         every = start-every;
         only = start-only;
+        laid = start-laid;
       };
     }
 

@@ -4,6 +4,7 @@ pub mod Uses
 pub mod Blocks
 pub mod Runs
 pub mod Adds
+pub mod Lays
 pub mod Entries
 pub mod Repetitions
 pub mod Trees

@@ -15,6 +15,7 @@ use Rattle.tree.specs.Tokens.{Token, include, exclude, set-end, open-group, clo
 use Rattle.tree.specs.Tokens.{memberToken, memberTokens, terminalTokens, symbolTokens, alternativeTokens, bodyTokens}
 use Rattle.plain.specs.Written.{heads, terminals, namesIn, terminalsIn, within, withinAlternative, withinBody, kind, made}
 use Rattle.plain.specs.Plain.{symbols, alternatives, alts, makes}
+use Rattle.layout.specs.Layout.{laid, dotCount, startsFrom}
 use Rattle.tokens.specs.Proper.{Proper, ProperAlternative, ProperBody}
 use Rattle.tokens.specs.Lengths.{firstNumber}
 use Rattle.measure.specs.Costs.{cost, costs, costOf, repeatCostOf}
@@ -33,20 +34,22 @@ use Rattle.items.proofs.Blocks.{Rows, r-last, r-more, r-item, Blocks, b
 use Rattle.items.proofs.Runs.{Trace, t-done, t-step, trace-append, sound-block, at-left, at-right, Ok, Run, shorter, run-none}
 use Rattle.items.proofs.Runs.{run-then, run-quiet, run-block, reads-final, means-made, among-later}
 use Rattle.items.proofs.Adds.{Adds, symbolsBack, adds-made, adds-both}
+use Rattle.items.proofs.Lays.{LaysIn, lays-then, lays-made}
 use Rattle.items.proofs.Entries.{KnownAll, known-append, in-first, Sym}
 use Rattle.items.proofs.Entries.{Alt, Bod, ok-pushed, push-run, terminal-sym, name-sym, afterOne}
 use Rattle.items.proofs.Entries.{afterTwo, three-more}
 
 module _ {g : Grammar} {K : List ℕ} where
   -- an operator of one operand; B n are the rules that it makes, from item n on
-  one-sym : (s f : Symbol) (t : Token) (k : ℕ) (B : ℕ → Starts) → lead s ≡ lead f → symbolTokens s ≡ symbolTokens f ++ t ∷ [] → kind s ≡ made
+  one-sym : (s f : Symbol) (t : Token) (k : ℕ) (B : ℕ → Starts) (us : List Symbol) → lead s ≡ lead f → symbolTokens s ≡ symbolTokens f ++ t ∷ [] → kind s ≡ made
       → within s ≡ s ∷ within f → ((n : ℕ) → symbolsBack (B n) ≡ makes s)
+      → laid s ≡ laid f ++ us → ((n : ℕ) → startsFrom g n us ≡ B n) → dotCount g us ≡ oneCount k
       → actionOf (firstNumber t) ≡ Operator k → k < 37 → cost t ≡ oneCount k → {at : ℕ} {a : Abs} {S : Starts} → Ok K a → Sym g K f at a S
       → a .items + a .depth + costs (symbolTokens s) ≤ 512 → ((n : ℕ) → Among (n + oneFirst k) s (B n))
       → ((F : List ℕ) (T : Starts) (n : ℕ) (e : Entry) → ((x : ℕ) (u : Symbol) → Among x u (B n) → Among x u T)
       → Reads F (e .token) (lead s) → ((p : ℕ) → Placed F g T p (e .sort) (e .target) (e .token) → Stands F g T p f) → Blocks F g T n (oneBlock k e n) (B n))
       → Sym g K s at a S
-  one-sym s f t k B ld q d v mk y l ct {at} {a} {S} o r h first bl =
+  one-sym s f t k B us ld q d v mk la st dc y l ct {at} {a} {S} o r h first bl =
       let b = r .after in
       let tc : costs (symbolTokens s) ≡ costs (symbolTokens f) + oneCount k = ap costs q ∙ costs-append (symbolTokens f) (t ∷ [])
       ∙ (let z : costs (symbolTokens f) + (cost t + 0) ≡ costs (symbolTokens f) + oneCount k = omega arith in z) in
@@ -90,6 +93,8 @@ module _ {g : Grammar} {K : List ℕ} where
         cost = omega (arith, r .cost, r .depth);
         adds = subst (λ (us : List Symbol). Adds S (B (r .after .items) ++ r .starts) (concatMap makes us)) (sym v)
             (adds-made (B (r .after .items)) (within f) s (mk (r .after .items)) (r .adds));
+        lays = subst (LaysIn g (B (r .after .items) ++ r .starts) (a .items) (r .after .items + oneCount k)) (sym la)
+            (lays-made (B (r .after .items)) (r .starts) (laid f) us (oneCount k) (st (r .after .items)) dc (r .lays));
         leads = λ F T w. subst (λ (us : List Token). Reads F (r .e .token) us) (sym ld)
             (r .leads F T (shorter (oneBlock k (r .e) (r .after .items)) (r .run .ok) refl (among-later (B (r .after .items)) (r .starts)) F T w));
         means =
@@ -101,8 +106,9 @@ module _ {g : Grammar} {K : List ℕ} where
       }
 
   -- an operator of two operands
-  two-sym : (s f sep : Symbol) (t : Token) (k : ℕ) (B : ℕ → Starts) → lead s ≡ lead f → symbolTokens s ≡ symbolTokens f ++ (symbolTokens sep ++ t ∷ [])
+  two-sym : (s f sep : Symbol) (t : Token) (k : ℕ) (B : ℕ → Starts) (us : List Symbol) → lead s ≡ lead f → symbolTokens s ≡ symbolTokens f ++ (symbolTokens sep ++ t ∷ [])
       → kind s ≡ made → within s ≡ s ∷ (within f ++ within sep) → ((n : ℕ) → symbolsBack (B n) ≡ makes s)
+      → laid s ≡ laid f ++ laid sep ++ us → ((n : ℕ) → startsFrom g n us ≡ B n) → dotCount g us ≡ twoCount k
       → actionOf (firstNumber t) ≡ Operator k → 37 ≤ k → cost t + 1 ≡ twoCount k → {at : ℕ} {a : Abs} {S : Starts} → Ok K a
       → (r : Sym g K f at a S) → (r' : Sym g K sep (at + length (encode (symbolTokens f))) (r .after) (r .starts))
       → a .items + a .depth + costs (symbolTokens s) ≤ 512 → ((n : ℕ) → Among (n + twoFirst k) s (B n))
@@ -110,7 +116,7 @@ module _ {g : Grammar} {K : List ℕ} where
       → ((p : ℕ) → Placed F g T p (e .sort) (e .target) (e .token) → Stands F g T p f)
       → ((p : ℕ) → Placed F g T p (e' .sort) (e' .target) (e' .token) → Stands F g T p sep) → Blocks F g T n (twoBlock k e e' n) (B n))
       → Sym g K s at a S
-  two-sym s f sep t k B ld q d v mk y l ct {at} {a} {S} o r r' h first bl =
+  two-sym s f sep t k B us ld q d v mk la st dc y l ct {at} {a} {S} o r r' h first bl =
       let tc : costs (symbolTokens s) + 1 ≡ costs (symbolTokens f) + costs (symbolTokens sep) + twoCount k = ap (λ (n : ℕ). n + 1)
       (ap costs q ∙ costs-append (symbolTokens f) (symbolTokens sep ++ t ∷ []))
       ∙ (let z : costs (symbolTokens f) + costs (symbolTokens sep ++ t ∷ []) + 1 ≡ costs (symbolTokens f) + costs (symbolTokens sep) +
@@ -162,6 +168,9 @@ module _ {g : Grammar} {K : List ℕ} where
         adds = subst (λ (us : List Symbol). Adds S (B (r' .after .items) ++ r' .starts) (concatMap makes us)) (sym v)
             (adds-made (B (r' .after .items)) (within f ++ within sep) s (mk (r' .after .items))
             (adds-both (within f) (within sep) (r' .run .later) (r .adds) (r' .adds)));
+        lays = subst (LaysIn g (B (r' .after .items) ++ r' .starts) (a .items) (r' .after .items + twoCount k)) (sym la)
+            (lays-made (B (r' .after .items)) (r' .starts) (laid f ++ laid sep) us (twoCount k) (st (r' .after .items)) dc
+            (lays-then (laid f) (laid sep) (r' .run .later) (r .lays) (r' .lays)));
         leads = λ F T w.
             let w' : Final g K (r' .after .list) (r' .starts) F T =
             shorter (twoBlock k (r .e) (r' .e) (r' .after .items)) (r' .run .ok) refl (among-later (B (r' .after .items)) (r' .starts)) F T w in
@@ -179,20 +188,21 @@ module _ {g : Grammar} {K : List ℕ} where
   pub option-sym : (f : Symbol) {at : ℕ} {a : Abs} {S : Starts} → Ok K a → Sym g K f at a S → a .items + a .depth + costs (symbolTokens (option f)) ≤ 512 → Sym g K (option f) at a S
   unfolding actionOf lateActionOf costOf repeatCostOf oneCount oneFirst oneBlock
   option-sym f o r h =
-      one-sym (option f) f to-option 34 (λ n. (n, option f) ∷ []) refl refl refl refl (λ n. refl) refl (omega arith) refl o r h (λ n. inl (omega arith, refl))
+      one-sym (option f) f to-option 34 (λ n. (n, option f) ∷ []) (option f ∷ []) refl refl refl refl (λ n. refl) refl (λ n. refl) refl refl (omega arith) refl o r h (λ n. inl (omega arith, refl))
       (λ F T n e sub rd m. b-rule {s = option f} (r-item m (r-more r-last)) b-none)
 
   pub star-sym : (f : Symbol) {at : ℕ} {a : Abs} {S : Starts} → Ok K a → Sym g K f at a S → a .items + a .depth + costs (symbolTokens (repeat0 f)) ≤ 512 → Sym g K (repeat0 f) at a S
   unfolding actionOf lateActionOf costOf repeatCostOf oneCount oneFirst oneBlock
   star-sym f o r h =
-      one-sym (repeat0 f) f to-repeat0 35 (λ n. (n, repeat0 f) ∷ []) refl refl refl refl (λ n. refl) refl (omega arith) refl o r h (λ n. inl (omega arith, refl))
+      one-sym (repeat0 f) f to-repeat0 35 (λ n. (n, repeat0 f) ∷ []) (repeat0 f ∷ []) refl refl refl refl (λ n. refl) refl (λ n. refl) refl refl (omega arith) refl o r h (λ n. inl (omega arith, refl))
       (λ F T n e sub rd m. b-rule {s = repeat0 f} (r-item m
       (r-item (means-made F g T n (e .token) (repeat0 f) refl rd (sub n (repeat0 f) (inl (refl, refl)))) (r-more r-last))) b-none)
 
   pub plus-sym : (f : Symbol) {at : ℕ} {a : Abs} {S : Starts} → Ok K a → Sym g K f at a S → a .items + a .depth + costs (symbolTokens (repeat1 f)) ≤ 512 → Sym g K (repeat1 f) at a S
   unfolding actionOf lateActionOf costOf repeatCostOf oneCount oneFirst oneBlock
   plus-sym f o r h =
-      one-sym (repeat1 f) f to-repeat1 36 (λ n. (n, repeat0 f) ∷ (n + 4, repeat1 f) ∷ []) refl refl refl refl (λ n. refl) refl (omega arith) refl o r h (λ n. inr (inl (refl, refl)))
+      one-sym (repeat1 f) f to-repeat1 36 (λ n. (n, repeat0 f) ∷ (n + 4, repeat1 f) ∷ []) (repeat0 f ∷ repeat1 f ∷ [])
+      refl refl refl refl (λ n. refl) refl (λ n. refl) refl refl (omega arith) refl o r h (λ n. inr (inl (refl, refl)))
       (λ F T n e sub rd m.
       let self = means-made F g T n (e .token) (repeat0 f) refl rd (sub n (repeat0 f) (inl (refl, refl))) in
       b-rule {s = repeat0 f} {xs = starBlock e n} {ys = onceBlock e n} (r-item m (r-item self (r-more r-last)))
@@ -203,7 +213,8 @@ module _ {g : Grammar} {K : List ℕ} where
       → a .items + a .depth + costs (symbolTokens (repeat1sep f sep)) ≤ 512 → Sym g K (repeat1sep f sep) at a S
   unfolding actionOf lateActionOf costOf repeatCostOf twoCount twoFirst twoBlock
   list-sym f sep o r r' h =
-      two-sym (repeat1sep f sep) f sep to-repeat1sep 38 (λ n. (n, rest f sep) ∷ (n + 5, repeat1sep f sep) ∷ []) refl refl refl refl (λ n. refl) refl (omega arith)
+      two-sym (repeat1sep f sep) f sep to-repeat1sep 38 (λ n. (n, rest f sep) ∷ (n + 5, repeat1sep f sep) ∷ []) (rest f sep ∷ repeat1sep f sep ∷ [])
+      refl refl refl refl (λ n. refl) refl (λ n. refl) refl refl (omega arith)
       refl o r r' h (λ n. inr (inl (refl, refl)))
       (λ F T n e e' sub rd m m'.
       let self = means-made F g T n (e .token) (rest f sep) refl rd (sub n (rest f sep) (inl (refl, refl))) in
@@ -216,7 +227,8 @@ module _ {g : Grammar} {K : List ℕ} where
   unfolding actionOf lateActionOf costOf repeatCostOf twoCount twoFirst twoBlock
   maybe-sym f sep o r r' h =
       two-sym (repeat0sep f sep) f sep to-repeat0sep 37
-      (λ n. (n, rest f sep) ∷ (n + 5, repeat1sep f sep) ∷ (n + 5 + 3, repeat0sep f sep) ∷ []) refl refl refl refl (λ n. refl) refl (omega arith) refl o r r' h
+      (λ n. (n, rest f sep) ∷ (n + 5, repeat1sep f sep) ∷ (n + 5 + 3, repeat0sep f sep) ∷ []) (rest f sep ∷ repeat1sep f sep ∷ repeat0sep f sep ∷ [])
+      refl refl refl refl (λ n. refl) refl (λ n. refl) refl refl (omega arith) refl o r r' h
       (λ n. inr (inr (inl (omega arith, refl))))
       (λ F T n e e' sub rd m m'.
       let self = means-made F g T n (e .token) (rest f sep) refl rd (sub n (rest f sep) (inl (refl, refl))) in

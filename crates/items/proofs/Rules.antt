@@ -7,12 +7,15 @@ use Prim.Native.Nat.{ℕ, _+_, _*_, _<_, _≤_}
 use native.Mathlib.Omega.{arith}
 use lib.ListN.{length, length-append, take, drop}
 use Rattle.text.specs.Lists.{Text, concatMap}
+use Rattle.text.proofs.Lists.{concat-append}
 use Rattle.text.proofs.Tests.{split}
 use Rattle.tree.specs.Tree.{Mark, unmarked, Symbol, nonterminal, Body, Rule, Prolog, no-prolog, version, Grammar, rules}
 use Rattle.tree.specs.Tokens.{Token, rule-head, rule-end, version-is, encode, numbers, bodyTokens, ruleTokens, prologTokens, grammarTokens}
 use Rattle.plain.specs.Written.{withinBody, written}
 use Rattle.plain.specs.Static.{undefined}
 use Rattle.plain.specs.Plain.{alternatives, alts, makes, weight, size}
+use Rattle.layout.specs.Layout.{laidBody, laidRule}
+use Rattle.layout.proofs.Sums.{Own}
 use Rattle.tokens.specs.Proper.{ProperBody, ProperRules}
 use Rattle.tokens.specs.Lengths.{firstNumber}
 use Rattle.measure.specs.Costs.{cost, costs, costOf, repeatCostOf}
@@ -29,6 +32,7 @@ use Rattle.items.proofs.Blocks.{Rows, rows-alternatives, rows-length, p
 use Rattle.items.proofs.Uses.{rule-spelt}
 use Rattle.items.proofs.Runs.{Trace, t-done, t-step, trace-append, at-left, at-right, Ok, Run, shorter}
 use Rattle.items.proofs.Adds.{Adds, writtenIn, adds-none, adds-rule, adds-rules}
+use Rattle.items.proofs.Lays.{Lays, lays-none, lays-then, begins-left, begins-right, own-split}
 use Rattle.items.proofs.Entries.{KnownAll, known-append, Bod, three-more, ok-pushed, skip-run}
 use Rattle.items.proofs.Repetitions.{opened}
 use Rattle.items.proofs.Trees.{body-run, at-head}
@@ -52,6 +56,7 @@ pub record Ruled (g : Grammar) (K : List ℕ) (us : List Token) (rs : List Rule)
   pub later : (x : ℕ) (s : Symbol) → Among x s S → Among x s starts
   pub cost : after .items + after .depth ≡ a .items + a .depth + costs us
   pub adds : Adds S starts (concatMap makes (writtenIn rs))
+  pub lays : Own (g .root ∷ g .others) rs → Lays g (λ x s. Begins x s starts rs firsts) (a .items) (after .items) (concatMap laidRule rs)
   pub sound : (F : List ℕ) (T : Starts) → Final g K (after .list) starts F T → Sound F g T (a .items) (after .items) S starts rs firsts × Bodies F g T (after .items) rs firsts
 
 head-action : (m : Mark) (n : Text) → actionOf (firstNumber (rule-head m n)) ≡ Open
@@ -121,6 +126,27 @@ one-single : {n : ℕ} (S : Starts) (r : Rule) → Under n S → (x : ℕ) (s t 
 one-single S r u x s t l a b = sym (one-new S r u x s l a) ∙ one-new S r u x t l b
 
 module _ {g : Grammar} {K : List ℕ} where
+  -- a rule stands after what its body makes
+  rule-lays : (r : Rule) {at : ℕ} {a : Abs} {S : Starts} → Own (rules g) (r ∷ []) → (q : Bod g K (r .body) at a S)
+      → Lays g (λ x s. Begins x s (q .starts) (r ∷ []) (q .after .items ∷ [])) (a .items) (q .after .items + (q .count + 1)) (concatMap laidRule (r ∷ []))
+  rule-lays r {a = a} own q =
+      subst (Lays g (λ x s. Begins x s (q .starts) (r ∷ []) (q .after .items ∷ [])) (a .items) (q .after .items + (q .count + 1))) (sym (append-nil (laidRule r)))
+      (lays-then (laidBody (r .body)) (nonterminal unmarked (r .name) ∷ []) (λ x s m. inl m) (q .lays) (record {
+        next = omega (arith, q .weighs, ap weight (own .0));
+        begins = λ x s m. inr m;
+      }))
+
+  rules-lay : {us vs : List Token} {rs rs' : List Rule} {at bt : ℕ} {a : Abs} {S : Starts} (q : Ruled g K us rs at a S) (r : Ruled g K vs rs' bt (q .after) (q .starts))
+      → Own (rules g) (rs ++ rs') → Lays g (λ x s. Begins x s (r .starts) (rs ++ rs') (q .firsts ++ r .firsts)) (a .items) (r .after .items) (concatMap laidRule (rs ++ rs'))
+  rules-lay {rs = rs} {rs' = rs'} {a = a} q r own =
+      let o = own-split (rules g) rs rs' own in
+      subst (Lays g (λ x s. Begins x s (r .starts) (rs ++ rs') (q .firsts ++ r .firsts)) (a .items) (r .after .items)) (sym (concat-append laidRule rs rs'))
+      (lays-then (concatMap laidRule rs) (concatMap laidRule rs') (λ x s m. begins-left x s (q .starts) (r .starts) rs rs' (q .firsts) (r .firsts) (r .later x s) m) (q .lays (o .0))
+      (record {
+        next = r .lays (o .1) .next;
+        begins = λ x s m. begins-right x s (r .starts) rs rs' (q .firsts) (r .firsts) (listed-even (q .listed)) (r .lays (o .1) .begins x s m);
+      }))
+
   rule-run : (r : Rule) → ProperBody (r .body) → KnownAll g (withinBody (r .body)) → (at : ℕ) (a : Abs) (S : Starts)
       → At K at (ruleTokens r) → Ok K a → a .rules ≤ a .items → a .items + a .depth + costs (ruleTokens r) ≤ 512
       → Ruled g K (ruleTokens r) (r ∷ []) at a S
@@ -187,6 +213,7 @@ module _ {g : Grammar} {K : List ℕ} where
         later = q .run .later;
         cost = omega (arith, q .cost, q .depth, rule-cost r);
         adds = adds-rule r (q .adds);
+        lays = λ own. rule-lays r own q;
         sound = λ F T f.
             let f' = shorter (q .entries ++ nums (entry 6 0 0)) (q .run .ok) refl (λ x s m. m) F T f in
             let rows = q .rows F T f' in
@@ -231,6 +258,7 @@ module _ {g : Grammar} {K : List ℕ} where
     later = λ x s m. r .later x s (q .later x s m);
     cost = omega (arith, q .cost, r .cost, costs-append us vs);
     adds = adds-rules rs rs' (r .later) (q .adds) (r .adds);
+    lays = λ own. rules-lay q r own;
     sound = λ F T f.
         let f' = shorter (r .more) (q .ok) (r .list) (r .later) F T f in
         let x = q .sound F T f' in
@@ -260,6 +288,7 @@ module _ {g : Grammar} {K : List ℕ} where
     later = λ x s m. m;
     cost = omega arith;
     adds = adds-none S;
+    lays = λ own. lays-none;
     sound = λ F T f. (sound-none (a .items) S, tt);
   }
 

@@ -1,4 +1,5 @@
 -- The loop over the tokens follows the machine's run.
+use mathlib.Core.Bool.{false}
 use mathlib.Core.List.{List, [], _∷_, _++_}
 use mathlib.Core.Logic.{⊎-elim}
 use mathlib.Core.Path.{_≡_, refl, sym, ap, _∙_, subst}
@@ -7,9 +8,12 @@ use native.Mathlib.Omega.{arith}
 use lib.ListN.{length, getD, take, drop, take-append-drop}
 use lib.Seq.{take-take, length-take-le}
 use Rattle.text.proofs.Tests.{split}
-use Rattle.tree.specs.Tree.{Grammar, rules}
+use Rattle.tree.specs.Tree.{Symbol, Grammar, rules}
 use Rattle.tree.specs.Tokens.{Token, numbers, encode, grammarTokens}
+use Rattle.plain.specs.Static.{duplicate}
 use Rattle.plain.specs.Plain.{size}
+use Rattle.layout.specs.Layout.{layout, startsOf}
+use Rattle.layout.proofs.Sums.{own-of}
 use Rattle.tokens.specs.Lengths.{lengthAt, Left}
 use Rattle.tokens.proofs.Walk.{left-empty, left-inside, left-length, left-first, left-within, left-next, left-start, some-number}
 use Rattle.measure.proofs.Sizes.{size-costs}
@@ -17,7 +21,8 @@ use Rattle.items.specs.declared.Action.{Action}
 use Rattle.items.specs.declared.Action.the-variants.{Skip, Push, Open, Operator, Close, Finish}
 use Rattle.items.specs.declared.State.{State}
 use Rattle.items.specs.Machine.{Abs, Act, Fit, Has, Rep, Ready, actionOf}
-use Rattle.items.specs.Scanned.{At, Readable, Scanned, Listed}
+use Rattle.items.specs.Items.{Among}
+use Rattle.items.specs.Scanned.{At, Begins, Readable, Scanned, Listed}
 use Rattle.items.specs.Final.{Final}
 use Rattle.items.proofs.Reps.{act-as}
 use Rattle.items.proofs.Runs.{Trace, t-done, t-step}
@@ -150,6 +155,11 @@ done-of : {T : List ℕ} {end at : ℕ} {s : State} {z : Abs} (ts : List Token) 
 done-of [] a h i w t-done r = r
 done-of (t ∷ ts) a h i w v r = absurd (let e : 0 < 0 = omega (arith, left-within w i, some-number t) in omega arith)
 
+laid-starts : {T : List ℕ} {end : ℕ} {g : Grammar} (size : length T ≡ 16384) (h : end ≤ 12288) (r : Readable T end g) → duplicate g ≡ false
+    → (x : ℕ) (s : Symbol) → Among x s (startsOf g) → Begins x s (run-of size h r .starts) (rules g) (run-of size h r .firsts)
+unfolding startsOf layout
+laid-starts {g = g} size h r d x s m = run-of size h r .lays (own-of g d) .begins x s m
+
 pub going-done : {T₀ T : List ℕ} {end at : ℕ} {g : Grammar} {s : State} (size : length T₀ ≡ 16384) (h : end ≤ 12288) (r : Readable T₀ end g)
     → end ≤ at → Going (take 12288 T₀) T end at s (run-of size h r .after) → Scanned g (take 12288 T₀) T s
 going-done {T₀} {T} {end} {at} {g} {s} size h r l w =
@@ -167,6 +177,7 @@ going-done {T₀} {T} {end} {at} {g} {s} size h r l w =
       listed = subst (λ (K : List ℕ). Listed K (run-of size h r .after .rows) (rules g) (run-of size h r .firsts))
           (sym (run-of size h r .ok .tokens)) (subst (λ (l : List ℕ). Listed (take 12288 T₀) l (rules g) (run-of size h r .firsts))
           (sym (run-of size h r .rows)) (run-of size h r .listed));
+      laid = laid-starts size h r;
       whole = λ F T' f.
           let x = run-of size h r .sound F T' (subst (λ (K : List ℕ). Final g K (run-of size h r .after .list) (run-of size h r .starts) F T') (run-of size h r .ok .tokens) f) in
           record {

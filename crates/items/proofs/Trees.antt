@@ -15,6 +15,7 @@ use Rattle.tree.specs.Tokens.{Token, include, exclude, set-end, open-group, clo
 use Rattle.tree.specs.Tokens.{memberToken, memberTokens, terminalTokens, symbolTokens, alternativeTokens, bodyTokens}
 use Rattle.plain.specs.Written.{heads, terminals, namesIn, terminalsIn, within, withinAlternative, withinBody, kind, made}
 use Rattle.plain.specs.Plain.{symbols, alternatives, alts}
+use Rattle.layout.specs.Layout.{laid, laidAlternative, laidBody}
 use Rattle.tokens.specs.Proper.{Proper, ProperAlternative, ProperBody}
 use Rattle.tokens.specs.Lengths.{firstNumber}
 use Rattle.measure.specs.Costs.{cost, costs, costOf, repeatCostOf}
@@ -33,6 +34,7 @@ use Rattle.items.proofs.Blocks.{Rows, r-last, r-more, r-item, Blocks, b
 use Rattle.items.proofs.Runs.{Trace, t-done, t-step, trace-append, sound-block, at-left, at-right, Ok, Run, shorter, run-none}
 use Rattle.items.proofs.Runs.{run-then, run-quiet, run-block, reads-final, means-made, among-later}
 use Rattle.items.proofs.Adds.{adds-none, adds-made, adds-both}
+use Rattle.items.proofs.Lays.{lays-none, lays-then, lays-made}
 use Rattle.items.proofs.Entries.{KnownAll, known-append, in-first, Sym}
 use Rattle.items.proofs.Entries.{Alt, Bod, ok-pushed, push-run, terminal-sym, name-sym, afterOne}
 use Rattle.items.proofs.Entries.{afterTwo, three-more}
@@ -106,6 +108,7 @@ module _ {g : Grammar} {K : List ℕ} where
         depth = ap (λ (n : ℕ). n + 1) based;
         cost = omega (arith, r .cost, r .depth, bracket-costs x);
         adds = adds-made ((r .after .items, group x) ∷ []) (withinBody x) (group x) refl (r .adds);
+        lays = lays-made ((r .after .items, group x) ∷ []) (r .starts) (laidBody x) (group x ∷ []) (r .count + 1) refl (omega (arith, r .weighs)) (r .lays);
         leads = λ F T w. reads-final k F T w;
         means = λ F T w p v. means-made F g T (r .after .items) at (group x) refl (reads-final k F T w) (w .sub (r .after .items) (group x) (inl (refl, refl))) p v;
       }
@@ -171,7 +174,9 @@ module _ {g : Grammar} {K : List ℕ} where
           depth = omega arith;
           wide = refl;
           cost = omega arith;
+          counts = refl;
           adds = adds-none S;
+          lays = lays-none;
           rows = λ F T f tail ts r. r;
         }
     alternative-run (cons f x) p n at a S w o h =
@@ -190,7 +195,9 @@ module _ {g : Grammar} {K : List ℕ} where
           depth = omega (arith, r .depth, r' .depth);
           wide = omega (arith, r' .wide);
           cost = omega (arith, r .cost, r' .cost, costs-append (symbolTokens f) (alternativeTokens x));
+          counts = omega (arith, r' .counts);
           adds = adds-both (within f) (withinAlternative x) (r' .run .later) (r .adds) (r' .adds);
+          lays = lays-then (laid f) (laidAlternative x) (r' .run .later) (r .lays) (r' .lays);
           rows = λ F T w' tail ts v. r-item (r .means F T (shorter (r' .run .more) (r .run .ok) (r' .run .list) (r' .run .later) F T w')) (r' .rows F T w' tail ts v);
         }
 
@@ -208,7 +215,9 @@ module _ {g : Grammar} {K : List ℕ} where
           depth = r .depth;
           wide = r .wide;
           cost = r .cost;
+          weighs = omega (arith, r .counts);
           adds = r .adds;
+          lays = r .lays;
           rows = λ F T f. r .rows F T f (nums (entry 6 0 0)) [] r-last;
         }
     body-run (also x y) p n at a S w o h =
@@ -241,7 +250,9 @@ module _ {g : Grammar} {K : List ℕ} where
               ∙ (let z : length (r .entries) + length (nums (entry 5 0 (at + length (encode (alternativeTokens x)))) ++ r' .entries) ≡ 3 *
               (r .count + (1 + r' .count)) = omega (arith, r .wide, r' .wide) in z);
           cost = omega (arith, r .cost, r' .cost, ca, next-costs (bodyTokens y));
+          weighs = omega (arith, r .counts, r' .weighs);
           adds = adds-both (withinAlternative x) (withinBody y) (r' .run .later) (r .adds) (r' .adds);
+          lays = lays-then (laidAlternative x) (laidBody y) (r' .run .later) (r .lays) (r' .lays);
           rows = λ F T f. subst (λ (l : List ℕ). Rows F g T l (symbols x ∷ alternatives y))
               (sym (append-assoc (r .entries) (nums (entry 5 0 (at + length (encode (alternativeTokens x)))) ++ r' .entries)
               (nums (entry 6 0 0)))) (r .rows F T (shorter (r' .run .more) (r .run .ok) (r' .run .list) (r' .run .later) F T f)

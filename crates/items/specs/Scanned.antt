@@ -9,8 +9,9 @@ use Rattle.text.specs.Lists.{concatMap}
 use Rattle.tree.specs.Tree.{unmarked, Symbol, nonterminal, Rule, Grammar, rules}
 use Rattle.tree.specs.Tokens.{Token, rule-head, encode}
 use Rattle.plain.specs.Written.{written}
-use Rattle.plain.specs.Static.{undefined}
+use Rattle.plain.specs.Static.{undefined, duplicate}
 use Rattle.plain.specs.Plain.{alts, alternatives, makes, weight, size}
+use Rattle.layout.specs.Layout.{startsOf}
 use Rattle.tokens.specs.Lengths.{Holds}
 use Rattle.items.specs.declared.State.{State}
 use Rattle.items.specs.Items.{kindAt, Starts, Among, Alternatives, Spelt}
@@ -79,6 +80,7 @@ pub record Scanned (g : Grammar) (K T : List ℕ) (s : State) : Type 0 where
   pub only : (x : ℕ) (s : Symbol) → Among x s starts → In s (concatMap makes (written g))
   pub firsts : List ℕ
   pub listed : Listed (state .tokens) (state .rows) (rules g) firsts
+  pub laid : duplicate g ≡ false → (x : ℕ) (s : Symbol) → Among x s (startsOf g) → Begins x s starts (rules g) firsts
   pub whole : (F : List ℕ) (T' : Starts) → Final g (state .tokens) (state .list) starts F T' → Whole F g T' starts firsts (state .items)
 
 -- a table with the tokens of a grammar that is not too large and uses no name without a rule

@@ -48,7 +48,7 @@ fn take_record(record: &[u8], text: &mut [u32]) -> Taken
 }
 
 // The numbers that the main table needs.
-fn need(size: usize, n: usize) -> usize
+pub fn need(size: usize, n: usize) -> usize
     requires { ⌜ (size ≤ mostSize) × (n ≤ recordChars) ⌝ }
     ensures { λ r. ⌜ r ≡ tableNeed size n ⌝ }
 {
@@ -76,7 +76,7 @@ fn why_taken(taken: Taken) -> Diagnostic
 }
 
 // 1 to 14, and 24.
-fn open_job(grammar: &[u8], record: &[u8], table: &mut [u32], text: &mut [u32]) -> Begun
+pub fn open_job(grammar: &[u8], record: &[u8], table: &mut [u32], text: &mut [u32]) -> Begun
     requires { ⌜ (length (now table) ≡ grammarTable) × (length (now text) ≡ recordChars) ⌝ }
     ensures { λ r. ⌜ Opens (now (grammar .entry)) (now («record» .entry)) (now (table .exit)) (now (text .exit)) r ⌝ }
 {
@@ -92,7 +92,7 @@ fn open_job(grammar: &[u8], record: &[u8], table: &mut [u32], text: &mut [u32]) 
 }
 
 // The same of a job that is opened.
-fn need_of(opened: Begun) -> usize
+pub fn need_of(opened: Begun) -> usize
     requires { ⌜ Small opened ⌝ }
     ensures { λ r. ⌜ r ≡ needOf opened ⌝ }
 {
@@ -105,7 +105,7 @@ fn need_of(opened: Begun) -> usize
 }
 
 // 15: the first table is shorter than its need, or the second too short. A refusal stays.
-fn lend(opened: Begun, first: usize, need: usize, second: usize) -> Begun
+pub fn lend(opened: Begun, first: usize, need: usize, second: usize) -> Begun
     ensures { λ r. ⌜ r ≡ lendingOf opened (ltb first need || ltb second grammarTable) ⌝ }
 {
     let Begun::At(start) = opened else {
@@ -121,7 +121,7 @@ fn lend(opened: Begun, first: usize, need: usize, second: usize) -> Begun
 }
 
 // 1 to 15, and 24, of a job that is read. The lent tables are known by their lengths.
-fn begin(
+pub fn begin(
     grammar: &[u8],
     record: &[u8],
     main: usize,
@@ -167,7 +167,7 @@ pub enum Read {
 }
 
 // 16 at the place of the fault, and 29.
-fn why_not(chosen: Chosen) -> Diagnostic
+pub fn why_not(chosen: Chosen) -> Diagnostic
     ensures { λ r. ⌜ r ≡ whyNot chosen ⌝ }
 {
     match chosen {

@@ -66,7 +66,7 @@ pub enum Chosen {
 }
 
 // What the walk answers, but for a record without a reading.
-fn of_walked(walked: Walked) -> Chosen
+pub fn of_walked(walked: Walked) -> Chosen
     ensures { λ r. ⌜ r ≡ chosenOf walked ⌝ }
 {
     match walked {

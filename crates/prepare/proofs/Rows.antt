@@ -103,8 +103,11 @@ module _ {At Bt : ℕ → Terminal → Type 0} {c : List ℕ} {g : Grammar} wher
     only = k .only;
     within = k .within;
     few = k .few;
+    laid = k .laid;
+    named = k .named;
+    names = k .names;
   }
 
 -- the rows of tests tell where the code's terminals fit
-pub fitted : {T c f f₀ : List ℕ} {g : Grammar} {R : Text} {size top first : ℕ} → Ruled (Token T) c g size top first → Rows T size R f₀ f → Ruled (Fitting f R) c g size top first
+unfoldable pub fitted : {T c f f₀ : List ℕ} {g : Grammar} {R : Text} {size top first : ℕ} → Ruled (Token T) c g size top first → Rows T size R f₀ f → Ruled (Fitting f R) c g size top first
 fitted k v = ruled-as (λ p x h z t i m. v .rows p h x (t .0) (t .1) i m) k

@@ -46,7 +46,8 @@ fn fit_item(table: &[u32], size: usize, p: usize, text: &[u32], fits: &mut [u8])
     );
 }
 
-fn fit_rows(table: &[u32], size: usize, text: &[u32], fits: &mut [u8])
+// Where the terminals of all items fit the record.
+pub fn fit_rows(table: &[u32], size: usize, text: &[u32], fits: &mut [u8])
     requires { ⌜ RowsReady (now table) size (now text) (now fits) ⌝ }
     ensures { λ _. ⌜ Rows (now (table .entry)) size (now (text .entry)) (now (fits .entry)) (now (fits .exit)) ⌝ }
 {

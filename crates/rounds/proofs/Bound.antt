@@ -1,8 +1,10 @@
 -- Whatever is derived is derived with a height of at most the number of rules times one more than the characters of its stretch: on a path
 -- of a lowest derivation no rule comes twice on one stretch, and stretches on a path only become shorter.
-use mathlib.Core.Path.{_≡_, refl, sym, subst}
+use mathlib.Core.Path.{_≡_, refl, sym, ap, subst, _∙_}
+use mathlib.Core.Logic.{_⊎_, inl, inr, ⊎-elim}
 use mathlib.Core.Bool.{Bool}
 use mathlib.Core.List.{List, [], _∷_, List·Memᴰ as In}
+use mathlib.Core.List.{List·Memᴰ·head as in-head, List·Memᴰ·tail as in-tail}
 use Prim.Native.Nat.{ℕ, zero, suc, _+_, _*_, _<_, _≤_}
 use native.Mathlib.Nat.{suc-mul}
 use native.Mathlib.Decide.{decLt}
@@ -12,13 +14,13 @@ use lib.ListN.{length, getD}
 use Rattle.text.specs.Lists.{Text}
 use Rattle.tree.specs.Tree.{Symbol, terminal, Grammar}
 use Rattle.plain.specs.Plain.{alts, width, ruled}
-use Rattle.derive.specs.Derive.{Row, Derives, d-end, d-leaf, d-node, alternative}
+use Rattle.derive.specs.Derive.{Row, end, leaf, node, Derives, d-end, d-leaf, d-node, alternative}
 use Rattle.derive.specs.Level.{canOne, can}
 use Rattle.derive.specs.Bound.{symbolsOf}
 use Rattle.derive.proofs.Rows.{forward}
 use Rattle.derive.proofs.Levels.{node-can, both-can, complete, complete-one, sound, sound-one, can-more, Low}
 use Rattle.derive.proofs.Bound.{still, count, count-le, count-same}
-use Rattle.derive.proofs.Symbols.{Inside, alternative-of}
+use Rattle.derive.proofs.Symbols.{Inside, alternative-of, ruled-of}
 use Rattle.rounds.specs.Rounds.{mostRounds, Stands, AllStand}
 
 module _ (g : Grammar) (r : Text) where
@@ -104,9 +106,78 @@ module _ (g : Grammar) (r : Text) (ns : List Symbol) (all : AllStand g ns) where
       let v = sound g r (w .k) ss i j (rows (suc l) b i j short w le stop h (omega arith) (omega arith) d) in
       record { row = v .row; derives = v .derives; low = omega (arith, v .low, w .early, suc-mul (suc l) (length ns)) }
 
--- the rounds are enough, where the rules that are written and made stand for all symbols
-pub enough : (g : Grammar) (r : Text) → AllStand g (ruled g) → {t : Row} {ss : List Symbol} {i j : ℕ} → Inside g ss → j ≤ length r → Derives g r t ss i j → Low g r (mostRounds g r) ss i j
-enough g r all {ss = ss} {i = i} {j = j} h stop d =
-    let v = bounded g r (ruled g) all (length r) h stop (omega arith) d in
-    let e : length (ruled g) * suc (length r) ≡ mostRounds g r = omega arith in
-    record { row = v .row; derives = v .derives; low = omega (arith, v .low) }
+-- a tree is a leaf or a node
+by-cases : (g : Grammar) (r : Text) {t : Row} {s : Symbol} {i j : ℕ} {P : Type 0} → Derives g r t (s ∷ []) i j → (Low g r 0 (s ∷ []) i j → P)
+    → ((c : Row) (a : ℕ) → a < length (alts g s) → Derives g r c (alternative g s a) i j → P) → P
+by-cases g r (d-leaf {x} {i = i} f d-end) leaves nodes = leaves (record { row = leaf (i + width x) end; derives = d-leaf f d-end; low = omega arith })
+by-cases g r (d-node {c = c} {a = a} la d d-end) leaves nodes = nodes c a la d
+
+-- a list without one of its members
+abbrev without : {A : Type 0} {x : A} (xs : List A) → In x xs → List A
+without (y ∷ xs) (in-head e) = xs
+without (y ∷ xs) (in-tail m) = y ∷ without xs m
+
+without-length : {A : Type 0} {x : A} (xs : List A) (m : In x xs) → length xs ≡ suc (length (without xs m))
+without-length (y ∷ xs) (in-head e) = refl
+without-length (y ∷ xs) (in-tail m) = omega (arith, without-length xs m)
+
+other-in : {A : Type 0} {x z : A} (xs : List A) (m : In x xs) → In z xs → (z ≡ x) ⊎ In z (without xs m)
+other-in (y ∷ xs) (in-head e) (in-head o) = inl (o ∙ sym e)
+other-in (y ∷ xs) (in-head e) (in-tail o) = inr o
+other-in (y ∷ xs) (in-tail m) (in-head o) = inr (in-head o)
+other-in (y ∷ xs) (in-tail m) (in-tail o) = ⊎-elim inl (λ w. inr (in-tail w)) (other-in xs m o)
+
+module _ (g : Grammar) (r : Text) (all : AllStand g (ruled g)) where
+  -- the rounds are enough, where the rules that are written and made stand for all symbols
+  pub enough : {t : Row} {ss : List Symbol} {i j : ℕ} → Inside g ss → j ≤ length r → Derives g r t ss i j → Low g r (mostRounds g r) ss i j
+  enough {ss = ss} {i = i} {j = j} h stop d =
+      let v = bounded g r (ruled g) all (length r) h stop (omega arith) d in
+      let e : length (ruled g) * suc (length r) ≡ mostRounds g r = omega arith in
+      record { row = v .row; derives = v .derives; low = omega (arith, v .low) }
+
+  -- also for a rule that nothing uses: the others, one fewer, stand for all symbols inside it
+  module _ (s : Symbol) (m : In s (ruled g)) where
+    record Used : Type 0 where
+      symbol : Symbol
+      there : In symbol (symbolsOf g)
+      same : alts g s ≡ alts g symbol
+
+    abbrev Rest : List Symbol → Type 0
+    Rest xs = (x : Symbol) → In x xs → (a : ℕ) → a < length (alts g x) → Stands g (without (ruled g) m) x
+
+    one : (x : Symbol) → In x (symbolsOf g) → Used ⊎ ((a : ℕ) → a < length (alts g x) → Stands g (without (ruled g) m) x)
+    one x h = elim (decLt 0 (length (alts g x))) as (λ _. Used ⊎ ((a : ℕ) → a < length (alts g x) → Stands g (without (ruled g) m) x)) [
+      | no l ↦ inr (λ a b. absurd (omega arith))
+      | yes l ↦ (let o = all x h 0 l in ⊎-elim
+          (λ e. inl (record { symbol = x; there = h; same = subst (λ (y : Symbol). alts g y ≡ alts g x) e (o .same) }))
+          (λ w. inr (λ _ _. record { symbol = o .symbol; listed = w; same = o .same }))
+          (other-in (ruled g) m (o .listed)))
+    ]
+
+    scan : (xs : List Symbol) → ((x : Symbol) → In x xs → In x (symbolsOf g)) → Used ⊎ Rest xs
+    scan [] h = inr (λ x w. elim w [ ])
+    scan (x ∷ xs) h = ⊎-elim inl (λ a. ⊎-elim inl (λ b. inr (both a b)) (scan xs (λ y w. h y (in-tail w)))) (one x (h x (in-head refl)))
+      where
+        both : ((a : ℕ) → a < length (alts g x) → Stands g (without (ruled g) m) x) → Rest xs → Rest (x ∷ xs)
+        both a b y (in-head e) = subst (λ (z : Symbol). (a : ℕ) → a < length (alts g z) → Stands g (without (ruled g) m) z) (sym e) a
+        both a b y (in-tail w) = b y w
+
+    -- by a symbol that has the same alternatives, or as a node over what it has inside
+    by-used : Used → {t : Row} {i j a : ℕ} → a < length (alts g s) → j ≤ length r → Derives g r t (s ∷ []) i j → Low g r (mostRounds g r) (s ∷ []) i j
+    by-used u {a = a} la stop d =
+        let la' : a < length (alts g (u .symbol)) = subst (λ (ts : List (List Symbol)). a < length ts) (u .same) la in
+        let v = enough (u .there, tt) stop (move g r (u .symbol) s (u .same) la' d) in
+        record { row = v .row; derives = move g r s (u .symbol) (sym (u .same)) la (v .derives); low = v .low }
+
+    by-rest : Rest (symbolsOf g) → {c : Row} {i j a : ℕ} → a < length (alts g s) → j ≤ length r → Derives g r c (alternative g s a) i j → Low g r (mostRounds g r) (s ∷ []) i j
+    by-rest w {j = j} {a = a} la stop d =
+        let v = bounded g r (without (ruled g) m) w (length r) (ruled-of g m a) stop (omega arith) d in
+        let l = length (without (ruled g) m) in
+        let e : length (ruled g) ≡ suc l = without-length (ruled g) m in
+        let x : mostRounds g r ≡ suc l * (length r + 1) = ap (λ (o : ℕ). o * (length r + 1)) e in
+        record { row = node a j (v .row) end; derives = d-node la (v .derives) d-end; low = omega (arith, v .low, suc-mul l (length r + 1)) }
+
+    pub enough-rule : {t : Row} {i j : ℕ} → j ≤ length r → Derives g r t (s ∷ []) i j → Low g r (mostRounds g r) (s ∷ []) i j
+    enough-rule stop d = by-cases g r d
+        (λ u. record { row = u .row; derives = u .derives; low = omega (arith, u .low) })
+        (λ c a la e. ⊎-elim (λ u. by-used u la stop d) (λ w. by-rest w la stop e) (scan (symbolsOf g) (λ x h. h)))

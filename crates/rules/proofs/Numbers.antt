@@ -27,7 +27,7 @@ use Rattle.terminals.specs.Places.{TerminalAt, TerminalHere}
 use Rattle.tokens.specs.Lengths.{widthAt}
 use Rattle.rules.specs.Ready.{Last, ownerOf, Owners, nextKindOf, goesOf, ruleOf, Reach, Reaches, Codes, Ready, Token}
 use Rattle.terminals.proofs.Places.{term-two, width-is}
-use Rattle.rules.proofs.Dots.{layout, layout-count, Place, pl-end, pl-item, stands-kind, mark-kind, alts-place, alts-inner, alts-last, alts-some, alts-begins, Linked, chain-law}
+use Rattle.rules.proofs.Dots.{Place, pl-end, pl-item, stands-kind, mark-kind, alts-place, alts-inner, alts-last, alts-some, alts-begins, Linked, chain-law}
 
 -- a list of a function's values
 abbrev pub tab : {A : Type 0} → (ℕ → A) → ℕ → ℕ → List A

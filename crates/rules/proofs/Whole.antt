@@ -1,23 +1,21 @@
 -- From items in blocks to the code of the rules.
-use mathlib.Core.Bool.{Bool}
-use mathlib.Core.List.{List, [], _∷_, _++_, append-assoc, List·Memᴰ as In}
+use mathlib.Core.List.{List, [], _∷_, _++_, List·Memᴰ as In}
 use mathlib.Core.Logic.{_⊎_, inl, inr, ⊎-elim}
 use mathlib.Core.Path.{_≡_, refl, sym, ap, _∙_, subst}
 use Prim.Native.Nat.{ℕ, zero, suc, _+_, _*_, _-_, _<_, _≤_}
-use native.Mathlib.Nat.{not-suc-le-zero}
 use native.Mathlib.Decide.{decLt, ℕ-discrete}
 use native.Mathlib.Omega.{arith}
-use lib.ListN.{length, getD, take, drop, length-append, length-drop, length-take, take-append-drop}
-use lib.Seq.{drop-append-le, length-take-le}
-use Rattle.text.specs.Limits.{recordChars}
-use borrow.Author.Tests.{eq-eqb, ne-eqb, lt-ltb, le-ltb}
-use Rattle.text.specs.Lists.{Text}
+use lib.ListN.{length, getD, take, drop}
+use Rattle.text.specs.Lists.{concatMap}
 use Rattle.text.proofs.Tests.{split}
 use Rattle.tree.specs.Tree.{Mark, unmarked, string, hex, Terminal, literal, inclusion, exclusion, insertion, Symbol, terminal, nonterminal, Grammar, rules}
 use Rattle.tree.specs.Tokens.{encode, terminalTokens}
 use Rattle.plain.specs.Plain.{alts, weight, width, fits, ruleMark, over}
 use Rattle.plain.specs.Plain as plain
 use Rattle.plain.specs.Written.{kind, made, atom}
+use Rattle.layout.specs.Layout.{layout, dotCount, startsFrom, startsOf, dotsIn, dotsOf, nameAt}
+use Rattle.layout.proofs.Sums.{dots-weigh, layout-size}
+use Rattle.layout.proofs.Spots.{Spot, spot, concat-at, name-ends}
 use Rattle.derive.specs.Derive.{alternative, root}
 use Rattle.derive.specs.Bound.{symbolsOf}
 use Rattle.derive.proofs.Symbols.{inside-in, ruled-of}
@@ -27,10 +25,10 @@ use Rattle.chart.specs.Code.{afterDot, headOf, Chain, Owned, Ruled, ownerAt, go
 use Rattle.chart.specs.Code as code
 use Rattle.terminals.specs.Sound.{SoundTerminal}
 use Rattle.terminals.specs.Places.{TerminalAt, TerminalHere}
-use Rattle.tokens.specs.Lengths.{widthAt}
 use Rattle.rules.specs.Ready.{Last, ownerOf, Owners, nextKindOf, goesOf, ruleOf, Reach, Reaches, Codes, Ready, Token}
 use Rattle.terminals.proofs.Places.{term-two, width-is}
-use Rattle.rules.proofs.Dots.{layout, layout-count, layout-in, Place, pl-end, pl-item, stands-kind, mark-kind, alts-place, alts-inner, alts-last, alts-some, alts-begins, Linked, chain-law}
+use Rattle.rules.proofs.Dots.{dots-in, Place, pl-end, pl-item, stands-kind, mark-kind, alts-place, alts-before, alts-inner, alts-last}
+use Rattle.rules.proofs.Dots.{alts-some, alts-begins, Linked, chain-law, starts-at}
 use Rattle.rules.proofs.Numbers.{tab, tab-count, tab-at, Begin, owner-begin, owner-inner, owner-inv, whole, some-tokens, made-not}
 use Rattle.rules.proofs.Numbers.{kind-end, kind-symbol, kind-terminal, goes-terminal, goes-symbol, goes-on, goes-no}
 use Rattle.rules.proofs.Numbers.{rule-symbol}
@@ -62,7 +60,7 @@ module _ {T : List ℕ} {g : Grammar} {size first : ℕ} (r : Ready T g size fir
   firstBy p (no h) = 0
 
   dotAt : ℕ → List Symbol
-  dotAt p = getD (layout (alts g (symbolBy p (decLt p size)))) (p - firstBy p (decLt p size)) []
+  dotAt p = getD (dotsIn (alts g (symbolBy p (decLt p size)))) (p - firstBy p (decLt p size)) []
 
   headAt : ℕ → Symbol
   headAt p = symbolBy p (decLt p size)
@@ -105,12 +103,12 @@ module _ {T : List ℕ} {g : Grammar} {size first : ℕ} (r : Ready T g size fir
       symbol-by (yes l) = r .built .blocks .single x (cov (x + k) l .symbol) s (subst (λ (n : ℕ). Among n (cov (x + k) l .symbol) S) (unique (cov (x + k) l) own) (cov (x + k) l .among)) a
       symbol-by (no l) = absurd (l inside)
 
-      dot-is : afterDot dots (x + k) ≡ getD (layout (alts g s)) k []
+      dot-is : afterDot dots (x + k) ≡ getD (dotsIn (alts g s)) k []
       unfolding dots dotAt
       dot-is =
           tab-at dotAt 0 size (x + k) [] inside
           ∙ ap dotAt (let e : 0 + (x + k) ≡ x + k = omega arith in e)
-          ∙ rw (symbol-by (decLt (x + k) size), first-by (decLt (x + k) size)) (ap (λ (n : ℕ). getD (layout (alts g s)) n []) (let e : x + k - x ≡ k = omega arith in e))
+          ∙ rw (symbol-by (decLt (x + k) size), first-by (decLt (x + k) size)) (ap (λ (n : ℕ). getD (dotsIn (alts g s)) n []) (let e : x + k - x ≡ k = omega arith in e))
 
       head-is : headOf g heads (x + k) ≡ s
       unfolding heads headAt
@@ -146,6 +144,34 @@ module _ {T : List ℕ} {g : Grammar} {size first : ℕ} (r : Ready T g size fir
       | no d ↦ inr (⊎-elim (λ z. absurd (omega arith)) (λ l. subst (λ (n : ℕ). 4 < kindAt T n) (let e : x + k - 1 ≡ x + (k - 1) = omega arith in e) l) o)
     ]
 
+  -- rule q of the layout, and where it begins
+  abbrev nth : ℕ → Symbol
+  nth q = getD (layout g) q (root g)
+
+  abbrev begin : ℕ → ℕ
+  begin q = dotCount g (take q (layout g))
+
+  laid-at : (q : ℕ) → q < length (layout g) → Among (begin q) (nth q) S
+  unfolding startsOf
+  laid-at q h = r .built .blocks .laid (r .simple) (begin q) (nth q)
+      (subst (λ (n : ℕ). Among n (nth q) (startsFrom g 0 (layout g))) (let e : 0 + begin q ≡ begin q = omega arith in e) (starts-at g 0 (layout g) (root g) q h))
+
+  name-is : (q : ℕ) (h : q < length (layout g)) → nameAt g q ≡ end (begin q) (nth q) (laid-at q h)
+  name-is q h =
+      let a = laid-at q h in
+      omega (arith, end-is (begin q) (nth q) a, name-ends g (root g) q h (alts-some (r .built .items .rule (begin q) (nth q) a)))
+
+  spot-of : (p : ℕ) → p < size → Spot (λ s. weight (alts g s)) (root g) (layout g) p
+  spot-of p h = spot (λ s. weight (alts g s)) (root g) (layout g) p (omega (arith, layout-size g (r .simple), r .count))
+
+  laid-dot : (p : ℕ) → p < size → afterDot dots p ≡ getD (dotsOf g) p []
+  unfolding dotsOf
+  laid-dot p h =
+      let z = spot-of p h in
+      ap (afterDot dots) (z .is) ∙ dot-is (begin (z .q)) (nth (z .q)) (laid-at (z .q) (z .listed)) (z .k) (z .inner)
+      ∙ sym (ap (λ (n : ℕ). getD (concatMap (λ s. dotsIn (alts g s)) (layout g)) n []) (z .is)
+      ∙ concat-at (λ s. weight (alts g s)) (root g) (λ s. dotsIn (alts g s)) [] (λ s. dots-weigh (alts g s)) (layout g) (z .q) (z .k) (z .listed) (z .inner))
+
   -- what stands at an item, with the rule that it stands in
   record DottedRule (p : ℕ) : Type 0 where
     x : ℕ
@@ -154,7 +180,7 @@ module _ {T : List ℕ} {g : Grammar} {size first : ℕ} (r : Ready T g size fir
     k : ℕ
     at : p ≡ x + k
     inner : k < weight (alts g s)
-    place : Place T g S (layout (alts g s)) p k
+    place : Place T g S (dotsIn (alts g s)) p k
 
   dotted-rule : (p : ℕ) → p < size → DottedRule p
   dotted-rule p h =
@@ -167,9 +193,9 @@ module _ {T : List ℕ} {g : Grammar} {size first : ℕ} (r : Ready T g size fir
         k = p - c .first;
         at = e;
         inner = omega (arith, c .above, c .under);
-        place = subst (λ (n : ℕ). Place T g S (layout (alts g (c .symbol))) n (p - c .first)) (sym e)
+        place = subst (λ (n : ℕ). Place T g S (dotsIn (alts g (c .symbol))) n (p - c .first)) (sym e)
             (alts-place (r .built .items .rule (c .first) (c .symbol) (c .among)) (p - c .first)
-            (omega (arith, layout-count (alts g (c .symbol)), c .above, c .under)));
+            (omega (arith, dots-weigh (alts g (c .symbol)), c .above, c .under)));
       }
 
   term-at : (p : ℕ) (x : Terminal) (h : p < size) → Reads T (tokenAt T p) (terminalTokens x) → SoundTerminal x → TerminalAt T (tokenAt T p) x
@@ -194,14 +220,14 @@ module _ {T : List ℕ} {g : Grammar} {size first : ℕ} (r : Ready T g size fir
       go : (w : DottedRule p) → w ≡ dotted-rule p h → Item p
       go w d = by (w .place)
         where
-          dot-here : afterDot dots p ≡ getD (layout (alts g (w .s))) (w .k) []
+          dot-here : afterDot dots p ≡ getD (dotsIn (alts g (w .s))) (w .k) []
           dot-here = ap (afterDot dots) (w .at) ∙ dot-is (w .x) (w .s) (w .among) (w .k) (w .inner)
 
-          by : Place T g S (layout (alts g (w .s))) p (w .k) → Item p
+          by : Place T g S (dotsIn (alts g (w .s))) p (w .k) → Item p
           by (pl-end e l) = it-end l (dot-here ∙ e)
           by (pl-item u e a l) =
-              let n : suc (w .k) < weight (alts g (w .s)) = omega (arith, layout-count (alts g (w .s))) in
-              let f : afterDot dots (p + 1) ≡ getD (layout (alts g (w .s))) (suc (w .k)) [] = ap (afterDot dots)
+              let n : suc (w .k) < weight (alts g (w .s)) = omega (arith, dots-weigh (alts g (w .s))) in
+              let f : afterDot dots (p + 1) ≡ getD (dotsIn (alts g (w .s))) (suc (w .k)) [] = ap (afterDot dots)
               (let q : p + 1 ≡ w .x + suc (w .k) = omega (arith, w .at) in q) ∙ dot-is (w .x) (w .s) (w .among) (suc (w .k)) n in
               item-by p h w u (omega (arith, w .at, inside (w .x) (w .s) (w .among) (suc (w .k)) n)) (dot-here ∙ e ∙ ap (_∷_ u) (sym f)) a
 
@@ -321,9 +347,30 @@ module _ {T : List ℕ} {g : Grammar} {size first : ℕ} (r : Ready T g size fir
         (r .built .blocks .only (z .x) (z .s) (z .among))
 
     within-by : (p : ℕ) → DottedRule p → (s : Symbol) → In s (afterDot dots p) → In s (symbolsOf g)
-    within-by p z s m = layout-in (λ (x : Symbol). In x (symbolsOf g)) (alts g (z .s))
+    within-by p z s m = dots-in (λ (x : Symbol). In x (symbolsOf g)) (alts g (z .s))
         (λ a x i. inside-in g (alternative g (z .s) a) (ruled-of g (r .built .blocks .only (z .x) (z .s) (z .among)) a) i) (z .k) s
         (subst (λ (ss : List Symbol). In s ss) (ap (afterDot dots) (z .at) ∙ dot-is (z .x) (z .s) (z .among) (z .k) (z .inner)) m)
+
+    named-at : (q : ℕ) → q < length (layout g) → code.RuleOf c g dots heads (nth q) (nameAt g q)
+    named-at q h = rw (name-is q h) (rule-of (nth q) (begin q) (laid-at q h))
+
+    -- an item that ends no rule is no name
+    no-name : (e : ℕ) → e < size → (kindAt T e < 5) ⊎ (kindAt T e ≡ 5) → code.nextKind c e ≡ 0 → goesAt c e ≡ 0 → ⊥
+    no-name e h (inl l) k o = elim (ℕ-discrete (kindAt T e) 1) as (λ _. ⊥) [
+      | yes d ↦ omega (arith, w .kind-is e h, kind-terminal (kindAt T e) d)
+      | no d ↦ omega (arith, w .kind-is e h, kind-symbol (kindAt T e) d l)
+    ]
+    no-name e h (inr l) k o = omega (arith, w .goes-is e h, goes-on T e (kindAt T e) l)
+
+    names-by : (e : ℕ) → e < size → code.nextKind c e ≡ 0 → goesAt c e ≡ 0 → Spot (λ s. weight (alts g s)) (root g) (layout g) e
+        → (q : ℕ) × (q < length (layout g)) × (e ≡ nameAt g q)
+    names-by e h k o z =
+        let a = laid-at (z .q) (z .listed) in
+        let b = r .built .items .rule (begin (z .q)) (nth (z .q)) a in
+        let last : weight (alts g (nth (z .q))) ≤ suc (z .k) = ⊎-elim
+        (λ l. absurd (no-name e h (subst (λ (n : ℕ). (kindAt T n < 5) ⊎ (kindAt T n ≡ 5)) (sym (z .is)) (alts-before b (z .k) l)) k o))
+        (λ l. l) (split (suc (z .k)) (weight (alts g (nth (z .q))))) in
+        (z .q, z .listed, omega (arith, z .is, z .inner, name-ends g (root g) (z .q) (z .listed) (alts-some b)))
 
     pub coded-rules : (top : ℕ) → top ≡ ownerAt c first - 1 → Ruled (Token T) c g size top first
     coded-rules top e =
@@ -343,4 +390,7 @@ module _ {T : List ℕ} {g : Grammar} {size first : ℕ} (r : Ready T g size fir
           only = λ p h k q. only-by p (dotted-rule p h);
           within = λ p h s m. within-by p (dotted-rule p h) s m;
           few = omega (arith, symbols-few g (r .proper), r .count);
+          laid = laid-dot;
+          named = named-at;
+          names = λ e h k o. names-by e h k o (spot-of e h);
         }

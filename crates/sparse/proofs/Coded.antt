@@ -72,6 +72,9 @@ module _ {At : ℕ → Terminal → Type 0} {c : List ℕ} {g : Grammar} {size t
       only = k .only;
       within = k .within;
       few = k .few;
+      laid = k .laid;
+      named = k .named;
+      names = k .names;
     }
 
     shifted : (p i : ℕ) → p < size → i ≤ length r → nextKind c p ≡ 1 → Reached M p i → Fits M p i → On At c g (k .dots) (k .heads) p

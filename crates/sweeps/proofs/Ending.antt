@@ -60,7 +60,7 @@ module _ (c f : List ℕ) (size n len : ℕ) (sh : Shape c size n len) where
           | no z ↦ omega (arith, after .most e i j we)
         ]
 
-    closed-at : (i j : ℕ) → i ≤ j → j ≤ n → Closed c f size n u i j
+    pub closed-at : (i j : ℕ) → i ≤ j → j ≤ n → Closed c f size n u i j
     closed-at i j hi hj = record {
       terminal = λ p hp k g l b. (let w : Place size n p i j = record { inside = hp; order = hi; stop = hj } in
           let q : i ≤ i + goesAt c p = omega arith in

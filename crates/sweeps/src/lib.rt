@@ -33,7 +33,7 @@ pub struct Layer {
 }
 
 // The least height, as far as it is known, of what stands after the dot at q: of the empty rest at an end, else of the cell.
-fn value(code: &[u32], main: &[u32], layer: Layer, q: usize, i: usize, j: usize) -> u32
+pub fn value(code: &[u32], main: &[u32], layer: Layer, q: usize, i: usize, j: usize) -> u32
     requires { ⌜ Shape (now code) (layer .size) (layer .n) (length (now main)) × Place (layer .size) (layer .n) q i j ⌝ }
     ensures { λ r. ⌜ r ≡ valueOf (now (code .entry)) (now (main .entry)) (layer .n) q i j ⌝ }
 {
@@ -100,7 +100,7 @@ fn terminal(
 }
 
 // Whether what stands after the dot at p, if anything does, derives the stretch so.
-fn derived(
+pub fn derived(
     code: &[u32],
     fits: &[u8],
     main: &[u32],

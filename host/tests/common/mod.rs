@@ -1,6 +1,7 @@
 //! What the tests share: jobs, memory to lend, and the yardstick's answers.
 #![allow(dead_code)]
 
+pub mod cut;
 pub mod grammars;
 pub mod jobs;
 #[path = "../../src/bin/calls/lent.rs"]

@@ -21,7 +21,7 @@ pub enum Dot {
 
 /// The dot positions of a grammar, numbered through; an alternative's dots
 /// are consecutive. There are as many as the grammar's size.
-#[derive(Debug)]
+#[derive(Clone, Debug)]
 pub struct Dots {
     pub all: Vec<Dot>,
     /// For each rule and alternative the dots before its symbols; the range

@@ -10,6 +10,7 @@ pub mod dots;
 pub mod fault;
 pub mod heights;
 pub mod places;
+pub mod rounds;
 
 use crate::plain::Plain;
 use chart::Chart;

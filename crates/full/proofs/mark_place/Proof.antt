@@ -1,6 +1,7 @@
 use native.Mathlib.Omega.{arith}
 use mathlib.Core.Path.{_≡_, refl}
 use Prim.Native.Nat.{_*_, _-_, _≤_}
+use lib.ListN.{set}
 use borrow.Author.Needs.{below-set}
 use Rattle.full.specs.Whole.{PlaceMarked}
 use Rattle.full.proofs.Marks.{place-start, place-next, place-end}
@@ -49,6 +50,22 @@ slice-write-marks-2 c =
     let start = at-loop .before .before .before .before in
     below-set _ (at-loop .loop .marks) _ _ _ (omega (arith, start .pre .0 .short, start .pre .0 .small, start .pre .1, at-loop .loop .inv .1, at-loop .loop .inv .0 .long, c .before .loop-test .taken))
 
+add-marks-4 : tie.Need-add-marks-4 Inv-loop μ-loop
+add-marks-4 c =
+    let start = c .before .before .before .before .before .before in
+    omega (arith, start .pre .0 .short, start .pre .0 .small, c .before .before .loop .inv .1, c .before .loop-test .taken)
+
+add-marks-5 : tie.Need-add-marks-5 Inv-loop μ-loop
+add-marks-5 c =
+    let start = c .before .before .before .before .before .before in
+    omega (arith, start .pre .0 .short, start .pre .0 .small, c .before .before .loop .inv .1, c .before .loop-test .taken)
+
+slice-write-marks-3 : tie.Need-slice-write-marks-3 Inv-loop μ-loop
+slice-write-marks-3 c =
+    let at-loop = c .before .before in
+    let start = at-loop .before .before .before .before in
+    below-set _ (set (at-loop .loop .marks) _ _) _ _ _ (below-set _ (at-loop .loop .marks) _ _ _ (omega (arith, start .pre .0 .short, start .pre .0 .small, start .pre .1, at-loop .loop .inv .1, at-loop .loop .inv .0 .long, c .before .loop-test .taken)))
+
 add-p : tie.Need-add-p Inv-loop μ-loop
 add-p c = omega (arith, c .before .before .before .before .before .before .pre .0 .small, c .before .loop-test .taken)
 
@@ -61,7 +78,7 @@ loop-again c =
     let start = at-loop .before .before .before .before in
     let taken = c .before .loop-test .taken in
     let inv = at-loop .loop .inv in (
-      place-next (inv .0) (start .pre .1) (start .pre .0 .small) (start .pre .0 .short) taken _ _ _ (c .dot-flag .ensures) (omega (arith, inv .1)) (omega (arith, inv .1)),
+      place-next (inv .0) (start .pre .1) (start .pre .0 .small) (start .pre .0 .short) taken _ _ _ _ (c .dot-flag .ensures) (omega (arith, inv .1)) (omega (arith, inv .1)) (omega (arith, inv .1)),
       inv .1,
       omega (arith, taken),
     )
@@ -86,6 +103,9 @@ mark-place-spec =
     add-marks-2
     add-marks-3
     slice-write-marks-2
+    add-marks-4
+    add-marks-5
+    slice-write-marks-3
     add-p
     loop-less
     loop-again

@@ -6,10 +6,12 @@
 //! the call changed a cell that is not its result's. The last three of the eight
 //! are the places. A line for the category call is answered
 //! by the category's letters alone, one for a gate by the number and the verdict,
-//! one for a number text by the bits of its value.
+//! one for a number text by the bits of its value. A read that is cut into rounds
+//! has a column more, the rounds, before the word.
 
 mod gate;
 mod lent;
+mod rounds;
 
 use std::fmt::Write as _;
 use std::io::{self, BufRead, Write as _};
@@ -82,6 +84,8 @@ fn answer(line: &str) -> Result<String, String> {
             };
             Ok(list.judged(grammar_table(surplus)?, number(scratch)?, number(room)?))
         }
+        ["cut", _, _, _, _, _, rounds, ..] => Ok(rounds::cut(&Job::parse(line)?, number(rounds)?)),
+        ["rounds", grammar, record, ..] => rounds::rounds(&bytes(grammar)?, &bytes(record)?),
         _ => Ok(Job::parse(line)?.run()),
     }
 }
@@ -111,7 +115,7 @@ impl List {
         let touched = result.touched_behind(filled)
             || grammar_table.touched_behind(0)
             || scratch.guards_touched();
-        output(answer, &hex(&result.cells()[..filled]), touched)
+        output(answer, &hex(&result.cells()[..filled]), &[], touched)
     }
 }
 
@@ -139,7 +143,7 @@ impl Job {
         let mut field = |name: &str| fields.next().ok_or_else(|| format!("no {name}"));
         let call = match field("call")? {
             "check" => Call::Check,
-            "read" => Call::Read(ixml::read),
+            "read" | "cut" => Call::Read(ixml::read),
             "read_plain" => Call::Read(ixml::read_plain),
             "convert" => Call::Convert,
             other => return Err(format!("there is no call {other:?}")),
@@ -193,7 +197,7 @@ impl Job {
             }
         };
         touched |= main_table.guards_touched() || grammar_table.guards_touched();
-        output(answer, &result, touched)
+        output(answer, &result, &[], touched)
     }
 }
 
@@ -203,13 +207,13 @@ fn tidied(grammar: &[u8], room: usize) -> String {
     let answer = ixml::tidy(grammar, result.lend());
     let filled = filled(answer, room);
     let text = hex(&result.cells()[..filled]);
-    output(answer, &text, result.touched_behind(filled))
+    output(answer, &text, &[], result.touched_behind(filled))
 }
 
-/// The columns of an answer.
-fn output(answer: Answer, result: &str, touched: bool) -> String {
-    format!(
-        "{}\t{}\t{}\t{}\t{result}\t{}\t{}\t{}{}",
+/// The columns of an answer, and of the rounds if it has any.
+fn output(answer: Answer, result: &str, rounds: &[usize], touched: bool) -> String {
+    let mut line = format!(
+        "{}\t{}\t{}\t{}\t{result}\t{}\t{}\t{}",
         answer.number,
         answer.length,
         u8::from(answer.ambiguous),
@@ -217,8 +221,14 @@ fn output(answer: Answer, result: &str, touched: bool) -> String {
         answer.places.byte,
         answer.places.fault,
         answer.places.grammar,
-        if touched { "\ttouched" } else { "" },
-    )
+    );
+    for count in rounds {
+        let _ = write!(line, "\t{count}");
+    }
+    if touched {
+        line.push_str("\ttouched");
+    }
+    line
 }
 
 /// How many cells are the result.

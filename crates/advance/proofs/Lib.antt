@@ -1,0 +1,5 @@
+pub mod Layered
+pub mod Finishing
+pub mod Rounded
+pub mod Turns
+pub mod Readies

@@ -1,0 +1,3 @@
+pub mod Resume
+pub mod Stages
+pub mod Traces
