@@ -40,7 +40,7 @@ use Rattle.fault.proofs.Found as search
 use Rattle.fault.proofs.Found.{Searched, found-fault}
 use Rattle.parser.specs.Chosen.{Fault}
 use Rattle.plain_reading.proofs.Plain.{Roomy, finished-plain}
-use Rattle.parser.proofs.Located.{Located, tables-for, tokened-for, placing}
+use Rattle.finish.proofs.Located.{Located, tables-for, tokened-for, placing}
 use Rattle.finish.specs.Ended.{Settled}
 
 -- a fixed point has the least heights of every grammar with this code
