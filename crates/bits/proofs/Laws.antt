@@ -6,11 +6,11 @@ use Prim.Native.Nat.{ℕ, zero, suc, _+_, _*_, _/_, _%_, _^_, _<_, _≤_, min, m
 use native.Mathlib.Decide.{ℕ-discrete, decLt}
 use native.Mathlib.Nat.{pow-suc, mod-lt, mod-eq-of-lt, div-self, zero-max, zero-min, min-zero, max-eq-left, max-eq-right}
 use native.Mathlib.Omega.{arith}
-use lib.Bits.{bitOr, bitAnd, or-step, and-step, or-shr, and-shr, and-mask, or-add-and, and-le-r, or-lt}
+use lib.Bits.{bitOr, bitAnd, bitXor, differ, or-step, and-step, xor-step, or-shr, and-shr, xor-shr, and-mask, or-add-and, and-le-r, or-lt}
 use lib.ListN.{length, getD, set, length-set}
 use lib.Pow.{shr-shr, shr-le, pow-pos}
 use lib.Seq.{getD-set-same, getD-set-other}
-use Rattle.bits.specs.Bits.{bitOf, Lit, Has, Union, Masking, Adds}
+use Rattle.bits.specs.Bits.{bitOf, Lit, Has, Union, Masking, Beyond, Adds}
 
 odd-or : (x y : ℕ) → bitOr x y % 2 ≡ 1 → (x % 2 ≡ 1) ⊎ (y % 2 ≡ 1)
 odd-or x y h = go (ℕ-discrete (x % 2) 1)
@@ -124,9 +124,31 @@ pub lit-either : {a b k : ℕ} → Lit a k ⊎ Lit b k → Lit (bitOr a b) k
 unfolding bitOf
 lit-either {a} {b} {k} h = record { is = ap (λ (x : ℕ). x % 2) (or-shr a b k) ∙ odd-either (a / 2 ^ k) (b / 2 ^ k) (⊎-elim (λ z. inl (z .is)) (λ z. inr (z .is)) h) }
 
-pub lit-both : {a b k : ℕ} → Lit a k → Lit b k → Lit (bitAnd a b) k
+lit-both : {a b k : ℕ} → Lit a k → Lit b k → Lit (bitAnd a b) k
 unfolding bitOf
 lit-both {a} {b} {k} h l = record { is = ap (λ (x : ℕ). x % 2) (and-shr a b k) ∙ odd-both (a / 2 ^ k) (b / 2 ^ k) (h .is) (l .is) }
+
+-- the digits of two numbers that differ
+odd-alone : (x y : ℕ) → x % 2 ≡ 1 → (y % 2 ≡ 1 → ⊥) → bitXor x y % 2 ≡ 1
+odd-alone x y h n =
+    let z : y % 2 ≡ 0 = omega (arith, n) in
+    let e : bitXor x y ≡ bitXor (x / 2) (y / 2) * 2 + 1 = xor-step x y ∙ ap (λ (v : ℕ). bitXor (x / 2) (y / 2) * 2 + differ v (y % 2)) h ∙ ap
+    (λ (v : ℕ). bitXor (x / 2) (y / 2) * 2 + differ 1 v) z in
+    omega (arith, e)
+
+odd-same : (x y : ℕ) → x % 2 ≡ 1 → y % 2 ≡ 1 → bitXor x y % 2 ≡ 1 → ⊥
+odd-same x y h k o =
+    let e : bitXor x y ≡ bitXor (x / 2) (y / 2) * 2 + 0 = xor-step x y ∙ ap (λ (v : ℕ). bitXor (x / 2) (y / 2) * 2 + differ v (y % 2)) h ∙ ap
+    (λ (v : ℕ). bitXor (x / 2) (y / 2) * 2 + differ 1 v) k in
+    omega (arith, e, o)
+
+pub beyond-of : (a old : ℕ) → Beyond a old (bitAnd a (bitXor a old))
+unfolding bitOf
+beyond-of a old = record {
+  is = λ k z. (let w = lit-and {a = a} {b = bitXor a old} z in
+      (w .0, λ o. odd-same (a / 2 ^ k) (old / 2 ^ k) (w .0 .is) (o .is) (sym (ap (λ (x : ℕ). x % 2) (xor-shr a old k)) ∙ w .1 .is)));
+  all = λ k z n. lit-both z (record { is = ap (λ (x : ℕ). x % 2) (xor-shr a old k) ∙ odd-alone (a / 2 ^ k) (old / 2 ^ k) (z .is) (λ e. n (record { is = e })) });
+}
 
 pub shifted-lit : (w b : ℕ) → Lit w b → bitAnd (w / 2 ^ b) 1 ≡ 1
 unfolding bitOf
@@ -177,9 +199,6 @@ adds-word {P} s {v} {b} {r} h u f g = record {
 pub put-adds : (s : List ℕ) {x b r : ℕ} → x < 256 → b ≡ x % 32 → Union (getD s (x / 32) 0) (2 ^ b) r → Adds (λ y. y ≡ x) s (set s (x / 32) r)
 put-adds s {x} {b} {r} h e u = adds-word s (omega (arith, h)) u (λ y i l. omega (arith, lit-power l, e, i))
     (λ y i. (ap (λ (k : ℕ). k / 32) i, subst (λ (k : ℕ). Lit (2 ^ b) k) (e ∙ sym (ap (λ (k : ℕ). k % 32) i)) (power-lit b)))
-
-pub adds-start : {s : List ℕ} → Adds (λ x. ⊥) s s
-adds-start = record { long = refl; is = λ x h. inl h; kept = λ l x h. h; all = λ l x p. absurd p }
 
 pub adds-none : {P : ℕ → Type 0} {s : List ℕ} → ((x : ℕ) → P x → ⊥) → Adds P s s
 adds-none f = record { long = refl; is = λ x h. inl h; kept = λ l x h. h; all = λ l x p. absurd (f x p) }

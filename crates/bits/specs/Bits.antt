@@ -30,6 +30,11 @@ pub record Masking (a d on r : ℕ) : Type 0 where
   pub kept : (k : ℕ) → Lit a k → Lit r k
   pub all : (k : ℕ) → on ≡ 4294967295 → Lit d k → Lit r k
 
+-- the bits of a that old has not
+pub record Beyond (a old r : ℕ) : Type 0 where
+  pub is : (k : ℕ) → Lit r k → Lit a k × (Lit old k → ⊥)
+  pub all : (k : ℕ) → Lit a k → (Lit old k → ⊥) → Lit r k
+
 -- a mask for each bit of a word
 pub record Spread (word : ℕ) (O O' : List ℕ) : Type 0 where
   pub is : (b : ℕ) → b < 32 → (getD O' b 0 ≡ 0 → ⊥) → Lit word b

@@ -1,8 +1,8 @@
 // Sets of places: 32 in a number, a bit for each.
 ghost use mathlib.Core.Bool.{true};
 ghost use mathlib.Core.Path.{_≡_};
-ghost use Prim.Native.Nat.{ℕ, _+_, _*_, _<_, _≤_, _^_};
-ghost use Rattle.bits.specs.Bits.{Lit, Has, Union, Masking, Spread, Adds};
+ghost use Prim.Native.Nat.{ℕ, _+_, _<_, _^_};
+ghost use Rattle.bits.specs.Bits.{Lit, Has, Union, Masking, Beyond, Spread, Adds};
 
 // The numbers of a set.
 pub const SET: usize = 8;
@@ -58,7 +58,7 @@ pub fn join_by(a: u32, d: u32, on: u32) -> u32
 
 // What is new in a.
 pub fn beyond(a: u32, old: u32) -> u32
-    ensures { λ r. ⌜ ((k : ℕ) → Lit r k → Lit a k) ⌝ }
+    ensures { λ r. ⌜ Beyond a old r ⌝ }
 {
     a & (a ^ old)
 }

@@ -1,6 +1,6 @@
 // The place of the fault: how far the dots reach that stand on the record.
 ghost use mathlib.Core.Path.{_≡_};
-ghost use Prim.Native.Nat.{ℕ, _<_};
+ghost use Prim.Native.Nat.{_<_};
 ghost use lib.ListN.{length};
 ghost use Rattle.fault.specs.Far.{Ranging};
 ghost use Rattle.confirm.specs.Find.{One, Words, Best, Confirming, Confirmed};

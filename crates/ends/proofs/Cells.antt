@@ -3,7 +3,7 @@ use mathlib.Core.Bool.{Bool, true, false, _||_}
 use mathlib.Core.List.{List}
 use mathlib.Core.Logic.{_⊎_, inl, inr, ⊎-elim}
 use mathlib.Core.Path.{_≡_, refl, sym, ap, subst, _∙_}
-use Prim.Native.Nat.{ℕ, _+_, _*_, _-_, _/_, _%_, _<_, _≤_}
+use Prim.Native.Nat.{ℕ, _+_, _-_, _/_, _%_, _<_, _≤_}
 use native.Mathlib.Decide.{ℕ-discrete, decLt}
 use native.Mathlib.Omega.{arith}
 use lib.ListN.{length, getD, set, length-set}
@@ -13,7 +13,7 @@ use Rattle.bits.proofs.Laws.{lit-zero, lit-set, lit-stored}
 use Rattle.bits.proofs.Grows.{grows-start, grows-join, grows-set}
 use Rattle.chart.specs.Heights.{cellAt}
 use Rattle.heights.proofs.Cells.{cell-inj}
-use Rattle.moves.specs.Moves.{columnOf, Derived, Row}
+use Rattle.moves.specs.Moves.{columnOf, Derived}
 use Rattle.moves.proofs.Cells.{column-on}
 use Rattle.ends.specs.Table.{Kept, Finished, Cleared}
 

@@ -2,20 +2,16 @@
 use mathlib.Core.Bool.{Bool, true, false, _||_, true≢false}
 use mathlib.Core.List.{List}
 use mathlib.Core.Logic.{_⊎_, inl, inr, ⊎-elim}
-use mathlib.Core.Path.{_≡_, refl, sym, ap, subst, _∙_}
-use Prim.Native.Nat.{ℕ, _+_, _*_, _<_, _≤_}
+use mathlib.Core.Path.{_≡_, refl, sym, subst, _∙_}
+use Prim.Native.Nat.{ℕ, _+_, _<_, _≤_}
 use native.Mathlib.Decide.{decLt}
 use native.Mathlib.Omega.{arith}
-use lib.ListN.{length, getD}
-use Rattle.bits.specs.Bits.{Lit, Has, Grows}
-use Rattle.bits.proofs.Grows.{grows-start, grows-join}
-use Rattle.chart.specs.Code.{nextKind, goesAt, ruleAt}
-use Rattle.reach.specs.Flags.{Fits, Reached, Begins}
-use Rattle.sparse.specs.Cells.{Shape}
-use Rattle.ends.specs.Spans.{OnList, Steps, here, by-terminal, by-symbol, Spans, Flows}
-use Rattle.moves.specs.Moves.{Derived, Landed, LandedBy, Shifted, Move, move-terminal, move-symbol, Moved}
-use Rattle.ends.specs.Table.{Ground, Begun, Sound, Finished, Cleared, Tried, Settling, Settled, Opened, SoundFrom}
-use Rattle.moves.proofs.Cells.{bit-has}
+use Rattle.bits.specs.Bits.{Has}
+use Rattle.chart.specs.Code.{nextKind, ruleAt}
+use Rattle.reach.specs.Flags.{Begins}
+use Rattle.ends.specs.Spans.{OnList, Steps, by-terminal, by-symbol, Spans}
+use Rattle.moves.specs.Moves.{Derived, Move, move-terminal, move-symbol, Moved}
+use Rattle.ends.specs.Table.{Ground, Begun, Sound, Finished, Cleared, Settling, Settled, Opened, SoundFrom}
 use Rattle.ends.proofs.Reach.{arrived}
 
 -- a step from places that are reached from the rule's first dot q

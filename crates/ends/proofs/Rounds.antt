@@ -1,7 +1,7 @@
 -- Rows that are closed have all ends.
-use mathlib.Core.Bool.{Bool, true, false, _||_}
+use mathlib.Core.Bool.{Bool, false, _||_}
 use mathlib.Core.List.{List}
-use mathlib.Core.Logic.{_⊎_, inl, inr, ⊎-elim}
+use mathlib.Core.Logic.{_⊎_, inl, inr}
 use mathlib.Core.Path.{_≡_, refl, sym, ap, subst, _∙_}
 use Prim.Native.Nat.{ℕ, _+_, _*_, _-_, _<_, _≤_}
 use native.Mathlib.Decide.{decLt}
@@ -12,7 +12,7 @@ use Rattle.bits.proofs.Grows.{grows-start, grows-join}
 use Rattle.chart.specs.Code.{nextKind, ruleAt}
 use Rattle.reach.specs.Flags.{Begins}
 use Rattle.reach.specs.Work.{Listed, l-here, l-next}
-use Rattle.moves.specs.Moves.{Derived, Landed, Move, move-terminal, move-symbol, Moved, Stepped}
+use Rattle.moves.specs.Moves.{Derived, Move, move-terminal, move-symbol, Stepped}
 use Rattle.ends.specs.Spans.{OnList, Steps, here, by-terminal, by-symbol, Spans}
 use Rattle.ends.specs.Table.{Ground, Sound, Trying, Rest, rest-end, rest-step, Closed, Finished, Tried, Settling, Settled, Redone, Rounded, Closing, Opened, SoundFrom, CompleteFrom}
 use Rattle.ends.specs.Table.{Filled}

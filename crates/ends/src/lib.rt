@@ -1,8 +1,8 @@
 // Where rules end that begin at a place of the record: for each rule and place a set of places, exactly, from the last place to the first. A
 // queue brings the sets of a place near to what they become, which promises nothing; rounds over all rules then close them.
 ghost use mathlib.Core.Path.{_≡_};
-ghost use Prim.Native.Nat.{ℕ, _+_, _*_, _-_, _/_, _<_, _≤_};
-ghost use lib.ListN.{length, getD};
+ghost use Prim.Native.Nat.{_+_, _*_, _-_, _/_, _<_, _≤_};
+ghost use lib.ListN.{length};
 ghost use Rattle.chart.specs.Heights.{stretches};
 ghost use Rattle.reach.specs.Flags.{Begins};
 ghost use Rattle.moves.specs.Moves.{Row};

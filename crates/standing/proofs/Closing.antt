@@ -1,21 +1,21 @@
 -- Rounds over the sets: where nothing grows, they are closed, and have all places where dots stand.
-use mathlib.Core.Bool.{Bool, true, false, _||_}
+use mathlib.Core.Bool.{Bool, false, _||_}
 use mathlib.Core.List.{List}
 use mathlib.Core.Logic.{_⊎_, inl, inr, ⊎-elim}
 use mathlib.Core.Path.{_≡_, refl, sym, ap, subst, _∙_}
-use Prim.Native.Nat.{ℕ, _+_, _*_, _-_, _/_, _<_, _≤_}
+use Prim.Native.Nat.{ℕ, _+_, _*_, _-_, _<_, _≤_}
 use native.Mathlib.Decide.{decLt}
 use native.Mathlib.Omega.{arith}
 use lib.ListN.{length, getD}
-use Rattle.bits.specs.Bits.{Has, Grows, Adds}
+use Rattle.bits.specs.Bits.{Has, Adds}
 use Rattle.bits.proofs.Grows.{grows-start, grows-join}
 use Rattle.chart.specs.Code.{nextKind, ruleAt}
 use Rattle.reach.specs.Work.{Listed, l-here, l-next}
-use Rattle.moves.specs.Moves.{Derived, Move, move-terminal, move-symbol, Moved, Stepped}
+use Rattle.moves.specs.Moves.{Move, move-terminal, move-symbol, Stepped}
 use Rattle.ends.specs.Spans.{OnList}
 use Rattle.ends.proofs.Laws.{neither}
 use Rattle.standing.specs.Stood.{Stood, at-first, entering, past-terminal, past-symbol, Base}
-use Rattle.standing.specs.Sets.{Member, Joined, Grown, Merged, Taken, AtDot, Told, Ran, Entered, Advanced, DotClosed, RuleClosed, Redot, Rerule, Rounded, Closing, Exact}
+use Rattle.standing.specs.Sets.{Member, Grown, Merged, Taken, AtDot, Told, Ran, Entered, Advanced, DotClosed, RuleClosed, Redot, Rerule, Rounded, Closing, Exact}
 use Rattle.standing.proofs.Laws.{stood-flagged, moved-stood, told-dot, told-rule}
 
 pub grown-start : {S : List ℕ} → Grown S S false

@@ -1,19 +1,17 @@
 -- The search keeps its sets sound.
 use mathlib.Core.List.{List}
-use mathlib.Core.Logic.{_⊎_, inl, inr, ⊎-elim}
-use mathlib.Core.Path.{_≡_, refl, sym, ap, subst, _∙_}
-use Prim.Native.Nat.{ℕ, _+_, _*_, _/_, _%_, _<_, _≤_}
+use mathlib.Core.Logic.{_⊎_, ⊎-elim}
+use mathlib.Core.Path.{_≡_, refl, sym, subst, _∙_}
+use Prim.Native.Nat.{ℕ, _+_, _<_, _≤_}
 use native.Mathlib.Omega.{arith}
-use lib.ListN.{length, getD, set}
-use Rattle.bits.specs.Bits.{Lit, Has}
-use Rattle.chart.specs.Code.{nextKind, goesAt, ruleAt}
+use Rattle.bits.specs.Bits.{Has}
+use Rattle.chart.specs.Code.{ruleAt}
 use Rattle.reach.specs.Flags.{Reached, Ends}
-use Rattle.ends.specs.Spans.{OnList, Spans}
-use Rattle.moves.specs.Moves.{Derived, Landed, Move, move-terminal, move-symbol, Moved}
-use Rattle.ends.specs.Table.{Ground, SoundFrom}
+use Rattle.ends.specs.Spans.{OnList}
+use Rattle.moves.specs.Moves.{Move, move-terminal, move-symbol, Moved}
 use Rattle.ends.proofs.Reach.{list-inside, arrived}
 use Rattle.standing.specs.Stood.{Stood, at-first, entering, past-terminal, past-symbol, Base}
-use Rattle.standing.specs.Sets.{Member, Joined, AtDot, Told, Followed, Ran}
+use Rattle.standing.specs.Sets.{Joined, AtDot, Told, Followed, Ran}
 
 -- where a dot stands, it is flagged
 pub record Flagged (M : List ℕ) (size n p i : ℕ) : Type 0 where

@@ -2,7 +2,7 @@
 use mathlib.Core.Bool.{Bool, true, false, _||_}
 use mathlib.Core.List.{List}
 use mathlib.Core.Logic.{_⊎_, inl, inr, ⊎-elim}
-use mathlib.Core.Path.{_≡_, refl, sym, ap, subst, _∙_}
+use mathlib.Core.Path.{_≡_, refl, sym, subst, _∙_}
 use Prim.Native.Nat.{ℕ, _+_, _*_, _/_, _%_, _<_, _≤_}
 use native.Mathlib.Decide.{ℕ-discrete, decLt}
 use native.Mathlib.Omega.{arith}
@@ -12,7 +12,7 @@ use Rattle.bits.specs.Bits.{Lit, Has, Union, Grows}
 use Rattle.bits.proofs.Laws.{lit-zero, lit-set, lit-stored, has-stored, has-other}
 use Rattle.bits.proofs.Grows.{grows-start, grows-join, grows-set}
 use Rattle.chart.proofs.Users.{all-zero}
-use Rattle.standing.specs.Sets.{Member, Joined, Grown, Merged}
+use Rattle.standing.specs.Sets.{Member, Joined, Merged}
 
 pub has-at : (C : List ℕ) {v x : ℕ} → x / 32 ≡ v → Lit (getD C v 0) (x % 32) → Has C x
 has-at C {v} {x} e l = record { lit = subst (λ (k : ℕ). Lit (getD C k 0) (x % 32)) (sym e) l }

@@ -3,11 +3,10 @@ use mathlib.Core.Bool.{Bool, true, false}
 use mathlib.Core.List.{List}
 use mathlib.Core.Logic.{_⊎_}
 use mathlib.Core.Path.{_≡_}
-use Prim.Native.Nat.{ℕ, _+_, _*_, _/_, _%_, _<_, _≤_}
+use Prim.Native.Nat.{ℕ, _+_, _*_, _/_, _%_, _<_}
 use lib.ListN.{length, getD}
 use Rattle.bits.specs.Bits.{Lit, Has, Grows}
 use Rattle.chart.specs.Code.{nextKind, ruleAt}
-use Rattle.chart.specs.Heights.{stretches}
 use Rattle.sparse.specs.Cells.{Shape}
 use Rattle.ends.specs.Spans.{OnList}
 use Rattle.ends.specs.Table.{Ground}

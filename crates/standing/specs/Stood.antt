@@ -1,7 +1,7 @@
 -- Where dots stand on the record, by the code of the rules, lists of first dots and flags of terminals that fit.
 use mathlib.Core.List.{List}
 use mathlib.Core.Path.{_≡_}
-use Prim.Native.Nat.{ℕ, _+_, _*_, _<_, _≤_}
+use Prim.Native.Nat.{ℕ, _+_, _<_, _≤_}
 use lib.ListN.{length}
 use Rattle.chart.specs.Code.{nextKind, goesAt, ruleAt}
 use Rattle.reach.specs.Flags.{Fits, Begins}

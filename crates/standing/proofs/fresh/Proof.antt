@@ -69,7 +69,7 @@ loop-again c =
     let at-loop = at-loop-test .before in (
       joined-step (at-loop-test .loop-test .taken) refl (at-loop .loop .inv .0) (λ x e l. ⊎-elim inl (λ u. inr (at-loop .loop .inv .1 x (has-at (at-loop .loop .cur) e u)))
           (c .before .join .ensures .is (x % 32) l)),
-      λ x h. at-loop .loop .inv .1 x (less-step (at-loop .loop .cur) (at-loop .loop .v) (c .beyond .ensures) x h),
+      λ x h. at-loop .loop .inv .1 x (less-step (at-loop .loop .cur) (at-loop .loop .v) (λ k l. c .beyond .ensures .is k l .0) x h),
     )
 
 returns : tie.Need-returns Inv-loop μ-loop
