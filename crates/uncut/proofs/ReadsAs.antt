@@ -19,7 +19,7 @@ use Rattle.outcome.specs.declared.Answer.{Answer}
 use Rattle.text.specs.Stages.{plainly}
 use Rattle.outcome.specs.Outcome.{done, shown, refusalOf}
 use Rattle.outcome.specs.Given.{Counted, Fitting, GivesNumbers}
-use Rattle.calls.specs.Calls.{ReadAs}
+use Rattle.outcome.specs.Calls.{ReadAs}
 use Rattle.outcome.proofs.Outcomes.{refusing, call-refused, call-answered, numbers-in, result-is, too-long, fitting, done-is}
 
 module _ (j : Job) (old : List ℕ) where

@@ -26,7 +26,7 @@ use Rattle.convert.specs.Concluded.{Parsing, Ready, Concludes}
 use Rattle.outcome.specs.declared.Answer.{Answer}
 use Rattle.outcome.specs.Outcome.{shown, refusalOf, answerOf}
 use Rattle.outcome.specs.Given.{Named, GivesXml}
-use Rattle.calls.specs.Calls.{ConvertedAs}
+use Rattle.outcome.specs.Calls.{ConvertedAs}
 use Rattle.outcome.proofs.Outcomes.{call-refused}
 use Rattle.outcome.proofs.Documents.{Spoken, concluded}
 

@@ -1,8 +1,8 @@
 use mathlib.Core.Path.{_≡_, refl, sym, ap}
 use mathlib.Core.Bool.{Bool}
 use Rattle.chart.specs.Code.{flag}
-use Rattle.resume.proofs.flag_of.Statement.{statement}
-use Rattle.resume.proofs.flag_of.Tie as tie
+use Rattle.stepping.proofs.flag_of.Statement.{statement}
+use Rattle.stepping.proofs.flag_of.Tie as tie
 
 returns : tie.Need-returns
 returns c =

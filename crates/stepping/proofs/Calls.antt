@@ -23,11 +23,11 @@ use Rattle.opening.specs.Stages.{begunOf, Started, Begins}
 use Rattle.job.proofs.Readings.{choosable}
 use Rattle.outcome.specs.declared.Answer.{Answer}
 use Rattle.outcome.specs.Outcome.{shown, done, refusalOf}
 use Rattle.resume.specs.declared.Progress.{Progress}
 use Rattle.resume.specs.Resume.{Starts, Rounds, StartedAs, Counts, RoundedAs}
 use Rattle.resume.specs.Stages.{Resumed, Resumes}
 use Rattle.resume.proofs.Lines.{later-refused, rounds-refused, rounds-done, of-job, opened-of}
-use Rattle.resume.proofs.Starts.{start-refused, start-done, start-table}
+use Rattle.stepping.proofs.Starts.{start-refused, start-done, start-table}
 
 abbrev pub Refuses : Progress → Diagnostic → Type 0
 Refuses a n = a ≡ record { answer = refusalOf (record { why = n; mismatch = false }); rounds = 0 }

@@ -1,9 +1,9 @@
 use lib.ListN.{length}
 use Rattle.answer.specs.Answer.{job}
-use Rattle.calls.proofs.ConvertsAs.{named, convert-given}
+use Rattle.uncut.proofs.ConvertsAs.{named, convert-given}
 use borrow.Author.Needs.{needs}
-use Rattle.calls.proofs.ixml_convert.Statement.{statement}
-use Rattle.calls.proofs.ixml_convert.Tie as tie
+use Rattle.uncut.proofs.convert.Statement.{statement}
+use Rattle.uncut.proofs.convert.Tie as tie
 
 slice-aggregate-parse-record : tie.Need-slice-aggregate-parse-record
 slice-aggregate-parse-record c = search needs
@@ -29,9 +29,9 @@ slice-aggregate-give-xml-3 c = search needs
 give-xml-requires : tie.Need-give-xml-requires
 give-xml-requires c κs =
     let at-parse = c .before .before .before .before .before .before .before .before .before in
-    let args = at-parse .before .before .before .before .before .before .before .before .before .before .args in
+    let args = at-parse .before .before .before .before .before .before .before .before .before .args in
     let done = at-parse .parse-record in
-    let j = job (args .grammar .now) (args .record .now) (length (args .main .now)) (length (args .second .now)) in
+    let j = job (args .grammar .now) (args .record .now) (length (args .main .now)) (args .second) in
     named j (done .last .1 .1 .1 .1 .0) (done .last .1 .1 .1 .1 .1 .0) (done .last .1 .1 .1 .1 .1 .1 .0) (done .result) (done .ensures) (search needs)
 
 same-length : tie.Need-same-length
@@ -44,13 +44,13 @@ returns : tie.Need-returns
 returns c =
     let at-give = c .before .before in
     let at-parse = at-give .before .before .before .before .before .before .before .before .before .before in
-    let args = at-parse .before .before .before .before .before .before .before .before .before .before .args in
+    let args = at-parse .before .before .before .before .before .before .before .before .before .args in
     let done = at-parse .parse-record in
-    let j = job (args .grammar .now) (args .record .now) (length (args .main .now)) (length (args .second .now)) in
+    let j = job (args .grammar .now) (args .record .now) (length (args .main .now)) (args .second) in
     convert-given j _ (done .last .1 .1 .1 .1 .0) (done .last .1 .1 .1 .1 .1 .0) (done .last .1 .1 .1 .1 .1 .1 .0) (done .result) (done .ensures) _ _ (at-give .give-xml .ensures)
 
-pub ixml-convert-spec : {M : Type 1} → statement M
-ixml-convert-spec =
+pub convert-spec : {M : Type 1} → statement M
+convert-spec =
     tie.close
     (tie.spec
     slice-aggregate-parse-record

@@ -5,12 +5,12 @@ use mathlib.Core.Path.{refl, sym, ap, _∙_}
 use borrow.Author.Tests.{not-true, not-false}
 use Rattle.opening.proofs.Texts.{got-part}
 use Rattle.state.proofs.Cells.{not-so}
 use Rattle.resume.proofs.Lines.{resumed-at}
-use Rattle.resume.proofs.Calls.{rounded-refused, rounded-over, rounded-on, readable}
+use Rattle.stepping.proofs.Calls.{rounded-refused, rounded-over, rounded-on, readable}
 use borrow.Author.Needs.{needs}
 use native.Mathlib.Omega.{arith}
-use Rattle.resume.proofs.round.Statement.{statement}
-use Rattle.resume.proofs.round.Tie as tie
+use Rattle.stepping.proofs.round.Statement.{statement}
+use Rattle.stepping.proofs.round.Tie as tie
 
 slice-aggregate-resume : tie.Need-slice-aggregate-resume
 slice-aggregate-resume c = search needs

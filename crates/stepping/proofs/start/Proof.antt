@@ -1,12 +1,12 @@
 use Rattle.answer.specs.Answer.{job}
 use Rattle.opening.proofs.Starts.{begun-at}
 use lib.ListN.{length}
-use Rattle.resume.proofs.Starts.{grammar-fits, input-fits, start-room}
-use Rattle.resume.proofs.Calls.{started-refused, started-done}
+use Rattle.stepping.proofs.Starts.{grammar-fits, input-fits, start-room}
+use Rattle.stepping.proofs.Calls.{started-refused, started-done}
 use borrow.Author.Needs.{needs}
 use native.Mathlib.Omega.{arith}
-use Rattle.resume.proofs.start.Statement.{statement}
-use Rattle.resume.proofs.start.Tie as tie
+use Rattle.stepping.proofs.start.Statement.{statement}
+use Rattle.stepping.proofs.start.Tie as tie
 
 slice-aggregate-begin : tie.Need-slice-aggregate-begin
 slice-aggregate-begin c = search needs

@@ -1,9 +1,9 @@
 use lib.ListN.{length}
 use Rattle.answer.specs.Answer.{job}
-use Rattle.calls.proofs.ReadsAs.{counted, read-given}
+use Rattle.uncut.proofs.ReadsAs.{counted, read-given}
 use borrow.Author.Needs.{needs}
-use Rattle.calls.proofs.read_with.Statement.{statement}
-use Rattle.calls.proofs.read_with.Tie as tie
+use Rattle.uncut.proofs.read.Statement.{statement}
+use Rattle.uncut.proofs.read.Tie as tie
 
 slice-aggregate-parse-record : tie.Need-slice-aggregate-parse-record
 slice-aggregate-parse-record c = search needs
@@ -23,9 +23,9 @@ slice-aggregate-give-numbers c = search needs
 give-numbers-requires : tie.Need-give-numbers-requires
 give-numbers-requires c κs =
     let at-parse = c .before .before .before .before .before .before .before in
-    let args = at-parse .before .before .before .before .before .before .before .before .before .before .args in
+    let args = at-parse .before .before .before .before .before .before .before .before .before .args in
     let done = at-parse .parse-record in
-    let j = job (args .grammar .now) (args .record .now) (length (args .main .now)) (length (args .second .now)) in
+    let j = job (args .grammar .now) (args .record .now) (length (args .main .now)) (args .second) in
     counted j (done .last .1 .1 .1 .1 .0) (done .last .1 .1 .1 .1 .1 .0) (done .last .1 .1 .1 .1 .1 .1 .0) (done .result) (done .ensures)
 
 same-length : tie.Need-same-length
@@ -38,13 +38,13 @@ returns : tie.Need-returns
 returns c =
     let at-give = c .before .before in
     let at-parse = at-give .before .before .before .before .before .before .before .before in
-    let args = at-parse .before .before .before .before .before .before .before .before .before .before .args in
+    let args = at-parse .before .before .before .before .before .before .before .before .before .args in
     let done = at-parse .parse-record in
-    let j = job (args .grammar .now) (args .record .now) (length (args .main .now)) (length (args .second .now)) in
+    let j = job (args .grammar .now) (args .record .now) (length (args .main .now)) (args .second) in
     read-given j _ (done .last .1 .1 .1 .1 .0) (done .last .1 .1 .1 .1 .1 .0) (done .last .1 .1 .1 .1 .1 .1 .0) (done .result) (done .ensures) _ _ (at-give .give-numbers .ensures)
 
-pub read-with-spec : {M : Type 1} → statement M
-read-with-spec =
+pub read-spec : {M : Type 1} → statement M
+read-spec =
     tie.close
     (tie.spec
     slice-aggregate-parse-record
