@@ -5,7 +5,7 @@ ghost use Prim.Native.Nat.{_+_, _<_, _≤_, _^_};
 ghost use lib.ListN.{length, getD};
 ghost use lib.Seq.{sets};
 ghost use Rattle.repetitions.specs.Blocks.{entry, nums, entryAt, bothEnds, onceBlock, optionBlock, starBlock, restBlock, listBlock};
-ghost use Rattle.repetitions.specs.Blocks.{oneBlock, oneCount, oneFirst, twoBlock, twoCount, twoFirst, laid, Room, Source};
+ghost use Rattle.repetitions.specs.Blocks.{oneBlock, oneCount, oneFirst, twoBlock, twoCount, twoFirst, laid, Room, Source, kindBy};
 
 // Where the items begin in the grammar table.
 pub const ITEMS: usize = 12288;
@@ -202,4 +202,26 @@ pub fn two(table: &mut [u32], i: usize, from: usize, k: u32) -> Made
         first: i + 8,
         next: i + 11,
     }
+}
+
+// The kind of an item by the first numbers of the name and of its rule's head: the mark at the use wins.
+pub fn kind_by(used: u32, head: u32) -> u32
+    ensures { λ r. ⌜ r ≡ kindBy used head ⌝ }
+{
+    if used == tokens::NAME_DELETED {
+        return DELETED;
+    }
+    if used == tokens::NAME_ATTRIBUTE {
+        return ATTRIBUTE;
+    }
+    if used == tokens::NAME_INCLUDED {
+        return ELEMENT;
+    }
+    if head == tokens::RULE_HEAD_DELETED {
+        return DELETED;
+    }
+    if head == tokens::RULE_HEAD_ATTRIBUTE {
+        return ATTRIBUTE;
+    }
+    ELEMENT
 }

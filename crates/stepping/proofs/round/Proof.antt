@@ -4,7 +4,7 @@ use Prim.Native.Nat.{_+_}
 use mathlib.Core.Path.{refl, sym, ap, _∙_}
 use borrow.Author.Tests.{not-true, not-false}
 use Rattle.opening.proofs.Texts.{got-part}
-use Rattle.state.proofs.Cells.{not-so}
+use Rattle.tells.proofs.Tells.{not-so}
 use Rattle.resume.proofs.Lines.{resumed-at}
 use Rattle.stepping.proofs.Calls.{rounded-refused, rounded-over, rounded-on, readable}
 use borrow.Author.Needs.{needs}

@@ -1,7 +1,7 @@
 use borrow.Author.Tests.{eq-eqb, ne-eqb}
-use Rattle.items.specs.Machine.{kindBy}
-use Rattle.items.proofs.link.kind_by.Statement.{statement}
-use Rattle.items.proofs.link.kind_by.Tie as tie
+use Rattle.repetitions.specs.Blocks.{kindBy}
+use Rattle.repetitions.proofs.kind_by.Statement.{statement}
+use Rattle.repetitions.proofs.kind_by.Tie as tie
 
 returns : tie.Need-returns
 unfolding kindBy
