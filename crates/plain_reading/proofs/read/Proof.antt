@@ -94,7 +94,8 @@ returns c =
     let pre = start .pre in
     let a = roomy {f = at-prepare .prepare .last .1 .1 .1 .1 .1 .0} (at-prepare .prepare .ensures (pre .grammar) (pre .ready)) pre
     (omega (arith, at-prepare .prepare .kept .1 .1 .1 .1 .0)) (omega (arith, at-prepare .prepare .kept .1 .1 .1 .1 .1 .0)) (at-fill .fill .kept .1 .1 .1 .1 .0) in
-    λ g w. at-walk-filled .walk-filled .ensures .answers (finished-plain (at-prepare .prepare .ensures g w) a (at-walk-filled .walk-filled .ensures .marked) (at-walk-filled .walk-filled .ensures .noted) (at-fill .fill .ensures))
+    λ g w. at-walk-filled .walk-filled .ensures .answers
+    (finished-plain (at-prepare .prepare .ensures g w) a (at-walk-filled .walk-filled .ensures .marked) (at-walk-filled .walk-filled .ensures .noted) (at-fill .fill .ensures))
 
 pub read-spec : {M : Type 1} → statement M
 read-spec =
