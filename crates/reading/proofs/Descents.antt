@@ -126,7 +126,7 @@ module _ {c M F H : List ℕ} {size n top first : ℕ} (K : Known c M F H size n
       ]
 
       pub some-end : SomeEnd c M F size n H p i j k
-      some-end = record { place = N .place; after = node-before; before = node-after; low = own-end }
+      some-end = record { place = N .place; after = node-before; before = node-after; low = own-end; height = small }
 
     -- other end places, in the tables and in derivations
     other-place : {m : ℕ} → OtherEnd c M F size n H p i j m → OtherPlace (t .g) (t .r) (S .s) later-symbols i j m

@@ -43,6 +43,13 @@ module _ {P : ℕ → Type 0} where
     none = λ l a b. elim (ℕ-discrete l m) as (λ _. P l → ⊥) [ yes e ↦ subst (λ (x : ℕ). P x → ⊥) (sym e) f | no e ↦ u .none l a (omega arith) ];
   }
 
+  -- places that are passed over have it not
+  pub unmet-over : {i m e : ℕ} → Unmet P i m → m ≤ e → ((l : ℕ) → m ≤ l → l < e → P l → ⊥) → Unmet P i e
+  unmet-over {i} {m} {e} u h f = record {
+    order = omega (arith, u .order);
+    none = λ l a b. elim (decLt l m) as (λ _. P l → ⊥) [ yes q ↦ u .none l a q | no q ↦ f l (omega arith) b ];
+  }
+
   -- what is there lies ahead
   pub ahead : {i m : ℕ} → Unmet P i m → (l : ℕ) → i ≤ l → P l → m ≤ l
   ahead {i} {m} u l a p = elim (decLt l m) as (λ _. m ≤ l) [ yes q ↦ absurd (u .none l a q p) | no q ↦ omega arith ]

@@ -7,20 +7,20 @@ use Prim.Native.Nat.{ℕ, zero, suc, _+_, _-_, _<_, _≤_, max, min}
 use native.Mathlib.Decide.{ℕ-discrete, decLt}
 use native.Mathlib.Omega.{arith}
 use lib.Dec.{eqb, leb}
-use lib.ListN.{getD}
+use lib.ListN.{length, getD}
 use borrow.Author.Tests.{eq-eqb, ne-eqb, le-leb, lt-leb, leb-true}
 use Rattle.text.specs.Lists.{pick}
 use Rattle.chart.specs.Code.{nextKind, goesAt, ruleAt}
 use Rattle.chart.specs.Heights.{none, cellAt}
-use Rattle.heights.specs.Table.{upOf}
+use Rattle.heights.specs.Table.{cellOf, upOf}
 use Rattle.heights.specs.Filling.{Any}
 use Rattle.heights.specs.Part.{Offers, by-end, by-terminal, by-split}
 use Rattle.heights.proofs.Values.{up-is, up-low, up-most}
-use Rattle.reach.specs.Flags.{dotAt, endAt, Fits, homeOf}
-use Rattle.sparse.specs.Cells.{isLast, ruleOf, wideRest, restOf}
-use Rattle.sparse.proofs.Rows.{rest-end}
-use Rattle.reading.proofs.Searches.{Unmet, unmet}
-use Rattle.reading.specs.Walk.{joined, splitAt, leastOf, pastOf, valueAt, AnotherEnd}
+use Rattle.reach.specs.Flags.{dotAt, endAt, Reached, Fits, homeOf}
+use Rattle.sparse.specs.Cells.{isLast, ruleOf, wideRest, restOf, Shape}
+use Rattle.sparse.proofs.Rows.{last-is, in-table, rest-end, rest-away, rest-last, rest-row, rest-unwanted}
+use Rattle.reading.proofs.Searches.{Unmet, unmet, unmet-over}
+use Rattle.reading.specs.Walk.{Ready, restRow, Barren, joined, splitAt, leastOf, pastOf, valueAt}
 
 pick-most : {x y : ℕ} (b : Bool) → x ≤ none → y ≤ none → pick b x y ≤ none
 pick-most true h k = h
@@ -65,7 +65,31 @@ joined-rest a = elim (ℕ-discrete a none) as (λ _. joined a none ≡ none) [
   | no e ↦ rw (ne-eqb a none e) (omega (arith, up-most a))
 ]
 
+-- the row of what stands after a dot: that of a last symbol's rule, or its own
+pub row-last : {c : List ℕ} {size e r : ℕ} (n j q : ℕ) → Shape c size → q < size → isLast c q ≡ true → e ≡ ruleAt c q → r ≡ cellAt n e 0 j
+    → (r ≡ cellAt n (restRow c q) 0 j) × (restRow c q < size)
+row-last {c} {size} {e} {r} n j q s h l x y =
+    let z : restRow c q ≡ e = rw l (sym x) in
+    (y ∙ ap (λ (w : ℕ). cellAt n w 0 j) (sym z), omega (arith, z, x, s .names q h (last-is c q l .symbol) .0))
+
+pub row-own : {size r : ℕ} (c : List ℕ) (n j q : ℕ) → q < size → isLast c q ≡ false → r ≡ cellAt n q 0 j → (r ≡ cellAt n (restRow c q) 0 j) × (restRow c q < size)
+row-own {size} {r} c n j q h l y = let z : restRow c q ≡ q = rw l refl in (y ∙ ap (λ (w : ℕ). cellAt n w 0 j) (sym z), omega (arith, z))
+
+-- what the searches for an end place ask at a symbol
+pub after-symbol : {c M F H : List ℕ} {size n i j p : ℕ} → Ready c M F H size n i j → p < size → nextKind c p ≡ 2 → p + 1 < size
+after-symbol {p = p} r h z = r .tables .shape .nexts p h (λ y. omega arith)
+
+-- the cells of what stands after a symbol are in the table
+pub rest-in : {c M F H : List ℕ} {size n i j x y : ℕ} → Ready c M F H size n i j → x ≡ cellAt n y 0 j → y < size → x + j ≤ length H
+rest-in {H = H} {size = size} {n = n} {j = j} {x = x} {y = y} r e h =
+    let t = r .tables in
+    omega (arith, in-table size n j j y (length H) (x + j) (t .shape .small) (t .short) (t .room) h (omega arith) (r .inside) (omega (arith, e)))
+
 module _ (c M F : List ℕ) (n : ℕ) (H : List ℕ) where
+  least-none : (p i j d : ℕ) → leastOf c M F n H p i j d ≤ none
+  least-none p i j zero = omega arith
+  least-none p i j (suc d) = omega (arith, least-none p i j d)
+
   module _ (s : Small F H) where
     pub rule-most : (e i j : ℕ) → ruleOf c M F n H e i j ≤ none
     unfolding ruleOf
@@ -84,15 +108,11 @@ module _ (c M F : List ℕ) (n : ℕ) (H : List ℕ) where
     past-most : (p i j : ℕ) → pastOf c M F n H p i j ≤ none
     past-most p i j = pick-none (leb 2 (dotAt M p i)) (pick-none (leb (i + goesAt c p) j) (rest-most (p + 1) (i + goesAt c p) j))
 
-    least-most : (p i j d : ℕ) → leastOf c M F n H p i j d ≤ none
-    least-most p i j zero = omega arith
-    least-most p i j (suc d) = omega (arith, least-most p i j d)
-
     pub value-most : (p i j : ℕ) → valueAt c M F n H p i j ≤ none
     unfolding valueAt
     value-most p i j =
         pick-most (eqb (nextKind c p) 0) (pick-most (eqb i j) (omega arith) (omega arith))
-        (pick-most (eqb (nextKind c p) 1) (past-most p i j) (least-most p i j (j + 1 - i)))
+        (pick-most (eqb (nextKind c p) 1) (past-most p i j) (least-none p i j (j + 1 - i)))
 
     pub split-most : (p i j m : ℕ) → splitAt c M F n H p i j m ≤ none
     split-most p i j m = joined-most (ruleOf c M F n H (ruleAt c p) i m) _ (rest-most (p + 1) m j)
@@ -153,9 +173,70 @@ module _ (c M F : List ℕ) (n : ℕ) (H : List ℕ) where
   sought-from p i j m l (inl e) = subst (Sought p i j none) (sym e) (sought p i j l)
   sought-from p i j m l (inr x) = record { from = omega (arith, x .0); to = omega (arith, x .0); is = sym (last-least p i j (m - i) (x .1) (omega (arith, x .0))) }
 
-  pub unmet-from : {size : ℕ} (p i j o m : ℕ) → i ≤ j → (m ≡ i) ⊎ ((m ≡ j) × (nextKind c (p + 1) ≡ 0)) → Unmet (AnotherEnd c M F size n H p i j o) i m
-  unmet-from {size} p i j o m l (inl e) = subst (Unmet (AnotherEnd c M F size n H p i j o) i) (sym e) (unmet i)
-  unmet-from p i j o m l (inr x) = record { order = omega (arith, x .0); none = λ k h b a. a .derives (last-split p i j k (x .1) (λ e. omega (arith, x .0))) }
+  -- what stands after the symbol derives nothing where its cell holds nothing
+  barren-rest : (q m j : ℕ) → m < j → cellOf n H (restRow c q) m j ≡ none → restOf c M F n H q m j ≡ none
+  unfolding ruleOf
+  barren-rest q m j l e = elim (ℕ-discrete (nextKind c q) 0) as (λ _. restOf c M F n H q m j ≡ none) [
+    | yes z ↦ rest-end c M F n H q m j apart z
+    | no z ↦ (elim (decLt (dotAt M q m) 1) as (λ _. restOf c M F n H q m j ≡ none) [
+      | yes u ↦ rest-away c M F n H q m j apart z (λ y. omega arith)
+      | no u ↦ by-last z (omega arith) (isLast c q) refl
+    ])
+  ]
+    where
+      apart : m ≡ j → ⊥
+      apart q = omega arith
+
+      wanted-or : (y : ℕ) → cellOf n H y m j ≡ none → Dec (endAt M y j < 2) → ruleOf c M F n H y m j ≡ none
+      wanted-or y e (yes w) = rw (ne-eqb m j apart, lt-leb 2 (endAt M y j) w)
+      wanted-or y e (no w) = rw (ne-eqb m j apart, le-leb 2 (endAt M y j) (omega arith)) e
+
+      by-last : (nextKind c q ≡ 0 → ⊥) → Reached M q m → (b : Bool) → isLast c q ≡ b → restOf c M F n H q m j ≡ none
+      by-last z u true h =
+          let r : cellOf n H (ruleAt c q) m j ≡ none = rw h at e in
+          rest-last c M F n H q m j apart z u h ∙ ap upOf (wanted-or (ruleAt c q) r (decLt (endAt M (ruleAt c q) j) 2))
+      by-last z u false h =
+          let r : cellOf n H q m j ≡ none = rw h at e in
+          elim (decLt (endAt M (homeOf c q) j) 2) as (λ _. restOf c M F n H q m j ≡ none) [
+            | yes w ↦ rest-unwanted c M F n H q m j apart z u h (λ y. omega arith)
+            | no w ↦ rest-row c M F n H q m j apart z u h (omega arith) ∙ r
+          ]
+
+  barren-split : (p i j m : ℕ) → m < j → cellOf n H (restRow c (p + 1)) m j ≡ none → splitAt c M F n H p i j m ≡ none
+  barren-split p i j m l e =
+      ap (joined (ruleOf c M F n H (ruleAt c p) i m)) (barren-rest (p + 1) m j l e) ∙ joined-rest (ruleOf c M F n H (ruleAt c p) i m)
+
+  -- the places that a search passes over
+  pub over-barren : {x m e j : ℕ} (p i : ℕ) → x ≡ cellAt n (restRow c (p + 1)) 0 j → Barren H x m e j → (l : ℕ) → m ≤ l → l < e → splitAt c M F n H p i j l ≡ none
+  over-barren {x} {m} {e} {j} p i h b l lo hi =
+      let z : x + l ≡ cellAt n (restRow c (p + 1)) l j = omega (arith, h) in
+      barren-split p i j l (omega (arith, b .to)) (sym (ap (λ (y : ℕ). getD H y 0) z) ∙ b .empty l lo hi)
+
+  least-over : (p i j d k : ℕ) → ((l : ℕ) → i + d ≤ l → l < i + (d + k) → splitAt c M F n H p i j l ≡ none) → leastOf c M F n H p i j (d + k) ≡ leastOf c M F n H p i j d
+  least-over p i j d zero f = ap (leastOf c M F n H p i j) (let z : d + 0 ≡ d = omega arith in z)
+  least-over p i j d (suc k) f =
+      let z : d + suc k ≡ suc (d + k) = omega arith in
+      ap (leastOf c M F n H p i j) z ∙ omega (arith, least-over p i j d k (λ l a b. f l a (omega arith)), f (i + (d + k)) (omega arith) (omega arith), least-none p i j (d + k))
+
+  pub sought-over : {p i j v m x e : ℕ} → x ≡ cellAt n (restRow c (p + 1)) 0 j → Barren H x m e j → Sought p i j v m → Sought p i j v e
+  sought-over {p} {i} {j} {v} {m} {x} {e} h b s =
+      let from = s .from in
+      let z : (m - i) + (e - m) ≡ e - i = omega (arith, b .from) in
+      record {
+        from = omega (arith, b .from);
+        to = omega (arith, b .to);
+        is = s .is ∙ sym (sym (ap (leastOf c M F n H p i j) z) ∙ least-over p i j (m - i) (e - m) (λ l lo hi. over-barren p i h b l (omega arith) (omega (arith, b .from))));
+      }
+
+  -- a search for places where something is derived begins at the first place where the symbol may end
+  pub unmet-from : {P : ℕ → Type 0} (p i j m : ℕ) → i ≤ j → ((l : ℕ) → P l → splitAt c M F n H p i j l ≡ none → ⊥) → (m ≡ i) ⊎ ((m ≡ j) × (nextKind c (p + 1) ≡ 0)) → Unmet P i m
+  unmet-from {P} p i j m l f (inl e) = subst (Unmet P i) (sym e) (unmet i)
+  unmet-from p i j m l f (inr x) = record { order = omega (arith, x .0); none = λ k h b a. f k a (last-split p i j k (x .1) (λ e. omega (arith, x .0))) }
+
+  -- and passes over those where nothing is
+  pub unmet-barren : {P : ℕ → Type 0} {x m e j : ℕ} (p i : ℕ) → ((l : ℕ) → P l → splitAt c M F n H p i j l ≡ none → ⊥) → x ≡ cellAt n (restRow c (p + 1)) 0 j → Barren H x m e j
+      → Unmet P i m → Unmet P i e
+  unmet-barren p i f h b u = unmet-over u (b .from) (λ l lo hi a. f l a (over-barren p i h b l lo hi))
 
   pub sought-next : {p i j v m : ℕ} (w v' : ℕ) → Sought p i j v m → m ≤ j → w ≡ splitAt c M F n H p i j m → v' ≡ min v w → Sought p i j v' (m + 1)
   sought-next {p} {i} {j} {v} {m} w v' s l e f =

@@ -11,7 +11,7 @@ use Rattle.chart.specs.Code.{nextKind, goesAt, ruleAt}
 use Rattle.chart.specs.Heights.{none}
 use Rattle.heights.specs.Table.{upOf}
 use Rattle.reach.specs.Flags.{dotAt}
-use Rattle.sparse.specs.Cells.{ruleOf, restOf, Tables}
+use Rattle.sparse.specs.Cells.{isLast, ruleOf, restOf, Tables}
 use Rattle.reading.specs.declared.Cursor.{Cursor}
 use Rattle.reading.specs.declared.Alternative.{Alternative}
 
@@ -30,6 +30,16 @@ pub record Ready (c M F H : List ℕ) (size n i j : ℕ) : Type 0 where
 pub record Position (c : List ℕ) (size p : ℕ) : Type 0 where
   pub inside : p < size
   pub kind : nextKind c p ≤ 2
+
+-- the row that holds the heights of what stands after the dot q
+abbrev pub restRow : List ℕ → ℕ → ℕ
+restRow c q = pick (isLast c q) (ruleAt c q) q
+
+-- the cells that begin at x hold nothing from m up to e
+pub record Barren (H : List ℕ) (x m e j : ℕ) : Type 0 where
+  pub from : m ≤ e
+  pub to : e ≤ j
+  pub empty : (l : ℕ) → m ≤ l → l < e → getD H (x + l) 0 ≡ none
 
 -- the heights of the symbol at p and of what stands after it, as one
 abbrev pub joined : ℕ → ℕ → ℕ
@@ -105,6 +115,7 @@ module _ (c M F : List ℕ) (size n : ℕ) (H : List ℕ) where
     pub after : i ≤ place
     pub before : place ≤ j
     pub low : LowEnd p i j k place
+    pub height : k < none
 
   -- the smallest such place
   pub record FirstEnd (p i j k m : ℕ) : Type 0 where

@@ -5,6 +5,8 @@ ghost use Prim.Native.Nat.{_<_};
 ghost use Rattle.chart.specs.Code.{nextKind};
 ghost use Rattle.reading.specs.Walk.{Tells, Ready, SomeEnd, FirstEnd, OtherEnd};
 use crate::table::first_end;
+use crate::table::next_end;
+use crate::table::rest_cells;
 use crate::table::split;
 use chart::NONE;
 use sparse::Stretch;
@@ -25,9 +27,10 @@ pub fn find_end(
         × (((p < s .size) × (nextKind (now code) p ≡ 2)) × SomeEnd (now code) (now marks) (now notes) (s .size) (s .n .0) (now main) p (s .i .0) (s .j .0) k) ⌝ }
     ensures { λ r. ⌜ FirstEnd (now (code .entry)) (now (marks .entry)) (now (notes .entry)) (s .size) (s .n .0) (now (main .entry)) p (s .i .0) (s .j .0) k (r .0) ⌝ }
 {
-    let mut m = s.i;
+    let x = rest_cells(code, p, s);
+    let mut m = next_end(main, x, first_end(code, p, s), s.j);
     while k < split(code, marks, notes, main, p, s, m) {
-        m = CharPlace(m.0 + 1);
+        m = next_end(main, x, CharPlace(m.0 + 1), s.j);
     }
     m
 }
@@ -45,10 +48,11 @@ pub fn other_end(
     requires { ⌜ Ready (now code) (now marks) (now notes) (now main) (s .size) (s .n .0) (s .i .0) (s .j .0) × ((p < s .size) × (nextKind (now code) p ≡ 2)) ⌝ }
     ensures { λ r. ⌜ Tells r (OtherEnd (now (code .entry)) (now (marks .entry)) (now (notes .entry)) (s .size) (s .n .0) (now (main .entry)) p (s .i .0) (s .j .0) (m .0)) ⌝ }
 {
+    let x = rest_cells(code, p, s);
     let mut l = first_end(code, p, s);
     while l.0 <= s.j.0 {
-        let here = l;
-        l = CharPlace(l.0 + 1);
+        let here = next_end(main, x, l, s.j);
+        l = CharPlace(here.0 + 1);
         if here.0 != m.0 {
             if split(code, marks, notes, main, p, s, here) != NONE {
                 return true;

@@ -4,10 +4,15 @@ ghost use mathlib.Core.Path.{_≡_};
 ghost use Prim.Native.Nat.{_+_, _*_, _-_, _<_, _≤_, min};
 ghost use lib.ListN.{length, getD};
 ghost use Rattle.chart.specs.Code.{nextKind};
-ghost use Rattle.reading.specs.Walk.{Ready, Position, splitAt, leastOf, pastOf, valueAt};
+ghost use Rattle.text.specs.Limits.{recordChars};
+ghost use Rattle.chart.specs.Heights.{cellAt};
+ghost use Rattle.sparse.specs.Cells.{Shape};
+ghost use Rattle.reading.specs.Walk.{Ready, Position, restRow, Barren, splitAt, leastOf, pastOf, valueAt};
 use chart::NONE;
+use chart::cell;
 use sparse::Stretch;
 use sparse::fits;
+use sparse::is_last;
 use sparse::larger;
 use sparse::rest_height;
 use sparse::rule_height;
@@ -70,6 +75,18 @@ fn smaller(a: u32, b: u32) -> u32
     a
 }
 
+// Where the cells begin that hold the heights of what stands after the symbol at p, up to j: those of a last symbol's rule, or its own.
+pub fn rest_cells(code: &[u32], p: usize, s: Stretch) -> usize
+    requires { ⌜ Shape (now code) (s .size) × (p + 1 < s .size) × (s .n .0 ≤ recordChars) × (s .j .0 ≤ s .n .0) ⌝ }
+    ensures { λ r. ⌜ (r ≡ cellAt (s .n .0) (restRow (now (code .entry)) (p + 1)) 0 (s .j .0)) × (restRow (now (code .entry)) (p + 1) < s .size) ⌝ }
+{
+    let q = p + 1;
+    if is_last(code, s.size, q) {
+        return cell(s.n.0, number_at(code, 4 * q + 2), 0, s.j.0);
+    }
+    cell(s.n.0, q, 0, s.j.0)
+}
+
 // The first place where the symbol at p may end: j, where nothing stands after it.
 pub fn first_end(code: &[u32], p: usize, s: Stretch) -> CharPlace
     requires { ⌜ 4 * (p + 1) < length (now code) ⌝ }
@@ -81,17 +98,34 @@ pub fn first_end(code: &[u32], p: usize, s: Stretch) -> CharPlace
     s.i
 }
 
+// The first place from m on from which something is derived up to j, by the cells from x on; else j.
+pub fn next_end(main: &[u32], x: usize, m: CharPlace, j: CharPlace) -> CharPlace
+    requires { ⌜ (x + j .0 ≤ length (now main)) × (m .0 ≤ j .0) ⌝ }
+    ensures { λ r. ⌜ Barren (now (main .entry)) x (m .0) (r .0) (j .0) ⌝ }
+{
+    let mut e = m.0;
+    while e < j.0 {
+        if main[x + e] != NONE {
+            return CharPlace(e);
+        }
+        e += 1;
+    }
+    CharPlace(e)
+}
+
 // The least height of the symbol at p and what stands after it, over all places where the symbol ends.
 fn least_split(code: &[u32], marks: &[u8], notes: &[u32], main: &[u32], p: usize, s: Stretch) -> u32
     requires { ⌜ Ready (now code) (now marks) (now notes) (now main) (s .size) (s .n .0) (s .i .0) (s .j .0) × ((p < s .size) × (nextKind (now code) p ≡ 2)) ⌝ }
     ensures { λ r. ⌜ r ≡ leastOf (now (code .entry)) (now (marks .entry)) (now (notes .entry)) (s .n .0) (now (main .entry)) p (s .i .0) (s .j .0) (s .j .0 + 1 - s .i .0) ⌝ }
 {
+    let x = rest_cells(code, p, s);
     let mut v = NONE;
     let mut m = first_end(code, p, s);
     while m.0 <= s.j.0 {
-        let w = split(code, marks, notes, main, p, s, m);
+        let e = next_end(main, x, m, s.j);
+        let w = split(code, marks, notes, main, p, s, e);
         v = smaller(v, w);
-        m = CharPlace(m.0 + 1);
+        m = CharPlace(e.0 + 1);
     }
     v
 }
