@@ -22,10 +22,11 @@ use Rattle.chart.specs.Heights.{none}
 use Rattle.chart.proofs.Says.{says-low, low-says, says-some, some-says, rule-least, least-rule}
 use Rattle.sparse.specs.Cells.{ruleOf, restOf}
 use Rattle.reading.specs.declared.Cursor.{Cursor}
-use Rattle.reading.specs.Walk.{Tells, splitAt, LowEnd, SomeEnd, FirstEnd, OtherEnd, pushed, descended, CanDescend}
+use Rattle.candidates.specs.Candidates.{Tells, splitAt, LowEnd, SomeEnd, FirstEnd, OtherEnd}
+use Rattle.reading.specs.Walk.{pushed, descended, CanDescend}
 use Rattle.reading.specs.Answer.{Finished}
 use Rattle.reading.proofs.Tables.{Known, Placed, SymbolAt, symbol-at, Halves, halves-of, halves-at}
-use Rattle.reading.proofs.Values.{joined-some, both, split-most, rest-most}
+use Rattle.candidates.proofs.Values.{joined-some, both, split-most, rest-most}
 use Rattle.reading.proofs.PendingRows.{marked, unmarked, tells-by, Pending, parses, AnyTwice, push-pending, pushed-length}
 use Rattle.reading.proofs.Walks.{Ambiguous, Going, Before, some-low}
 
@@ -126,7 +127,7 @@ module _ {c M F H : List ℕ} {size n top first : ℕ} (K : Known c M F H size n
       ]
 
       pub some-end : SomeEnd c M F size n H p i j k
-      some-end = record { place = N .place; after = node-before; before = node-after; low = own-end }
+      some-end = record { place = N .place; after = node-before; before = node-after; low = own-end; height = small }
 
     -- other end places, in the tables and in derivations
     other-place : {m : ℕ} → OtherEnd c M F size n H p i j m → OtherPlace (t .g) (t .r) (S .s) later-symbols i j m

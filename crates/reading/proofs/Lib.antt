@@ -1,9 +1,4 @@
-pub mod Few
-pub mod Lines
-pub mod AlongRules
-pub mod Searches
 pub mod Steps
-pub mod Values
 pub mod Tables
 pub mod PendingRows
 pub mod Walks

@@ -14,7 +14,8 @@ use Rattle.chart.specs.Heights.{none}
 use Rattle.derive.proofs.Tools.{or-case, or-left, or-right, isT}
 use Rattle.derive.proofs.Picks.{PickedRow}
 use Rattle.derive.proofs.Twice.{Twice}
-use Rattle.reading.specs.Walk.{Tells, pushed}
+use Rattle.candidates.specs.Candidates.{Tells}
+use Rattle.reading.specs.Walk.{pushed}
 use Rattle.reading.specs.Answer.{Finished}
 use Rattle.reading.proofs.Tables.{Known, Placed}
 

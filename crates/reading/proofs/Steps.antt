@@ -6,7 +6,8 @@ use Prim.Native.Nat.{ℕ, _+_}
 use native.Mathlib.Omega.{arith}
 use Rattle.chart.specs.Code.{nextKind, goesAt, ruleAt}
 use Rattle.reading.specs.declared.Cursor.{Cursor}
-use Rattle.reading.specs.Walk.{Tells, FirstEnd, OtherEnd, pushed, Entered, Stepped, at-symbol, CanEnter, CanStep}
+use Rattle.candidates.specs.Candidates.{Tells, FirstEnd, OtherEnd}
+use Rattle.reading.specs.Walk.{pushed, Entered, Stepped, at-symbol, CanEnter, CanStep}
 
 -- before the node: the mark is m
 abbrev pub inner : Cursor → ℕ → Bool → Cursor

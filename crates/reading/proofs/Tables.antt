@@ -5,7 +5,6 @@ use Prim.Native.Nat.{ℕ, zero, suc, _+_, _<_, _≤_}
 use native.Mathlib.Decide.{ℕ-discrete, decLt}
 use native.Mathlib.Omega.{arith}
 use mir.Syntax.{w32}
-use mir.Val.{Fits as FitsIn}
 use lib.Dec.{T}
 use lib.ListN.{length, getD, drop}
 use Rattle.text.specs.Limits.{recordChars}
@@ -25,11 +24,12 @@ use Rattle.heights.proofs.Part.{RuleLow, Spot, offered, offers-low, rule-first}
 use Rattle.heights.proofs.PartSays.{top-small, says, Begun, says-rule}
 use Rattle.reach.specs.Flags.{Fits, Reached, Wanted, homeOf}
 use Rattle.reach.proofs.Closed.{home-first}
-use Rattle.sparse.specs.Cells.{ruleOf, restOf, Reads, Tables}
+use Rattle.sparse.specs.Cells.{ruleOf, restOf}
 use Rattle.sparse.specs.Steps.{Flagged}
-use Rattle.reading.specs.Walk.{splitAt, valueAt, Ready, Position, Ends, Line, ln-last, ln-next}
+use Rattle.candidates.specs.Candidates.{splitAt, valueAt, Ready, Position, Ends, Line, ln-last, ln-next}
 use Rattle.reading.specs.Answer.{Finished}
-use Rattle.reading.proofs.Values.{Small, both, rule-most, rest-most, value-most, value-low, value-offer}
+use mir.Val.{Fits as FitsIn}
+use Rattle.candidates.proofs.Values.{Small, both, rule-most, rest-most, value-most, value-low, value-offer}
 
 -- finished tables, of numbers that fit
 pub record Known (c M F H : List ℕ) (size n top first : ℕ) : Type 0 where
@@ -38,10 +38,6 @@ pub record Known (c M F H : List ℕ) (size n top first : ℕ) : Type 0 where
 
 pub small-of : {F H : List ℕ} → ((x : ℕ) → FitsIn w32 (getD F x 0)) → ((x : ℕ) → FitsIn w32 (getD H x 0)) → Small F H
 small-of f h = record { noted = λ x. omega (arith, f x); cell = λ x. omega (arith, h x) }
-
--- what a rule's height asks
-pub reads : {c M F : List ℕ} {size n main : ℕ} → Tables c M F size n main → Reads M F size n main
-reads t = record { small = t .shape .small; noted-long = t .noted .long; short = t .short; marks-long = t .marks-long; room = t .room }
 
 module _ {c M F H : List ℕ} {size n top first : ℕ} (K : Known c M F H size n top first) where
   abbrev t : Finished c M F H size n top first

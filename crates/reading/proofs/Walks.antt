@@ -27,10 +27,11 @@ use Rattle.chart.specs.Heights.{none, Says}
 use Rattle.chart.proofs.Says.{says-low, low-says, says-some, some-says, rule-least, least-rule, rule-some, rule-small}
 use Rattle.sparse.specs.Cells.{ruleOf}
 use Rattle.reading.specs.declared.Cursor.{Cursor}
-use Rattle.reading.specs.declared.Alternative.{Alternative}
-use Rattle.reading.specs.Walk.{Tells, valueAt, Line, SomeLow, FirstLow, OtherBy, entered, Entered, full, wrote}
+use Rattle.candidates.specs.declared.Alternative.{Alternative}
+use Rattle.candidates.specs.Candidates.{Tells, valueAt, Line, SomeLow, FirstLow, OtherBy}
+use Rattle.reading.specs.Walk.{entered, Entered, full, wrote}
 use Rattle.reading.specs.Answer.{Finished}
-use Rattle.reading.proofs.Lines.{line-one}
+use Rattle.candidates.proofs.Lines.{line-one}
 use Rattle.reading.proofs.Tables.{Known, Placed, Started, value-says, RuleOf, alternative-placed}
 use Rattle.reading.proofs.PendingRows.{marked, unmarked, tells-by, Pending, parses, AnyTwice, Stacked}
 

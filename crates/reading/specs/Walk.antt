@@ -1,128 +1,15 @@
 -- The walk over the filled part of the main table, in numbers alone: what each of its tests and steps says of the tables.
-use mathlib.Core.Bool.{Bool, true, _||_}
+use mathlib.Core.Bool.{Bool, _||_}
 use mathlib.Core.Path.{_≡_}
-use mathlib.Core.List.{List, [], _∷_}
-use Prim.Native.Nat.{ℕ, zero, suc, _+_, _*_, _-_, _<_, _≤_, max, min}
-use lib.Dec.{eqb, leb}
+use mathlib.Core.List.{List}
+use Prim.Native.Nat.{ℕ, _+_, _*_, _-_, _<_, _≤_}
 use lib.ListN.{length, getD, set}
 use Rattle.text.specs.Limits.{readingNumbers}
-use Rattle.text.specs.Lists.{pick}
 use Rattle.chart.specs.Code.{nextKind, goesAt, ruleAt}
-use Rattle.chart.specs.Heights.{none}
-use Rattle.heights.specs.Table.{upOf}
-use Rattle.reach.specs.Flags.{dotAt}
-use Rattle.sparse.specs.Cells.{ruleOf, restOf, Tables}
+use Rattle.sparse.specs.Cells.{ruleOf}
 use Rattle.reading.specs.declared.Cursor.{Cursor}
-use Rattle.reading.specs.declared.Alternative.{Alternative}
-
--- the test b says exactly whether P
-pub record Tells (b : Bool) (P : Type 0) : Type 0 where
-  pub holds : b ≡ true → P
-  pub told : P → b ≡ true
-
--- the tables of a record of n characters, in which the stretch from i to j lies
-pub record Ready (c M F H : List ℕ) (size n i j : ℕ) : Type 0 where
-  pub tables : Tables c M F size n (length H)
-  pub order : i ≤ j
-  pub inside : j ≤ n
-
--- a dot of the code
-pub record Position (c : List ℕ) (size p : ℕ) : Type 0 where
-  pub inside : p < size
-  pub kind : nextKind c p ≤ 2
-
--- the heights of the symbol at p and of what stands after it, as one
-abbrev pub joined : ℕ → ℕ → ℕ
-joined a b = pick (eqb a none) none (max (upOf a) b)
-
-module _ (c M F : List ℕ) (n : ℕ) (H : List ℕ) where
-  -- the height of the symbol at p to m, then of what stands after it to j
-  abbrev pub splitAt : ℕ → ℕ → ℕ → ℕ → ℕ
-  splitAt p i j m = joined (ruleOf c M F n H (ruleAt c p) i m) (restOf c M F n H (p + 1) m j)
-
-  -- the least of them, where the symbol takes fewer than d characters
-  abbrev pub leastOf : ℕ → ℕ → ℕ → ℕ → ℕ
-  leastOf p i j zero = none
-  leastOf p i j (suc d) = min (leastOf p i j d) (splitAt p i j (i + d))
-
-  -- the height of the terminal at p, then of what stands after it
-  abbrev pub pastOf : ℕ → ℕ → ℕ → ℕ
-  pastOf p i j = pick (leb 2 (dotAt M p i)) (pick (leb (i + goesAt c p) j) (restOf c M F n H (p + 1) (i + goesAt c p) j) none) none
-
-  -- the least height of what stands after p, as the heights of shorter rows and of rules give it
-  unfoldable pub valueAt : ℕ → ℕ → ℕ → ℕ
-  valueAt p i j = pick (eqb (nextKind c p) 0) (pick (eqb i j) 0 none) (pick (eqb (nextKind c p) 1) (pastOf p i j) (leastOf p i j (j + 1 - i)))
-
--- the alternative that begins at q ends at e
-pub record Ends (c : List ℕ) (q e : ℕ) : Type 0 where
-  pub order : q ≤ e
-  pub inside : 4 * e + 3 < length c
-  pub is : nextKind c e ≡ 0
-  pub before : (p : ℕ) → q ≤ p → p < e → nextKind c p ≡ 0 → ⊥
-
--- the first positions of a rule's alternatives from q on
-pub data Line (c : List ℕ) (size : ℕ) : ℕ → List ℕ → Type 0 where
-  ln-last : {q e : ℕ} → Position c size q → Ends c q e → goesAt c e ≡ 0 → Line c size q (q ∷ [])
-  ln-next : {q e m : ℕ} {qs : List ℕ} → Position c size q → Ends c q e → goesAt c e ≡ m + 1 → Line c size m qs → Line c size q (q ∷ qs)
-
-pub record Lined (c : List ℕ) (size q : ℕ) : Type 0 where
-  pub places : List ℕ
-  pub line : Line c size q places
-
-module _ (c M F : List ℕ) (size n : ℕ) (H : List ℕ) where
-  -- an alternative of height at most k is there
-  pub record SomeLow (q i j k : ℕ) : Type 0 where
-    pub places : List ℕ
-    pub line : Line c size q places
-    pub number : ℕ
-    pub exists : number < length places
-    pub low : valueAt c M F n H (getD places number 0) i j ≤ k
-
-  -- the earliest alternative of height at most k
-  pub record FirstLow (q i j k : ℕ) (a : Alternative) : Type 0 where
-    pub places : List ℕ
-    pub line : Line c size q places
-    pub exists : a .number < length places
-    pub is : getD places (a .number) 0 ≡ a .place
-    pub low : valueAt c M F n H (a .place) i j ≤ k
-    pub first : (b : ℕ) → b < a .number → k < valueAt c M F n H (getD places b 0) i j
-
-  -- an alternative other than a derives i to j
-  pub record OtherBy (q i j a : ℕ) : Type 0 where
-    pub places : List ℕ
-    pub line : Line c size q places
-    pub number : ℕ
-    pub exists : number < length places
-    pub other : number ≡ a → ⊥
-    pub derives : valueAt c M F n H (getD places number 0) i j ≡ none → ⊥
-
-  -- the symbol at p ends at m, and what stands after it goes on to j, with heights at most k
-  abbrev pub LowEnd : ℕ → ℕ → ℕ → ℕ → ℕ → Type 0
-  LowEnd p i j k m = splitAt c M F n H p i j m ≤ k
-
-  pub record SomeEnd (p i j k : ℕ) : Type 0 where
-    pub place : ℕ
-    pub after : i ≤ place
-    pub before : place ≤ j
-    pub low : LowEnd p i j k place
-
-  -- the smallest such place
-  pub record FirstEnd (p i j k m : ℕ) : Type 0 where
-    pub after : i ≤ m
-    pub before : m ≤ j
-    pub low : LowEnd p i j k m
-    pub first : (l : ℕ) → i ≤ l → l < m → LowEnd p i j k l → ⊥
-
-  -- the symbol at p ends at l, another place than m, and what stands after it goes on to j
-  pub record AnotherEnd (p i j m l : ℕ) : Type 0 where
-    pub other : l ≡ m → ⊥
-    pub derives : splitAt c M F n H p i j l ≡ none → ⊥
-
-  pub record OtherEnd (p i j m : ℕ) : Type 0 where
-    pub place : ℕ
-    pub after : i ≤ place
-    pub before : place ≤ j
-    pub too : AnotherEnd p i j m place
+use Rattle.candidates.specs.declared.Alternative.{Alternative}
+use Rattle.candidates.specs.Candidates.{FirstEnd, FirstLow, LowEnd, OtherBy, OtherEnd, Position, Ready, SomeEnd, SomeLow, Tells}
 
 -- the stack with the row that begins at p, to be walked to j with heights at most k
 abbrev pub pushed : List ℕ → ℕ → ℕ → ℕ → ℕ → List ℕ

@@ -5,10 +5,6 @@
 // of the least height, at a symbol the smallest end place that lets the rest of its row derive what is left. First dots of alternatives
 // have no cells: their heights are computed from what stands after them. Rows that are not finished wait on a stack.
 // The reading is ambiguous where another alternative or another end place, of whatever height, derives the same stretch.
-mod alternatives;
-mod ends;
-mod table;
-
 ghost use mathlib.Core.Path.{_≡_};
 ghost use mathlib.Core.Bool.{true, false};
 ghost use Prim.Native.Nat.{_+_, _*_, _<_, _≤_};
@@ -17,13 +13,13 @@ ghost use Rattle.chart.specs.Code.{nextKind};
 ghost use Rattle.text.specs.Limits.{readingNumbers};
 ghost use Rattle.reading.specs.Walk.{pushed, popped, counted, Entered, Stepped, CanEnter, CanStep, Over};
 ghost use Rattle.reading.specs.Answer.{Finished, Given, Answers};
-use crate::alternatives::find_alternative;
-use crate::alternatives::other_alternative;
-use crate::ends::find_end;
-use crate::ends::other_end;
-use crate::table::AFTER_ALTERNATIVE;
-use crate::table::BEFORE_TERMINAL;
-use crate::table::number_at;
+use candidates::AFTER_ALTERNATIVE;
+use candidates::BEFORE_TERMINAL;
+use candidates::find_alternative;
+use candidates::find_end;
+use candidates::number_at;
+use candidates::other_alternative;
+use candidates::other_end;
 use chart::NONE;
 use sparse::Stretch;
 use sparse::rule_height;
@@ -64,12 +60,6 @@ pub struct Cursor {
     pub at: usize,
     pub depth: usize,
     pub mark: bool,
-}
-
-// An alternative's number and its first dot position.
-pub struct Alternative {
-    pub number: usize,
-    pub place: usize,
 }
 
 // Puts a row on the stack: it goes on at p, to the place j, with heights at most k.

@@ -3,9 +3,10 @@ use Prim.Native.Nat.{ℕ, _+_}
 use native.Mathlib.Omega.{arith}
 use denote.Ref.{now}
 use Rattle.reading.specs.declared.Cursor.{Cursor}
-use Rattle.reading.specs.Walk.{SomeLow, FirstLow, full, wrote}
-use Rattle.reading.proofs.Tables.{reads}
-use Rattle.reading.proofs.Lines.{line-few}
+use Rattle.candidates.specs.Candidates.{SomeLow, FirstLow}
+use Rattle.reading.specs.Walk.{full, wrote}
+use Rattle.candidates.proofs.Values.{reads}
+use Rattle.candidates.proofs.Lines.{line-few}
 use borrow.Author.Needs.{needs}
 use Rattle.reading.proofs.enter.Statement.{statement}
 use Rattle.reading.proofs.enter.Tie as tie

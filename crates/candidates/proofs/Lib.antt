@@ -1,0 +1,5 @@
+pub mod Few
+pub mod Lines
+pub mod AlongRules
+pub mod Searches
+pub mod Values
