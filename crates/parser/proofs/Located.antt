@@ -15,6 +15,8 @@ use Rattle.chart.specs.Code.{nextKind, goesAt, On, at-end, at-terminal, at-symb
 use Rattle.chart.specs.Heights.{stretches}
 use Rattle.rules.specs.Ready.{Ready, Token}
 use Rattle.left_pass.specs.Left.{Lefted}
+use Rattle.quick_reading.specs.Readable.{Readable, Flagged}
+use Rattle.quick_reading.proofs.Finished.{left-flagged}
 use Rattle.left_pass.proofs.Shifts.{fits-within}
 use Rattle.right_pass.proofs.Given.{given-of}
 use Rattle.reach.specs.Flags.{dotAt, Reached, Fits, Begins, Ends, Wanted, LeftClosed, FitsOnly}
@@ -34,36 +36,35 @@ use Rattle.fault.specs.Wants.{WantedAll}
 use Rattle.fault.proofs.WantLaws.{wanting-le, wanting-back, wanting-same}
 use Rattle.fault.proofs.Found.{flagged, Searched, found-fault}
 use Rattle.chooser.specs.Choose.{Choosable}
-use Rattle.parser.specs.Choose.{Locatable}
+use Rattle.parser.specs.Choose.{Locatable, LocatableAnew}
 use Rattle.confirm.specs.Find.{Confirming, Confirmed}
 use Rattle.confirm.proofs.Found.{flows-of, confirmed-fault}
 use Rattle.parser.specs.declared.Chosen.{Chosen}
 use Rattle.parser.specs.Chosen.{Fault, chosenOf, Fails, Chooses}
 
 -- what the sets are given, and what they say
-module _ {Tb c M : List ℕ} {R : Text} {size root top first main : ℕ} {r : Bool} {g : Grammar} (a : Locatable Tb size root R main) (k : Ruled (Token Tb) c g size top first)
-    (l : length c ≡ 2048) (f : Lefted Tb c R size top M r) where
+module _ {Tb c M : List ℕ} {R : Text} {size top first main : ℕ} {g : Grammar} (a : Locatable Tb c R M size top main) (k : Ruled (Token Tb) c g size top first) where
   code-tokened : Tokened Tb c size
   code-tokened =
-      let room : 4 * size ≤ length c = omega (arith, a .small, l) in
-      let v = given-of k {R = R} {M = M} (a .long) (a .small) room (a .short) (f .long) in
+      let room : 4 * size ≤ length c = omega (arith, a .small, a .code-long) in
+      let v = given-of k {R = R} {M = M} (a .long) (a .small) room (a .short) (a .flags .long) in
       record { long = a .long; shape = shape-of k (a .small) room; here = v .here; is = v .token }
 
   pub confirming : {F : List ℕ} → Noted c size F → Confirming Tb R c M F size (length R) top main
-  confirming n = record {
+  confirming w = record {
     tokened = code-tokened;
-    flows = flows-of k (code-tokened .shape) (f .closed) (f .only);
+    flows = flows-of k (code-tokened .shape) (a .flags .closed) (a .flags .only);
     long = refl;
     short = a .short;
-    marks-long = f .long;
-    notes-long = n .long;
+    marks-long = a .flags .long;
+    notes-long = w .long;
     room = a .room;
-    root = f .closed .root;
+    root = a .flags .closed .root;
     inside = k .root-inside;
   }
 
   pub at-once : {p : ℕ} → Confirmed Tb R c M size top p → Fault g R p
-  at-once w prod held = confirmed-fault k (code-tokened .shape) (f .closed) (f .only) code-tokened (a .short) prod held w
+  at-once w prod held = confirmed-fault k (code-tokened .shape) (a .flags .closed) (a .flags .only) code-tokened (a .short) prod held w
 
 -- wanting ends leaves what is flagged from the left as it was
 module _ (Tb c : List ℕ) (R : Text) (size top : ℕ) {M M' : List ℕ} (small : size ≤ mostSize) (w : WantedAll M M' size (length R + 1)) where
@@ -105,17 +106,17 @@ pub record Located (Tb c M F : List ℕ) (R : Text) (size top main : ℕ) : Type
   pub noted : Noted c size F
   pub empties : Empties c F size
 
-pub located : {Tb c M M' F : List ℕ} {R : Text} {size root top main main' : ℕ} {r : Bool} → Locatable Tb size root R main → length c ≡ 2048 → main' ≡ main → Lefted Tb c R size top M r
-    → WantedAll M M' size (length R + 1) → Noted c size F × Empties c F size → Located Tb c M' F R size top main'
-located {Tb} {c} {R = R} {size} {top = top} a l e f w n = record {
+pub located : {Tb c M M' F : List ℕ} {R : Text} {size top main main' : ℕ} → Locatable Tb c R M size top main → main' ≡ main → WantedAll M M' size (length R + 1)
+    → Noted c size F × Empties c F size → Located Tb c M' F R size top main'
+located {Tb} {c} {R = R} {size} {top} a e w n = record {
   long = a .long;
   small = a .small;
-  code-room = omega (arith, a .small);
+  code-room = omega (arith, a .small, a .code-long);
   short = a .short;
   room = omega (arith, a .room);
-  marks-long = w .wanting .long ∙ f .long;
-  left = wanted-left Tb c R size top (a .small) w (f .closed);
-  only = wanted-only Tb c R size top (a .small) w (f .only);
+  marks-long = w .wanting .long ∙ a .flags .long;
+  left = wanted-left Tb c R size top (a .small) w (a .flags .closed);
+  only = wanted-only Tb c R size top (a .small) w (a .flags .only);
   wants = wanted-ends Tb c R size top (a .small) w;
   noted = n .0;
   empties = n .1;
@@ -174,5 +175,31 @@ fails g R out w e a f = record { none = none (subst (Answers g R out) e a); faul
     none : NotRead g R 16 → (t : Row) → Derivation g R t → ⊥
     none (no-reading n) = n
 
-pub locatable : {T : List ℕ} {size root main main' parse : ℕ} {r : Text} → Choosable T size root r main parse → main' ≡ main → Locatable T size root r main'
-locatable a e = record { grammar = a .grammar; ready = a .ready; long = a .long; small = a .small; short = a .short; room = omega (arith, a .room) }
+pub locatable-anew : {T : List ℕ} {size root main main' parse : ℕ} {r : Text} → Choosable T size root r main parse → main' ≡ main → LocatableAnew T size root r main'
+locatable-anew a e = record { grammar = a .grammar; ready = a .ready; long = a .long; small = a .small; short = a .short; room = omega (arith, a .room) }
+
+-- what the quick engine is given, and what it and the pass from the left leave to the search
+module _ {T c : List ℕ} {g : Grammar} {size root top : ℕ} {r : Text} where
+  pub readable : {M : List ℕ} {main parse : ℕ} → Choosable T size root r main parse → Ruled (Token T) c g size top root → length c ≡ 2048 → length M ≡ 308736 → ((x : ℕ) → getD M x 0 ≡ 0)
+      → Readable T c r M size (length r) top root main parse
+  readable a k l m z = record {
+    grammar = g;
+    code = k;
+    long = a .long;
+    small = a .small;
+    code-long = l;
+    short = a .short;
+    ends = refl;
+    marks-long = m;
+    none = z;
+    room = a .room;
+    numbers = a .numbers;
+  }
+
+  pub locatable : {M : List ℕ} {main main' parse : ℕ} → Choosable T size root r main parse → Ruled (Token T) c g size top root → length c ≡ 2048 → Flagged T c r size top M → main' ≡ main
+      → Locatable T c r M size top main'
+  locatable a k l f e = record { grammar = g; root = root; code = k; long = a .long; small = a .small; code-long = l; short = a .short; flags = f; room = omega (arith, a .room) }
+
+  pub locatable-left : {M : List ℕ} {main : ℕ} {b : Bool} → LocatableAnew T size root r main → Ruled (Token T) c g size top root → length c ≡ 2048 → Lefted T c r size top M b
+      → Locatable T c r M size top main
+  locatable-left a k l f = record { grammar = g; root = root; code = k; long = a .long; small = a .small; code-long = l; short = a .short; flags = left-flagged f; room = a .room }

@@ -1,7 +1,7 @@
 -- From what the stages promise to what the walk is given.
 use mathlib.Core.Bool.{Bool, false}
 use mathlib.Core.List.{List}
-use mathlib.Core.Path.{_≡_, refl}
+use mathlib.Core.Path.{_≡_, refl, sym, subst}
 use Prim.Native.Nat.{ℕ, _*_, _≤_}
 use native.Mathlib.Omega.{arith}
 use lib.ListN.{length}
@@ -19,8 +19,9 @@ use Rattle.sparse.specs.Steps.{Empties}
 use Rattle.sparse.proofs.Coded.{shape-of, flag-code, flag-stays, flag-root}
 use Rattle.sparse.proofs.Empty.{least-all}
 use Rattle.quick.specs.Quick.{Filled}
-use Rattle.chooser.specs.Choose.{Choosable}
-use Rattle.reading.specs.Answer.{Finished, NotRead, no-reading}
+use Rattle.reading.specs.declared.Walked.{Walked}
+use Rattle.reading.specs.Answer.{Finished, NotRead, no-reading, Answers}
+use Rattle.quick_reading.specs.Readable.{Readable, Flagged}
 
 -- the passes and the notes are done
 pub record Staged (Tb c M F : List ℕ) (R : Text) (size top main : ℕ) : Type 0 where
@@ -32,11 +33,11 @@ pub record Staged (Tb c M F : List ℕ) (R : Text) (size top main : ℕ) : Type 
   pub noted : Noted c size F
   pub empties : Empties c F size
 
-pub staged : {Tb c M F : List ℕ} {R : Text} {size root top main main' parse : ℕ} → Choosable Tb size root R main parse → length c ≡ 2048 → main' ≡ main
+pub staged : {Tb c M₀ M F : List ℕ} {R : Text} {size n top first main main' parse : ℕ} → Readable Tb c R M₀ size n top first main parse → main' ≡ main
     → Righted Tb c R size top M → Noted c size F × Empties c F size → Staged Tb c M F R size top main'
-staged a l e f n = record {
+staged a e f n = record {
   small = a .small;
-  code-room = omega (arith, a .small);
+  code-room = omega (arith, a .small, a .code-long);
   short = a .short;
   room = omega (arith, a .room);
   flags = f;
@@ -75,3 +76,18 @@ module _ {Tb c M F : List ℕ} {R : Text} {size top first : ℕ} {g : Grammar} (
 pub not-read : {Tb c M : List ℕ} {R : Text} {size top first : ℕ} {g : Grammar} {r : Bool} → Ruled (Token Tb) c g size top first → Lefted Tb c R size top M r → r ≡ false
     → NotRead g R 16
 not-read k l e = no-reading (λ t d. no-derivation k l e d)
+
+-- what the pass from the left flags, and what the one from the right leaves of it
+pub left-flagged : {Tb c M : List ℕ} {R : Text} {size top : ℕ} {r : Bool} → Lefted Tb c R size top M r → Flagged Tb c R size top M
+left-flagged l = record { long = l .long; closed = l .closed; only = l .only }
+
+pub right-flagged : {Tb c M : List ℕ} {R : Text} {size top : ℕ} → Righted Tb c R size top M → Flagged Tb c R size top M
+right-flagged l = record { long = l .long; closed = l .left; only = l .only }
+
+-- what the walk answers, at the record's end
+pub answers : {Tb c M₀ M F H : List ℕ} {R : Text} {size n top first main parse : ℕ} {g : Grammar} (out : List ℕ) (r : Walked) → Ruled (Token Tb) c g size top first
+    → Readable Tb c R M₀ size n top first main parse → Staged Tb c M F R size top (length H) → Filled c M F size n H
+    → ((t : Finished c M F H size n top first) → Answers (t .g) (t .r) out r) → Answers g R out r
+unfolding finished
+answers {Tb} {c} {M₀} {M} {F} {H} {R} {size} {n} {top} {first} {g = g} out r k a s f w =
+    subst (λ (x : ℕ). Filled c M F size x H → ((t : Finished c M F H size x top first) → Answers (t .g) (t .r) out r) → Answers g R out r) (sym (a .ends)) (λ f w. w (finished k s f)) f w
