@@ -20,7 +20,7 @@ use Rattle.job.specs.declared.LeftParse.{LeftParse}
 use Rattle.job.specs.declared.Parse.{Parse}
 use Rattle.job.specs.declared.Parse.the-variants.{Chosen, Refused}
 use Rattle.job.specs.Parses.{IsChosen, Parses}
-use Rattle.job.proofs.Texts.{got-part}
+use Rattle.opening.proofs.Texts.{got-part}
 use Rattle.convert.specs.declared.Converted.{Converted}
 use Rattle.convert.specs.Concluded.{Parsing, Ready, Concludes}
 use Rattle.outcome.specs.declared.Answer.{Answer}

@@ -23,11 +23,11 @@ use Rattle.answer.specs.Named.{namedOf}
 use Rattle.answer.proofs.Named.{named-found, found-named}
 use Rattle.answer.proofs.Settled.{judge-answers}
 use Rattle.answer.proofs.Stages.{stage-lent, stage-none, stage-found}
-use Rattle.job.specs.declared.Start.{Start}
-use Rattle.job.specs.declared.Begun.{Begun}
-use Rattle.job.specs.declared.Begun.the-variants.{At, Refused as Ended}
-use Rattle.job.specs.Stages.{begunOf, StartedBy, BeginsBy}
-use Rattle.job.proofs.Texts.{got-part}
+use Rattle.opening.specs.declared.Start.{Start}
+use Rattle.opening.specs.declared.Begun.{Begun}
+use Rattle.opening.specs.declared.Begun.the-variants.{At, Refused as Ended}
+use Rattle.opening.specs.Stages.{begunOf, StartedBy, BeginsBy}
+use Rattle.opening.proofs.Texts.{got-part}
 use Rattle.judge.specs.Due.{Named}
 use Rattle.outcome.specs.declared.Answer.{Answer}
 use Rattle.outcome.specs.Outcome.{shown, refusalOf, answerOf}

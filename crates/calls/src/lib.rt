@@ -4,11 +4,10 @@ ghost use Rattle.answer.specs.Answer.{job, Categorizes, Reads, Converts};
 ghost use Rattle.calls.specs.Calls.{Checked, ReadAs, ConvertedAs, JudgedAs, TidiedAs};
 ghost use Rattle.resume.specs.Resume.{StartedAs, RoundedAs, EndedAs};
 use accept::Accepted;
-use job::Begun;
 use job::Lending;
 use job::Refusal;
+use opening::Begun;
 use outcome::Answer;
-use resume::Finishing;
 use resume::Progress;
 use text::limits;
 
@@ -140,7 +139,7 @@ pub extern "C" fn ixml_judge(
 {
     let mut table = [0u32; limits::GRAMMAR_TABLE];
     let mut text = [0u32; limits::RECORD_CHARACTERS];
-    let begun = job::begin_list(
+    let begun = opening::begin_list(
         grammar,
         record,
         list.len(),
@@ -151,7 +150,7 @@ pub extern "C" fn ixml_judge(
     );
     let Begun::At(start) = begun else {
         return outcome::refuse(Refusal {
-            why: job::why_begun(begun),
+            why: opening::why_begun(begun),
             mismatch: false,
         });
     };
@@ -225,16 +224,13 @@ pub extern "C" fn ixml_finish_read(
         &mut table,
         &mut text,
     );
-    let Begun::At(start) = begun else {
-        return resume::refuse(job::why_begun(begun), 0);
-    };
-    let rounds = text::wide(state::rounds(state));
-    let ended = resume::end_read(state, &table, start, &text, main, &mut parse);
-    let Finishing::Parsed(parsed) = ended else {
-        return resume::not_ended(ended, rounds);
-    };
+    let ended = ending::end_read(begun, state, &table, &text, main, &mut parse);
+    let parsed = ended.parse;
     let answer = outcome::give_numbers(parsed, &parse, result);
-    Progress { answer, rounds }
+    Progress {
+        answer,
+        rounds: ended.rounds,
+    }
 }
 
 // Ends a read in rounds as XML.
@@ -262,14 +258,11 @@ pub extern "C" fn ixml_finish_convert(
         &mut table,
         &mut text,
     );
-    let Begun::At(start) = begun else {
-        return resume::refuse(job::why_begun(begun), 0);
-    };
-    let rounds = text::wide(state::rounds(state));
-    let ended = resume::end_read(state, &table, start, &text, main, &mut parse);
-    let Finishing::Parsed(parsed) = ended else {
-        return resume::not_ended(ended, rounds);
-    };
+    let ended = ending::end_read(begun, state, &table, &text, main, &mut parse);
+    let parsed = ended.parse;
     let answer = outcome::give_xml(parsed, &table, &text, &parse, result);
-    Progress { answer, rounds }
+    Progress {
+        answer,
+        rounds: ended.rounds,
+    }
 }

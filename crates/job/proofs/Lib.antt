@@ -1,5 +1,2 @@
-pub mod Needs
-pub mod Texts
-pub mod Starts
 pub mod Readings
 pub mod Parsed

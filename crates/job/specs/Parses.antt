@@ -17,17 +17,26 @@ use Rattle.items.specs.Items.{Items, Reads}
 use Rattle.answer.specs.Answer.{Job}
 use Rattle.answer.specs.Compute.{Test, firstOf, treeOf, mismatch, placesAt, jobValues}
 use Rattle.load.specs.Loaded.{placesOf}
+use Rattle.parser.specs.declared.Chosen as parser
+use Rattle.parser.specs.declared.Chosen.the-variants.{Reading, TooLong, NoReading}
 use Rattle.job.specs.declared.LeftParse.{LeftParse}
 use Rattle.job.specs.declared.Refusal.{Refusal}
 use Rattle.job.specs.declared.Parse.{Parse}
 use Rattle.job.specs.declared.Parse.the-variants.{Chosen, Refused}
-use Rattle.job.specs.Stages.{Got}
-use Rattle.job.specs.Found.{firstTest}
+use Rattle.opening.specs.declared.Start.{Start}
+use Rattle.opening.specs.Stages.{Got}
+use Rattle.job.specs.Found.{firstTest, whyNot}
 
 -- the refusal, or none
 abbrev pub whyRefused : Parse → Refusal
 whyRefused (Chosen p) = record { why = plainly 0; mismatch = false }
 whyRefused (Refused r) = r
+
+-- what is chosen, with what the first stages found
+abbrev pub parsedOf : parser.Chosen → Start → Parse
+parsedOf (Reading n m) s = Chosen (record { root = s .rules .root; count = n; chars = s .chars; ambiguous = m; mismatch = s .rules .mismatch })
+parsedOf TooLong s = Refused (record { why = whyNot TooLong; mismatch = s .rules .mismatch })
+parsedOf (NoReading k) s = Refused (record { why = whyNot (NoReading k); mismatch = s .rules .mismatch })
 
 -- the lengths of the lent buffers
 pub record Lent (T new P : List ℕ) : Type 0 where

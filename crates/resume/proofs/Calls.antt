@@ -16,10 +16,10 @@ use Rattle.rules.specs.Ready.{Ready}
 use Rattle.answer.specs.Answer.{Job, tableNeed}
 use Rattle.advance.specs.Round.{Readable, Rounded}
 use Rattle.state.specs.State.{roundsOf, FinishedBy, Keeps, Counted, Blank}
-use Rattle.job.specs.declared.Start.{Start}
-use Rattle.job.specs.declared.Begun.{Begun}
-use Rattle.job.specs.declared.Begun.the-variants.{At, Refused as Ended}
-use Rattle.job.specs.Stages.{begunOf, Started, Begins}
+use Rattle.opening.specs.declared.Start.{Start}
+use Rattle.opening.specs.declared.Begun.{Begun}
+use Rattle.opening.specs.declared.Begun.the-variants.{At, Refused as Ended}
+use Rattle.opening.specs.Stages.{begunOf, Started, Begins}
 use Rattle.job.proofs.Readings.{choosable}
 use Rattle.outcome.specs.declared.Answer.{Answer}
 use Rattle.outcome.specs.Outcome.{shown, done, refusalOf}

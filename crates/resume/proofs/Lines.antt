@@ -22,11 +22,11 @@ use Rattle.answer.specs.Compute.{Test, firstOf, mismatch, grammarTests, needTes
 use Rattle.answer.proofs.Lines.{one-topmost, first-topmost}
 use Rattle.answer.proofs.Agree.{grammar-agrees, need-agrees, tree-known, tree-sound, one-grammar, one-record, same-test}
 use Rattle.answer.proofs.Stages.{stage-lent}
-use Rattle.job.specs.declared.Start.{Start}
-use Rattle.job.specs.declared.Begun.{Begun}
-use Rattle.job.specs.declared.Begun.the-variants.{At, Refused as Ended}
-use Rattle.job.specs.Stages.{begunOf, Opened, Started, Opens, lending, lendingOf, needOf}
-use Rattle.job.proofs.Starts.{need-is}
+use Rattle.opening.specs.declared.Start.{Start}
+use Rattle.opening.specs.declared.Begun.{Begun}
+use Rattle.opening.specs.declared.Begun.the-variants.{At, Refused as Ended}
+use Rattle.opening.specs.Stages.{begunOf, Opened, Started, Opens, lending, lendingOf, needOf}
+use Rattle.opening.proofs.Starts.{need-is}
 use Rattle.state.specs.State.{Keeps}
 use Rattle.outcome.specs.declared.Answer.{Answer}
 use Rattle.outcome.specs.Outcome.{shown, done, refusalOf}

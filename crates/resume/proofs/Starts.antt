@@ -34,10 +34,10 @@ use Rattle.answer.specs.Compute.{firstOf, grammarTests, needTests, placesAt, jo
 use Rattle.answer.proofs.Stages.{stage-1, stage-lent}
 use Rattle.answer.proofs.Noted.{keeps-job, keeps-placed}
 use Rattle.load.specs.Loaded.{placesOf}
-use Rattle.job.specs.declared.Start.{Start}
-use Rattle.job.specs.declared.Begun.{Begun}
-use Rattle.job.specs.declared.Begun.the-variants.{At, Refused as Ended}
-use Rattle.job.specs.Stages.{begunOf, Started, Begins, NotBegun}
+use Rattle.opening.specs.declared.Start.{Start}
+use Rattle.opening.specs.declared.Begun.{Begun}
+use Rattle.opening.specs.declared.Begun.the-variants.{At, Refused as Ended}
+use Rattle.opening.specs.Stages.{begunOf, Started, Begins, NotBegun}
 use Rattle.outcome.specs.Outcome.{shown, done, refusalOf}
 use Rattle.resume.specs.Resume as calls
 use Rattle.resume.proofs.Lines.{tops, version-known, no-mark, of-job, opened-of}

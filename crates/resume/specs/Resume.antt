@@ -43,6 +43,10 @@ laterLines j S ls =
     ∷ line 15 (ofJob j (λ g r. (j .mainTable < mainNeed g r) ⊎ (j .secondTable < grammarTable)))
     ∷ ls
 
+-- the lines of the end
+abbrev pub endLines : Job → List ℕ → List Line
+endLines j S = laterLines j S (line 26 (FinishedBy S → ⊥) ∷ [])
+
 abbrev pub noNotes : Notes
 noNotes = record { bytes = []; faults = []; grammars = [] }
 
@@ -74,8 +78,8 @@ pub record RoundedAs (j : Job) (M S : List ℕ) (a : Progress) (M' S' : List ℕ
 -- The end of a read, by what the uncut call answers. 27 too for a table that no finished read of this grammar and record has: whoever filled
 -- it, no wrong reading is given.
 pub data EndedAs (Uncut : Job → List ℕ → defined.Answer → List ℕ → Type 0) (j : Job) (M S old : List ℕ) (a : Progress) (new : List ℕ) : Type 0 where
-  early : (n k : ℕ) → Topmost (laterLines j S (line 26 (FinishedBy S → ⊥) ∷ [])) n → (n ≡ 0 → ⊥) → a ≡ refusing (plainly n) k
+  early : (n k : ℕ) → Topmost (endLines j S) n → (n ≡ 0 → ⊥) → a ≡ refusing (plainly n) k
       → (n ≡ 26 → k ≡ roundsOf S) → ((n ≡ 26 → ⊥) → k ≡ 0) → new ≡ old → EndedAs Uncut j M S old a new
-  altered : Topmost (laterLines j S (line 26 (FinishedBy S → ⊥) ∷ [])) 0 → ofJob j (λ g r. Finished g r M → ⊥)
+  altered : Topmost (endLines j S) 0 → ofJob j (λ g r. Finished g r M → ⊥)
       → a ≡ refusing (plainly 27) 0 → new ≡ old → EndedAs Uncut j M S old a new
-  as-uncut : Topmost (laterLines j S (line 26 (FinishedBy S → ⊥) ∷ [])) 0 → Uncut j old (shown (a .answer)) new → a .rounds ≡ roundsOf S → EndedAs Uncut j M S old a new
+  as-uncut : Topmost (endLines j S) 0 → Uncut j old (shown (a .answer)) new → a .rounds ≡ roundsOf S → EndedAs Uncut j M S old a new

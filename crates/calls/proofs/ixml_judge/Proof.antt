@@ -2,7 +2,7 @@ use mathlib.Core.List.{[]}
 use lib.ListN.{length}
 use native.Mathlib.Omega.{arith}
 use mathlib.Core.Path.{_≡_, refl}
-use Rattle.job.proofs.Texts.{got-in, got-part}
+use Rattle.opening.proofs.Texts.{got-in, got-part}
 use Rattle.answer.specs.Answer.{job}
 use Rattle.calls.proofs.JudgesAs.{judge-ended, started, judgeable, judge-concluded}
 use borrow.Author.Needs.{needs}
@@ -34,7 +34,9 @@ returns : tie.Need-returns
 returns c =
     let at-enum-told = c .before .before in
     let at-begin-list = at-enum-told .before .before .before .before in
-    judge-ended _ _ _ _ _ _ (at-begin-list .begin-list .ensures) _ _ _ (at-enum-told .enum-told .given .1) (c .before .why-begun .ensures) (c .refuse .ensures)
+    let args = at-begin-list .before .before .before .before .before .before .before .before .before .args in
+    let j = job (args .grammar .now) (args .record .now) (length (args .scratch .now)) (length (args .second .now)) in
+    judge-ended (args .list .now) j _ _ _ _ (at-begin-list .begin-list .ensures) _ _ _ (at-enum-told .enum-told .given .1) (c .before .why-begun .ensures) (c .refuse .ensures)
 
 slice-aggregate-conclude-list : tie.Need-slice-aggregate-conclude-list
 slice-aggregate-conclude-list c = search needs
@@ -78,7 +80,9 @@ returns-2 c =
     let at-conclude-list = c .before .before .before .before in
     let at-begun = at-conclude-list .before .before .before .before .before .before .before in
     let at-begin-list = at-begun .before .before .before .before in
-    judge-concluded _ _ _ _ _ _ (at-begin-list .begin-list .ensures) _ (at-begun .begun .given .1) _ _ (at-conclude-list .conclude-list .ensures)
+    let args = at-begin-list .before .before .before .before .before .before .before .before .before .args in
+    let j = job (args .grammar .now) (args .record .now) (length (args .scratch .now)) (length (args .second .now)) in
+    judge-concluded (args .list .now) j _ _ _ _ (at-begin-list .begin-list .ensures) _ (at-begun .begun .given .1) _ _ (at-conclude-list .conclude-list .ensures)
 
 pub ixml-judge-spec : {M : Type 1} → statement M
 ixml-judge-spec =

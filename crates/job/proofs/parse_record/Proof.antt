@@ -1,3 +1,5 @@
+use lib.ListN.{length}
+use Rattle.answer.specs.Answer.{job}
 use Rattle.job.proofs.Parsed.{prepared}
 use borrow.Author.Needs.{needs}
 use Rattle.job.proofs.parse_record.Statement.{statement}
@@ -8,9 +10,11 @@ begin-requires c κs = search needs
 
 read-begun-requires : tie.Need-read-begun-requires
 read-begun-requires c κs =
-    let begin = c .before .before .before .before .before .before .before .before .begin in
-    let start = c .before .before .before .before .before .before .before .before .before .before .before .before .before .before .before .before .before in
-    prepared _ (begin .last .1 .1 .1 .1 .0) (begin .last .1 .1 .1 .1 .1 .0) _ _ (begin .result) (begin .ensures) (search needs) (search needs) (start .pre .room)
+    let at-begin = c .before .before .before .before .before .before .before .before in
+    let start = at-begin .before .before .before .before .before .before .before .before .before in
+    let j = job (start .args .grammar .now) (start .args .record .now) (length (start .args .main .now)) (start .args .lending .second) in
+    let done = at-begin .begin in
+    prepared j (done .last .1 .1 .1 .1 .0) (done .last .1 .1 .1 .1 .1 .0) (length (start .args .main .now)) (length (start .args .parse .now)) (done .result) (done .ensures) (search needs) (search needs) (start .pre .room)
 
 same-length : tie.Need-same-length
 same-length c = search needs
@@ -26,8 +30,11 @@ same-length-4 c = search needs
 
 returns : tie.Need-returns
 returns c =
-    let at-read = c .before .before .before .before in
-    at-read .read-begun .ensures _ (at-read .before .before .before .before .before .before .before .before .before .begin .ensures)
+    let at-read-begun = c .before .before .before .before in
+    let at-begin = at-read-begun .before .before .before .before .before .before .before .before .before in
+    let start = at-begin .before .before .before .before .before .before .before .before .before in
+    let j = job (start .args .grammar .now) (start .args .record .now) (length (start .args .main .now)) (start .args .lending .second) in
+    at-read-begun .read-begun .ensures j (at-begin .begin .ensures)
 
 pub parse-record-spec : {M : Type 1} → statement M
 parse-record-spec =

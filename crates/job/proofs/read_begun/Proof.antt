@@ -1,4 +1,9 @@
-use Rattle.job.proofs.Parsed.{begun-at, ended, not-chosen, chosen, readable}
+use mathlib.Core.Path.{sym, subst}
+use Rattle.opening.proofs.Starts.{begun-at}
+use Rattle.opening.proofs.Texts.{got-part}
+use Rattle.job.specs.Parses.{Parses}
+use Rattle.job.proofs.Readings.{choosable, parses-of}
+use Rattle.job.proofs.Parsed.{ended, readable}
 use borrow.Author.Needs.{needs}
 use Rattle.job.proofs.read_begun.Statement.{statement}
 use Rattle.job.proofs.read_begun.Tie as tie
@@ -14,21 +19,25 @@ why-begun-requires c κs = search needs
 
 returns : tie.Need-returns
 returns c =
-    λ j w. ended _ _ _ _ _ _ (c .before .enum-told .given .1) (c .why-begun .ensures) w
+    let at-why-begun = c in
+    let at-enum-told = at-why-begun .before in
+    λ j w. ended _ _ _ _ _ _ (at-enum-told .enum-told .given .1) (at-why-begun .why-begun .ensures) w
 
-read-record-requires : tie.Need-read-record-requires
-read-record-requires c κs =
+slice-aggregate-choose-by : tie.Need-slice-aggregate-choose-by
+slice-aggregate-choose-by c =
+    let at-begun = c .before .before in
+    let start = at-begun .before .before .before .before .before .before in
+    got-part (readable _ _ (at-begun .begun .given .1) (start .pre) .started .input)
+
+choose-by-requires : tie.Need-choose-by-requires
+choose-by-requires c κs =
     let at-begun = c .before .before .before .before in
-    readable _ _ (at-begun .begun .given .1) (at-begun .before .before .before .before .before .before .pre)
+    let start = at-begun .before .before .before .before .before .before in
+    let ready = readable _ _ (at-begun .begun .given .1) (start .pre) in
+    choosable _ _ _ _ (ready .started) _ _ (ready .lent) (ready .long) (ready .room)
 
-enum-known-read : tie.Need-enum-known-read
-enum-known-read c = search needs
-
-enum-told-2 : tie.Need-enum-told-2
-enum-told-2 c = search needs
-
-why-read-requires : tie.Need-why-read-requires
-why-read-requires c κs = search needs
+parse-of-requires : tie.Need-parse-of-requires
+parse-of-requires c κs = search needs
 
 same-length : tie.Need-same-length
 same-length c = search needs
@@ -38,22 +47,11 @@ same-length-2 c = search needs
 
 returns-2 : tie.Need-returns-2
 returns-2 c =
-    let at-read = c .before .before .before .before .before .before .before in
-    let at-begun = at-read .before .before .before .before .before in
+    let at-parse-of = c in
+    let at-choose-by = at-parse-of .before .before .before .before .before in
+    let at-begun = at-choose-by .before .before .before .before .before in
     λ j w. (let s = begun-at j _ _ _ _ (at-begun .begun .given .1) w in
-    not-chosen _ _ _ _ s _ _ _ _ (c .before .enum-told2 .given .1) (c .why-read .ensures) (at-read .read-record .ensures j s))
-
-same-length-3 : tie.Need-same-length-3
-same-length-3 c = search needs
-
-same-length-4 : tie.Need-same-length-4
-same-length-4 c = search needs
-
-returns-3 : tie.Need-returns-3
-returns-3 c =
-    let at-read = c .before .before .before .before .before .before .before in
-    let at-begun = at-read .before .before .before .before .before in
-    λ j w. (let s = begun-at j _ _ _ _ (at-begun .begun .given .1) w in chosen _ _ _ _ s _ _ _ (c .before .read .given .1) (at-read .read-record .ensures j s))
+    subst (Parses j _ _ _) (sym (at-parse-of .parse-of .ensures)) (parses-of j _ _ _ s _ (at-choose-by .choose-by .result) (at-choose-by .choose-by .ensures (s .grammar .tree) (s .grammar .ready))))
 
 pub read-begun-spec : {M : Type 1} → statement M
 read-begun-spec =
@@ -63,13 +61,9 @@ read-begun-spec =
     enum-told
     why-begun-requires
     returns
-    read-record-requires
-    enum-known-read
-    enum-told-2
-    why-read-requires
+    slice-aggregate-choose-by
+    choose-by-requires
+    parse-of-requires
     same-length
     same-length-2
-    returns-2
-    same-length-3
-    same-length-4
-    returns-3)
+    returns-2)

@@ -3,7 +3,7 @@ use lib.ListN.{length}
 use Prim.Native.Nat.{_+_}
 use mathlib.Core.Path.{refl, sym, ap, _∙_}
 use borrow.Author.Tests.{not-true, not-false}
-use Rattle.job.proofs.Texts.{got-part}
+use Rattle.opening.proofs.Texts.{got-part}
 use Rattle.state.proofs.Cells.{not-so}
 use Rattle.resume.proofs.Lines.{resumed-at}
 use Rattle.resume.proofs.Calls.{rounded-refused, rounded-over, rounded-on, readable}

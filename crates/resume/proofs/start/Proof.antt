@@ -1,5 +1,5 @@
 use Rattle.answer.specs.Answer.{job}
-use Rattle.job.proofs.Parsed.{begun-at}
+use Rattle.opening.proofs.Starts.{begun-at}
 use lib.ListN.{length}
 use Rattle.resume.proofs.Starts.{grammar-fits, input-fits, start-room}
 use Rattle.resume.proofs.Calls.{started-refused, started-done}
