@@ -8,7 +8,7 @@ use native.Mathlib.Omega.{arith}
 use lib.Dec.{leb, eqb}
 use borrow.Author.Tests.{leb-true, le-leb, not-true, eqb-false, ne-eqb}
 use Rattle.chart.specs.Code.{nextKind}
-use Rattle.candidates.specs.Candidates.{Tells, Ends}
+use Rattle.candidates.specs.Candidates.{Tells, Ends, LowEnd, SomeEnd, FirstEnd, OtherEnd}
 
 never : {P : Type 0} (b : Bool) → b ≡ true → b ≡ false → P
 never b e f = absurd (let z : _≡_ {A = ℕ} 0 1 = cc in omega arith)
@@ -63,3 +63,12 @@ end-ahead {e = e} E u = ahead u e (E .order) (E .is)
 
 pub end-found : {c : List ℕ} {q e p : ℕ} → Ends c q e → Unmet (EndIs c) q p → nextKind c p ≡ 0 → Ends c q p
 end-found E u z = record { order = u .order; inside = omega (arith, end-ahead E u, E .inside); is = z; before = u .none }
+
+-- on an empty stretch a symbol has one end
+pub only-end : {c M F H : List ℕ} {size n p i j k : ℕ} → SomeEnd c M F size n H p i j k → i ≡ j → FirstEnd c M F size n H p i j k i
+only-end {c} {M} {F} {H} {size} {n} {p} {i} {j} {k} s e =
+    let z : s .place ≡ i = omega (arith, s .after, s .before) in
+    record { after = omega arith; before = omega arith; low = subst (LowEnd c M F size n H p i j k) z (s .low); first = λ l a b. absurd (omega arith) }
+
+pub no-other : {c M F H : List ℕ} {size n p i j m : ℕ} → i ≡ j → m ≡ i → OtherEnd c M F size n H p i j m → ⊥
+no-other e f o = o .too .other (omega (arith, o .after, o .before))

@@ -27,6 +27,9 @@ pub fn find_end(
         × (((p < s .size) × (nextKind (now code) p ≡ 2)) × SomeEnd (now code) (now marks) (now notes) (s .size) (s .n .0) (now main) p (s .i .0) (s .j .0) k) ⌝ }
     ensures { λ r. ⌜ FirstEnd (now (code .entry)) (now (marks .entry)) (now (notes .entry)) (s .size) (s .n .0) (now (main .entry)) p (s .i .0) (s .j .0) k (r .0) ⌝ }
 {
+    if s.i.0 == s.j.0 {
+        return s.i;
+    }
     let x = rest_cells(code, p, s);
     let mut m = next_end(main, x, first_end(code, p, s), s.j);
     while k < split(code, marks, notes, main, p, s, m) {
@@ -48,6 +51,11 @@ pub fn other_end(
     requires { ⌜ Ready (now code) (now marks) (now notes) (now main) (s .size) (s .n .0) (s .i .0) (s .j .0) × ((p < s .size) × (nextKind (now code) p ≡ 2)) ⌝ }
     ensures { λ r. ⌜ Tells r (OtherEnd (now (code .entry)) (now (marks .entry)) (now (notes .entry)) (s .size) (s .n .0) (now (main .entry)) p (s .i .0) (s .j .0) (m .0)) ⌝ }
 {
+    if s.i.0 == s.j.0 {
+        if m.0 == s.i.0 {
+            return false;
+        }
+    }
     let x = rest_cells(code, p, s);
     let mut l = first_end(code, p, s);
     while l.0 <= s.j.0 {
