@@ -5,7 +5,7 @@ use std::fmt::Debug;
 
 use ixml::limits::{main_table, GRAMMAR_TABLE, READING_NUMBERS, RECORD_CHARACTERS, STATE};
 use ixml::Answer;
-use ixml_yardstick::gen::{self, Random, Style};
+use ixml_yardstick::gen::{self, Random};
 
 use crate::cut::Lengths;
 use crate::pages::Pages;
@@ -143,14 +143,7 @@ fn size(grammar: &[u8]) -> Option<usize> {
 
 /// A grammar and a record, now and then damaged.
 fn texts(random: &mut Random) -> (Vec<u8>, Vec<u8>) {
-    let style = *random.pick(&Style::ALL);
-    let longest = match random.below(1000) {
-        0..=1 => RECORD_CHARACTERS,
-        2..=49 => 40,
-        50..=299 => 20,
-        _ => 8,
-    };
-    let job = gen::job(random, style, longest);
+    let job = gen::any_job(random);
     let (mut grammar, mut record) = (job.grammar.into_bytes(), job.record.into_bytes());
     for text in [&mut grammar, &mut record] {
         if random.chance(5) {

@@ -1,7 +1,8 @@
 //! The library's calls on slices.
 
+use crate::ffi::lend;
 use crate::limits::GRAMMAR_BYTES;
-use crate::{ffi, Answer, Error};
+use crate::{Answer, Error};
 
 /// Checks a grammar: the numbers 0 to 11, and 24.
 ///
@@ -10,8 +11,7 @@ use crate::{ffi, Answer, Error};
 /// assert_eq!(ixml::check(b"a: ['b'-'a'].").number, 9);
 /// ```
 pub fn check(grammar: &[u8]) -> Answer {
-    // SAFETY: the pointer and the length are those of a slice.
-    unsafe { ffi::ixml_check(grammar.as_ptr(), grammar.len()) }
+    lend!(ixml_check: of grammar)
 }
 
 /// Tidies a grammar: the numbers 0 to 11, 24, 28 and 23.
@@ -31,16 +31,7 @@ pub fn check(grammar: &[u8]) -> Answer {
 /// assert_eq!(&result[..answer.length], b"-a: \"b\"; #a, [L; \"c\"]+.\n");
 /// ```
 pub fn tidy(grammar: &[u8], result: &mut [u8]) -> Answer {
-    // SAFETY: pointers and lengths are those of slices, of which the mutable
-    // one overlaps nothing.
-    unsafe {
-        ffi::ixml_tidy(
-            grammar.as_ptr(),
-            grammar.len(),
-            result.as_mut_ptr(),
-            result.len(),
-        )
-    }
+    lend!(ixml_tidy: of grammar, into result)
 }
 
 /// A grammar in the one layout.
@@ -93,22 +84,7 @@ pub fn read(
     grammar_table: &mut [u32],
     result: &mut [u32],
 ) -> Answer {
-    // SAFETY: pointers and lengths are those of slices, of which the mutable
-    // ones overlap nothing.
-    unsafe {
-        ffi::ixml_read(
-            grammar.as_ptr(),
-            grammar.len(),
-            record.as_ptr(),
-            record.len(),
-            main_table.as_mut_ptr(),
-            main_table.len(),
-            grammar_table.as_mut_ptr(),
-            grammar_table.len(),
-            result.as_mut_ptr(),
-            result.len(),
-        )
-    }
+    lend!(ixml_read: of grammar, of record, into main_table, into grammar_table, into result)
 }
 
 /// The same by the plain engine, which fills the whole main table: far slower,
@@ -120,21 +96,7 @@ pub fn read_plain(
     grammar_table: &mut [u32],
     result: &mut [u32],
 ) -> Answer {
-    // SAFETY: as in `read`.
-    unsafe {
-        ffi::ixml_read_plain(
-            grammar.as_ptr(),
-            grammar.len(),
-            record.as_ptr(),
-            record.len(),
-            main_table.as_mut_ptr(),
-            main_table.len(),
-            grammar_table.as_mut_ptr(),
-            grammar_table.len(),
-            result.as_mut_ptr(),
-            result.len(),
-        )
-    }
+    lend!(ixml_read_plain: of grammar, of record, into main_table, into grammar_table, into result)
 }
 
 /// Converts a record to XML: all numbers but 25 to 28.
@@ -169,21 +131,7 @@ pub fn convert(
     grammar_table: &mut [u32],
     result: &mut [u8],
 ) -> Answer {
-    // SAFETY: as in `read`.
-    unsafe {
-        ffi::ixml_convert(
-            grammar.as_ptr(),
-            grammar.len(),
-            record.as_ptr(),
-            record.len(),
-            main_table.as_mut_ptr(),
-            main_table.len(),
-            grammar_table.as_mut_ptr(),
-            grammar_table.len(),
-            result.as_mut_ptr(),
-            result.len(),
-        )
-    }
+    lend!(ixml_convert: of grammar, of record, into main_table, into grammar_table, into result)
 }
 
 /// Judges a list of numbers, whoever made it: the numbers 0 to 15, 17 to 25.
@@ -219,21 +167,5 @@ pub fn judge(
     scratch: &mut [u64],
     result: &mut [u8],
 ) -> Answer {
-    // SAFETY: as in `read`.
-    unsafe {
-        ffi::ixml_judge(
-            grammar.as_ptr(),
-            grammar.len(),
-            record.as_ptr(),
-            record.len(),
-            list.as_ptr(),
-            list.len(),
-            grammar_table.as_ptr(),
-            grammar_table.len(),
-            scratch.as_mut_ptr(),
-            scratch.len(),
-            result.as_mut_ptr(),
-            result.len(),
-        )
-    }
+    lend!(ixml_judge: of grammar, of record, of list, of grammar_table, into scratch, into result)
 }

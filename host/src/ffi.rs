@@ -156,3 +156,25 @@ extern "C" {
         result_length: usize,
     ) -> Progress;
 }
+
+/// A call with what is lent to it: `of` a slice that is read and `into` one that
+/// is written go as a pointer and a length, `with` goes as it is.
+macro_rules! lend {
+    (@ $call:ident [$($word:expr),*]) => {
+        // SAFETY: pointers and lengths are those of slices, of which the mutable
+        // ones overlap nothing.
+        unsafe { $crate::ffi::$call($($word),*) }
+    };
+    (@ $call:ident [$($word:expr),*] of $slice:ident $(, $($rest:tt)*)?) => {
+        $crate::ffi::lend!(@ $call [$($word,)* $slice.as_ptr(), $slice.len()] $($($rest)*)?)
+    };
+    (@ $call:ident [$($word:expr),*] into $slice:ident $(, $($rest:tt)*)?) => {
+        $crate::ffi::lend!(@ $call [$($word,)* $slice.as_mut_ptr(), $slice.len()] $($($rest)*)?)
+    };
+    (@ $call:ident [$($word:expr),*] with $value:ident $(, $($rest:tt)*)?) => {
+        $crate::ffi::lend!(@ $call [$($word,)* $value] $($($rest)*)?)
+    };
+    ($call:ident: $($lent:tt)*) => { $crate::ffi::lend!(@ $call [] $($lent)*) };
+}
+
+pub(crate) use lend;

@@ -11,9 +11,10 @@
 
 use ixml_yardstick::cut;
 
+use crate::ffi::lend;
 use crate::limits::{self, main_table_for, GRAMMAR_TABLE, READING_NUMBERS};
 use crate::reader::{converted, with_room};
-use crate::{ffi, Answer, Converted, Error, Reading};
+use crate::{Answer, Converted, Error, Reading};
 
 /// What a read keeps between its calls, grammar and record included.
 pub type State = [u32; limits::STATE];
@@ -53,21 +54,7 @@ pub fn start(
     grammar_table: &[u32],
     state: &mut State,
 ) -> Progress {
-    // SAFETY: pointers and lengths are those of slices, of which the mutable
-    // ones overlap nothing.
-    unsafe {
-        ffi::ixml_start(
-            grammar.as_ptr(),
-            grammar.len(),
-            record.as_ptr(),
-            record.len(),
-            main_table.as_mut_ptr(),
-            main_table.len(),
-            grammar_table.as_ptr(),
-            grammar_table.len(),
-            state,
-        )
-    }
+    lend!(ixml_start: of grammar, of record, into main_table, of grammar_table, with state)
 }
 
 /// Does one round: the numbers 0, 27 and 15.
@@ -81,20 +68,7 @@ pub fn round(
     grammar_table: &[u32],
     state: &mut State,
 ) -> Progress {
-    // SAFETY: as in `start`.
-    unsafe {
-        ffi::ixml_round(
-            grammar.as_ptr(),
-            grammar.len(),
-            record.as_ptr(),
-            record.len(),
-            main_table.as_mut_ptr(),
-            main_table.len(),
-            grammar_table.as_ptr(),
-            grammar_table.len(),
-            state,
-        )
-    }
+    lend!(ixml_round: of grammar, of record, into main_table, of grammar_table, with state)
 }
 
 /// Ends a read as [`read`](crate::read) would: 27, 15 and 26, and then what that
@@ -107,22 +81,7 @@ pub fn finish_read(
     state: &State,
     result: &mut [u32],
 ) -> Progress {
-    // SAFETY: as in `start`.
-    unsafe {
-        ffi::ixml_finish_read(
-            grammar.as_ptr(),
-            grammar.len(),
-            record.as_ptr(),
-            record.len(),
-            main_table.as_ptr(),
-            main_table.len(),
-            grammar_table.as_ptr(),
-            grammar_table.len(),
-            state,
-            result.as_mut_ptr(),
-            result.len(),
-        )
-    }
+    lend!(ixml_finish_read: of grammar, of record, of main_table, of grammar_table, with state, into result)
 }
 
 /// Ends a read as [`convert`](crate::convert) would: 27, 15 and 26, and then what
@@ -135,22 +94,7 @@ pub fn finish_convert(
     state: &State,
     result: &mut [u8],
 ) -> Progress {
-    // SAFETY: as in `start`.
-    unsafe {
-        ffi::ixml_finish_convert(
-            grammar.as_ptr(),
-            grammar.len(),
-            record.as_ptr(),
-            record.len(),
-            main_table.as_ptr(),
-            main_table.len(),
-            grammar_table.as_ptr(),
-            grammar_table.len(),
-            state,
-            result.as_mut_ptr(),
-            result.len(),
-        )
-    }
+    lend!(ixml_finish_convert: of grammar, of record, of main_table, of grammar_table, with state, into result)
 }
 
 /// A read in rounds in memory of its own: an iterator that does one round at each

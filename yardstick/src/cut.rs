@@ -120,31 +120,23 @@ impl State {
 
     /// What reading answers: 27, 15 and 26 before it.
     pub fn finish_read(&self, lent: Lent, result: &mut [u32]) -> Progress {
-        self.finish(
-            lent,
-            |Lent {
-                 grammar,
-                 record,
-                 main_table,
-                 grammar_table,
-             }| { calls::read(grammar, record, main_table, grammar_table, result) },
-        )
+        self.finish(lent, |grammar, record, main, second| {
+            calls::read(grammar, record, main, second, result)
+        })
     }
 
     /// What converting answers: 27, 15 and 26 before it.
     pub fn finish_convert(&self, lent: Lent, result: &mut [u8]) -> Progress {
-        self.finish(
-            lent,
-            |Lent {
-                 grammar,
-                 record,
-                 main_table,
-                 grammar_table,
-             }| { calls::convert(grammar, record, main_table, grammar_table, result) },
-        )
+        self.finish(lent, |grammar, record, main, second| {
+            calls::convert(grammar, record, main, second, result)
+        })
     }
 
-    fn finish(&self, lent: Lent, uncut: impl FnOnce(Lent) -> Answer) -> Progress {
+    fn finish(
+        &self,
+        lent: Lent,
+        uncut: impl FnOnce(&[u8], &[u8], usize, usize) -> Answer,
+    ) -> Progress {
         let begun = match self.of(lent) {
             Ok(begun) => begun,
             Err(refusal) => return refusal.into(),
@@ -154,7 +146,12 @@ impl State {
             let answer = Refusal::NotYet.into();
             return Progress { answer, rounds };
         }
-        let answer = uncut(lent);
+        let answer = uncut(
+            lent.grammar,
+            lent.record,
+            lent.main_table,
+            lent.grammar_table,
+        );
         let derives = begun.rounds.derives(0, 0, begun.characters);
         assert_eq!(
             derives,

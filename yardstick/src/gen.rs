@@ -3,7 +3,7 @@
 
 use crate::alphabet;
 use crate::plain::{plain, Plain, Symbol, Terminal};
-use crate::{statics, syntax};
+use crate::{limits, statics, syntax};
 
 /// The splitmix64 generator.
 #[derive(Clone, Debug)]
@@ -64,6 +64,18 @@ impl Style {
 pub struct Job {
     pub grammar: String,
     pub record: String,
+}
+
+/// A job of any style, mostly with a short record.
+pub fn any_job(random: &mut Random) -> Job {
+    let style = *random.pick(&Style::ALL);
+    let longest = match random.below(1000) {
+        0..=1 => limits::RECORD_CHARACTERS,
+        2..=49 => 40,
+        50..=299 => 20,
+        _ => 8,
+    };
+    job(random, style, longest)
 }
 
 /// A small grammar with a record of at most `longest` characters, which the

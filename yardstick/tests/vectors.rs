@@ -35,6 +35,21 @@ fn bytes(hex: &str) -> Vec<u8> {
         .collect()
 }
 
+/// The answer in these fields, the result among them.
+fn answer(fields: &[String]) -> Answer {
+    Answer {
+        number: fields[0].parse().unwrap(),
+        length: fields[1].parse().unwrap(),
+        ambiguous: fields[2] == "1",
+        version: fields[3] == "1",
+        places: Places {
+            byte: fields[5].parse().unwrap(),
+            fault: fields[6].parse().unwrap(),
+            grammar: fields[7].parse().unwrap(),
+        },
+    }
+}
+
 /// The expected buffer: the result, and behind it the filling.
 fn expected<T: Copy>(result: &[T], filling: &[T]) -> Vec<T> {
     let mut buffer = filling.to_vec();
@@ -53,17 +68,7 @@ fn calls() {
         let less: isize = line[4].parse().unwrap();
         let grammar_table = GRAMMAR_TABLE.checked_add_signed(less).unwrap();
         let room: usize = line[5].parse().unwrap();
-        let answer = Answer {
-            number: line[6].parse().unwrap(),
-            length: line[7].parse().unwrap(),
-            ambiguous: line[8] == "1",
-            version: line[9] == "1",
-            places: Places {
-                byte: line[11].parse().unwrap(),
-                fault: line[12].parse().unwrap(),
-                grammar: line[13].parse().unwrap(),
-            },
-        };
+        let answer = answer(&line[6..]);
         let result = &line[10];
         match line[0].as_str() {
             "check" => assert_eq!(check(&grammar), answer, "line {number}"),
@@ -114,17 +119,7 @@ fn cut_into_rounds() {
             }
             got = state.finish_read(lent, &mut buffer);
         }
-        let answer = Answer {
-            number: line[7].parse().unwrap(),
-            length: line[8].parse().unwrap(),
-            ambiguous: line[9] == "1",
-            version: line[10] == "1",
-            places: Places {
-                byte: line[12].parse().unwrap(),
-                fault: line[13].parse().unwrap(),
-                grammar: line[14].parse().unwrap(),
-            },
-        };
+        let answer = answer(&line[7..]);
         let rounds = line[15].parse().unwrap();
         assert_eq!(got, Progress { answer, rounds }, "{line:?}");
         let numbers = line[11].split(',').filter(|number| *number != "-");
@@ -196,17 +191,7 @@ fn judged() {
             scratch,
             &mut buffer,
         );
-        let answer = Answer {
-            number: line[7].parse().unwrap(),
-            length: line[8].parse().unwrap(),
-            ambiguous: line[9] == "1",
-            version: line[10] == "1",
-            places: Places {
-                byte: line[12].parse().unwrap(),
-                fault: line[13].parse().unwrap(),
-                grammar: line[14].parse().unwrap(),
-            },
-        };
+        let answer = answer(&line[7..]);
         assert_eq!(got, answer, "line {number}");
         let buffer_now = expected(&bytes(&line[11]), &filling);
         assert_eq!(buffer, buffer_now, "line {number}");

@@ -16,8 +16,8 @@ use Rattle.chart.specs.Heights.{stretches, none}
 use Rattle.heights.proofs.Lowering.{steps-length}
 use Rattle.sweeps.specs.Layers.{Upto, Adds, Swept}
 use Rattle.numbering.proofs.Names.{owner-named, named-owner}
-use Rattle.fixpoint.specs.Fixed.{Tells}
-use Rattle.fixpoint.proofs.Tests.{hit, miss}
+use Rattle.tells.specs.Tells.{Tells}
+use Rattle.tells.proofs.Tells.{hit, miss}
 use Rattle.rounds.specs.Rounds.{mostRounds, AllStand}
 use Rattle.rounds.specs.After.{ruleSymbol, TableSays, After, Ends, Finished}
 use Rattle.rounds.proofs.Says.{after-says}

@@ -9,7 +9,7 @@ use Rattle.text.specs.Lists.{Text}
 use Rattle.tree.specs.Tree.{Grammar}
 use Rattle.chart.specs.Heights.{stretches}
 use Rattle.rules.specs.Ready.{Ready}
-use Rattle.fixpoint.specs.Fixed.{Tells}
+use Rattle.tells.specs.Tells.{Tells}
 use Rattle.rounds.specs.Rounds.{mostRounds}
 use Rattle.rounds.specs.After.{TableSays, After, Ends, Finished}
 

@@ -6,7 +6,7 @@ use Prim.Native.Nat.{ℕ}
 use Rattle.answer.specs.Answer.{Job}
 use Rattle.outcome.specs.declared.Answer.{Answer}
 use Rattle.outcome.specs.Outcome.{shown}
-use Rattle.calls.specs.Calls.{ReadAs}
+use Rattle.outcome.specs.Calls.{ReadAs}
 
 pub engines-agree : (j : Job) (old : List ℕ) (a b : Answer) (new new' : List ℕ) → ReadAs j old a new → ReadAs j old b new' → (shown a ≡ shown b) × (new ≡ new')
 engines-agree j old a b new new' x y = (x .computed ∙ sym (y .computed), x .buffer ∙ sym (y .buffer))

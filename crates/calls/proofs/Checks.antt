@@ -19,7 +19,7 @@ use Rattle.accept.specs.declared.Accepted.the-variants.{Grammar as A-grammar, R
 use Rattle.accept.specs.Accepted.{stageOf, Kept, Accepts}
 use Rattle.outcome.specs.declared.Answer.{Answer}
 use Rattle.outcome.specs.Outcome.{shown, done, refusalOf}
-use Rattle.calls.specs.Calls.{Checked}
+use Rattle.outcome.specs.Calls.{Checked}
 
 refused-answer : (m : Bool) (vs : Values) (d : Diagnostic) → eqb (d .number) 0 ≡ false → eqb (d .number) 16 ≡ false → placesOf (d .places) ≡ placesAt vs (d .number)
     → outcome [] m vs (d .number) (result [] false) .answer ≡ shown (refusalOf (record { why = d; mismatch = false }))

@@ -16,8 +16,8 @@ use Rattle.outcome.specs.Given.{Counted, GivesNumbers, Named, GivesXml}
 use Rattle.resume.specs.Resume.{EndedAs, early, altered, as-uncut}
 use Rattle.ending.specs.declared.Ending.{Ending}
 use Rattle.ending.specs.Ending.{EndsWith, early as ends-early, altered as ends-altered, as-uncut as ends-uncut}
-use Rattle.calls.proofs.ReadsAs.{counted, read-given}
-use Rattle.calls.proofs.ConvertsAs.{named, convert-given}
+use Rattle.uncut.proofs.ReadsAs.{counted, read-given}
+use Rattle.uncut.proofs.ConvertsAs.{named, convert-given}
 
 module _ {j : Job} {T new M S P : List ℕ} {r : Ending} where
   -- of a refusal, or of what the stages come to

@@ -31,7 +31,7 @@ use Rattle.opening.proofs.Texts.{got-part}
 use Rattle.judge.specs.Due.{Named}
 use Rattle.outcome.specs.declared.Answer.{Answer}
 use Rattle.outcome.specs.Outcome.{shown, refusalOf, answerOf}
-use Rattle.calls.specs.Calls.{JudgedAs}
+use Rattle.outcome.specs.Calls.{JudgedAs}
 use Rattle.outcome.specs.Judging.{Stands, Judgeable, Accepted, Declined, Verdict, accepted, declined, Concluded}
 use Rattle.outcome.proofs.Outcomes.{refusing, refused-outcome}
 use Rattle.outcome.proofs.Documents.{Spoken, nowhere, concluded}

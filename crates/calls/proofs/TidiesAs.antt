@@ -43,7 +43,7 @@ use Rattle.tidy_text.proofs.Encoded.{tidy-encoded}
 use Rattle.outcome.specs.declared.Answer.{Answer}
 use Rattle.outcome.specs.Outcome.{shown, done, refusalOf}
 use Rattle.outcome.specs.Given.{Tokened, tidiedOf, GivesTidy}
-use Rattle.calls.specs.Calls.{TidiedAs}
+use Rattle.outcome.specs.Calls.{TidiedAs}
 use Rattle.outcome.proofs.Outcomes.{answering, refused-outcome, done-is}
 
 module _ (bs old : List ℕ) where

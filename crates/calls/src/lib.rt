@@ -1,10 +1,9 @@
 // The public calls. None requires anything of its caller.
 ghost use lib.ListN.{length};
 ghost use Rattle.answer.specs.Answer.{job, Categorizes, Reads, Converts};
-ghost use Rattle.calls.specs.Calls.{Checked, ReadAs, ConvertedAs, JudgedAs, TidiedAs};
+ghost use Rattle.outcome.specs.Calls.{Checked, ReadAs, ConvertedAs, JudgedAs, TidiedAs};
 ghost use Rattle.resume.specs.Resume.{StartedAs, RoundedAs, EndedAs};
 use accept::Accepted;
-use job::Lending;
 use job::Refusal;
 use opening::Begun;
 use outcome::Answer;
@@ -35,37 +34,8 @@ pub extern "C" fn ixml_category(code: u32) -> u32
     text::wide_byte(category::category_of(code))
 }
 
-// Reads a record, by the plain engine or the quick one. Of the lent tables the second is known by its length alone: a grammar is judged
-// before it is known to be long enough, so the call has a table of its own. What the main table holds afterwards is left open.
-fn read_with(
-    plain: bool,
-    grammar: &[u8],
-    record: &[u8],
-    main: &mut [u32],
-    second: &[u32],
-    result: &mut [u32],
-) -> Answer
-    ensures { λ r. ⌜ ReadAs (job (now (grammar .entry)) (now («record» .entry)) (length (now (main .entry))) (length (now (second .entry)))) (now (result .entry)) r (now (result .exit)) ⌝ }
-{
-    let mut table = [0u32; limits::GRAMMAR_TABLE];
-    let mut text = [0u32; limits::RECORD_CHARACTERS];
-    let mut parse = [0u32; limits::READING_NUMBERS];
-    let parsed = job::parse_record(
-        grammar,
-        record,
-        main,
-        Lending {
-            second: second.len(),
-            plain,
-        },
-        &mut table,
-        &mut text,
-        &mut parse,
-    );
-    outcome::give_numbers(parsed, &parse, result)
-}
-
-// Reads a record.
+// Reads a record. Of the lent tables the second is known by its length alone: a grammar is judged before it is known to be long enough, so
+// the call has a table of its own. What the main table holds afterwards is left open.
 #[no_mangle]
 pub extern "C" fn ixml_read(
     grammar: &[u8],
@@ -76,7 +46,7 @@ pub extern "C" fn ixml_read(
 ) -> Answer
     ensures { λ r. ⌜ ReadAs (job (now (grammar .entry)) (now («record» .entry)) (length (now (main .entry))) (length (now (second .entry)))) (now (result .entry)) r (now (result .exit)) ⌝ }
 {
-    read_with(false, grammar, record, main, second, result)
+    uncut::read(false, grammar, record, main, second.len(), result)
 }
 
 // The same by the plain engine, which fills the whole main table and takes far longer. It is there to be compared with.
@@ -90,7 +60,7 @@ pub extern "C" fn ixml_read_plain(
 ) -> Answer
     ensures { λ r. ⌜ ReadAs (job (now (grammar .entry)) (now («record» .entry)) (length (now (main .entry))) (length (now (second .entry)))) (now (result .entry)) r (now (result .exit)) ⌝ }
 {
-    read_with(true, grammar, record, main, second, result)
+    uncut::read(true, grammar, record, main, second.len(), result)
 }
 
 // Converts a record. What the main table holds afterwards is left open.
@@ -105,22 +75,7 @@ pub extern "C" fn ixml_convert(
     ensures { λ r. ⌜ ConvertedAs (job (now (grammar .entry)) (now («record» .entry)) (length (now (main .entry)))
         (length (now (second .entry)))) (now (result .entry)) r (now (result .exit)) ⌝ }
 {
-    let mut table = [0u32; limits::GRAMMAR_TABLE];
-    let mut text = [0u32; limits::RECORD_CHARACTERS];
-    let mut parse = [0u32; limits::READING_NUMBERS];
-    let parsed = job::parse_record(
-        grammar,
-        record,
-        main,
-        Lending {
-            second: second.len(),
-            plain: false,
-        },
-        &mut table,
-        &mut text,
-        &mut parse,
-    );
-    outcome::give_xml(parsed, &table, &text, &parse, result)
+    uncut::convert(grammar, record, main, second.len(), result)
 }
 
 // Judges a list of numbers, whoever made it: the XML of the derivation that it names. The scratch takes two numbers for each entry; what it
@@ -181,7 +136,7 @@ pub extern "C" fn ixml_start(
     ensures { λ r. ⌜ StartedAs (job (now (grammar .entry)) (now («record» .entry)) (length (now (main .entry))) (length (now (second .entry)))) (now (main .entry)) r
         (now (main .exit)) (now (state .exit)) ⌝ }
 {
-    resume::start(grammar, record, main, second.len(), state)
+    stepping::start(grammar, record, main, second.len(), state)
 }
 
 // Does one round of a read.
@@ -196,7 +151,7 @@ pub extern "C" fn ixml_round(
     ensures { λ r. ⌜ RoundedAs (job (now (grammar .entry)) (now («record» .entry)) (length (now (main .entry))) (length (now (second .entry)))) (now (main .entry)) (now (state .entry)) r
         (now (main .exit)) (now (state .exit)) ⌝ }
 {
-    resume::round(grammar, record, main, second.len(), state)
+    stepping::round(grammar, record, main, second.len(), state)
 }
 
 // Ends a read in rounds as a reading.

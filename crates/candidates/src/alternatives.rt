@@ -9,6 +9,8 @@ use crate::Alternative;
 use crate::splits::AFTER_ALTERNATIVE;
 use crate::splits::alternative_height;
 use crate::splits::number_at;
+use chart::CODE_COLUMNS;
+use chart::CODE_GOES;
 use chart::NONE;
 use sparse::Stretch;
 
@@ -18,7 +20,7 @@ fn alternative_end(code: &[u32], q: usize) -> usize
     ensures { λ r. ⌜ Ends (now (code .entry)) q r ⌝ }
 {
     let mut p = q;
-    while number_at(code, 4 * p) != AFTER_ALTERNATIVE {
+    while number_at(code, CODE_COLUMNS * p) != AFTER_ALTERNATIVE {
         p += 1;
     }
     p
@@ -30,7 +32,7 @@ fn next_alternative(code: &[u32], q: usize) -> usize
     ensures { λ r. ⌜ ((e : ℕ) → Ends (now (code .entry)) q e → r ≡ goesAt (now (code .entry)) e) ⌝ }
 {
     let e = alternative_end(code, q);
-    number_at(code, 4 * e + 1)
+    number_at(code, CODE_COLUMNS * e + CODE_GOES)
 }
 
 // The earliest alternative of height at most k.

@@ -8,6 +8,9 @@ ghost use Rattle.text.specs.Limits.{recordChars};
 ghost use Rattle.chart.specs.Heights.{cellAt};
 ghost use Rattle.sparse.specs.Cells.{Shape};
 ghost use Rattle.candidates.specs.Candidates.{Ready, Position, restRow, Barren, splitAt, leastOf, pastOf, valueAt};
+use chart::CODE_COLUMNS;
+use chart::CODE_GOES;
+use chart::CODE_RULE;
 use chart::NONE;
 use chart::cell;
 use sparse::Stretch;
@@ -49,7 +52,7 @@ pub fn split(
     let n = s.n;
     let i = s.i;
     let j = s.j;
-    let rule = number_at(code, 4 * p + 2);
+    let rule = number_at(code, CODE_COLUMNS * p + CODE_RULE);
     let a = rule_height(marks, notes, main, rule, Stretch { size, n, i, j: m });
     if a == NONE {
         return NONE;
@@ -82,7 +85,12 @@ pub fn rest_cells(code: &[u32], p: usize, s: Stretch) -> usize
 {
     let q = p + 1;
     if is_last(code, s.size, q) {
-        return cell(s.n.0, number_at(code, 4 * q + 2), 0, s.j.0);
+        return cell(
+            s.n.0,
+            number_at(code, CODE_COLUMNS * q + CODE_RULE),
+            0,
+            s.j.0,
+        );
     }
     cell(s.n.0, q, 0, s.j.0)
 }
@@ -92,7 +100,7 @@ pub fn first_end(code: &[u32], p: usize, s: Stretch) -> CharPlace
     requires { ⌜ 4 * (p + 1) < length (now code) ⌝ }
     ensures { λ r. ⌜ (r .0 ≡ s .i .0) ⊎ ((r .0 ≡ s .j .0) × (nextKind (now (code .entry)) (p + 1) ≡ 0)) ⌝ }
 {
-    if number_at(code, 4 * (p + 1)) == AFTER_ALTERNATIVE {
+    if number_at(code, CODE_COLUMNS * (p + 1)) == AFTER_ALTERNATIVE {
         return s.j;
     }
     s.i
@@ -145,7 +153,7 @@ fn past_terminal(
     if !fits(marks, p, s.i) {
         return NONE;
     }
-    let i = CharPlace(s.i.0 + number_at(code, 4 * p + 1));
+    let i = CharPlace(s.i.0 + number_at(code, CODE_COLUMNS * p + CODE_GOES));
     if s.j.0 < i.0 {
         return NONE;
     }
@@ -167,7 +175,7 @@ pub fn alternative_height(
     requires { ⌜ Ready (now code) (now marks) (now notes) (now main) (s .size) (s .n .0) (s .i .0) (s .j .0) × Position (now code) (s .size) p ⌝ }
     ensures { λ r. ⌜ r ≡ valueAt (now (code .entry)) (now (marks .entry)) (now (notes .entry)) (s .n .0) (now (main .entry)) p (s .i .0) (s .j .0) ⌝ }
 {
-    let kind = number_at(code, 4 * p);
+    let kind = number_at(code, CODE_COLUMNS * p);
     if kind == AFTER_ALTERNATIVE {
         if s.i.0 == s.j.0 {
             return 0;

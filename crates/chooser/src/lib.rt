@@ -7,7 +7,7 @@ use reading::Root;
 use reading::Walked;
 
 // The stack of the walk: three numbers for each of a reading's. It takes 49,152 bytes.
-const STACK_LENGTH: usize = 3 * text::limits::READING_NUMBERS;
+const STACK_LENGTH: usize = reading::STACK_COLUMNS * text::limits::READING_NUMBERS;
 
 pub fn walk(
     code: &[u32],

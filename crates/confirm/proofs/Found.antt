@@ -1,20 +1,20 @@
--- The place that is confirmed is that of the fault.
-use mathlib.Core.Bool.{Bool, true, false}
+-- The place that is found is that of the fault: what stands by the grammar stands by the code.
+use mathlib.Core.Bool.{false}
 use mathlib.Core.List.{List, [], _∷_}
-use mathlib.Core.Logic.{_⊎_, inl, inr, ⊎-elim}
+use mathlib.Core.Logic.{_⊎_, inl, inr}
 use mathlib.Core.Path.{_≡_, refl, sym, ap, subst, _∙_}
-use Prim.Native.Nat.{ℕ, suc, _+_, _*_, _<_, _≤_}
+use Prim.Native.Nat.{ℕ, _+_, _<_, _≤_}
 use native.Mathlib.Omega.{arith}
 use lib.Dec.{T}
 use lib.ListN.{length, getD, drop}
 use Rattle.text.specs.Lists.{Text, all}
 use Rattle.text.specs.Utf8.{known}
 use Rattle.tree.specs.Tree.{Terminal, Symbol, terminal, Grammar}
-use Rattle.plain.specs.Plain.{alts, fits, width}
-use Rattle.derive.specs.Derive.{Row, end, leaf, node, Derives, d-end, d-leaf, d-node, alternative, root}
-use Rattle.derive.specs.Productive.{Produces}
+use Rattle.plain.specs.Plain.{alts, width}
+use Rattle.derive.specs.Derive.{Row, end, Derives, d-end, d-leaf, d-node, alternative, root}
 use Rattle.derive.specs.Yield.{productive, unproductive}
-use Rattle.derive.proofs.Symbols.{alternative-of, root-inside}
+use Rattle.derive.proofs.Symbols.{Inside, alternative-of, root-inside}
+use Rattle.derive.proofs.Rows.{forward}
 use Rattle.derive.proofs.Productive.{derived-productive}
 use Rattle.viable.specs.Fault.{FaultAt}
 use Rattle.viable.specs.Stands.{begun, Stands, at-root, into, Farthest}
@@ -24,19 +24,19 @@ use Rattle.viable.proofs.Fault.{root-produces, farthest-fault}
 use Rattle.chart.specs.Code.{nextKind, goesAt, ruleAt, ownerAt, afterDot, headOf, On, at-end, at-terminal, at-symbol, Ruled}
 use Rattle.heights.proofs.Part.{find}
 use Rattle.rules.specs.Ready.{Token}
-use Rattle.left_pass.proofs.Shifts.{fits-within}
-use Rattle.reach.specs.Flags.{Reached, Fits, Begins, homeOf, LeftClosed, FitsOnly}
-use Rattle.reach.proofs.Closed.{home-first, steps-over}
+use Rattle.reach.specs.Flags.{Reached, Begins, LeftClosed, FitsOnly}
+use Rattle.reach.proofs.Closed.{steps-over}
 use Rattle.sparse.specs.Cells.{Shape}
 use Rattle.fault.specs.Firsts.{Tokened, Firsts}
 use Rattle.fault.specs.Far.{Begun, Ranging}
 use Rattle.fault.proofs.Ranges.{one-begun}
 use Rattle.fault.proofs.Alike.{begun-same}
-use Rattle.fault.proofs.Model.{first-alive}
-use Rattle.ends.specs.Spans.{OnList, Steps, here, by-terminal, by-symbol, Spans, Flows}
-use Rattle.ends.proofs.Reach.{list-inside, arrived}
-use Rattle.confirm.specs.Stood.{Stood, at-first, entering, past-terminal, past-symbol}
-use Rattle.confirm.specs.Find.{Touch, Bound, Confirmed}
+use Rattle.fault.proofs.Model.{alive-first}
+use Rattle.ends.specs.Spans.{OnList, Steps, here, by-terminal, by-symbol, Flows}
+use Rattle.ends.proofs.Reach.{Arrived, arrived}
+use Rattle.confirm.proofs.Standing.{flows-of, standing}
+use Rattle.standing.specs.Stood.{Stood, at-first, entering, past-terminal, past-symbol}
+use Rattle.confirm.specs.Find.{Touch, Confirmed}
 
 module _ {Tb c M : List ℕ} {R : Text} {size top first : ℕ} {g : Grammar} (k : Ruled (Token Tb) c g size top first) (shape : Shape c size) (left : LeftClosed (Token Tb) c R size top M)
     (only : FitsOnly (Token Tb) c R size M) where
@@ -46,164 +46,9 @@ module _ {Tb c M : List ℕ} {R : Text} {size top first : ℕ} {g : Grammar} (k 
   abbrev dots : List (List Symbol)
   dots = k .dots
 
-  -- what the flags are closed under, by lists of first dots
-  pub flows-of : (L : List ℕ) → Firsts Tb c size L → Flows c L M size n
-  flows-of L f = record {
-    begin = left .begin;
-    first = λ q e i h l o b. left .first q e i (list-inside (f .linked) h q o) l (f .only q e h o .owner) b;
-    home = λ q e h o. home-first c q e (f .only q e h o .owner);
-    shift = λ p i h l z u y. shift p i h l z u y (k .stands p h);
-    end = left .end;
-    over = left .over;
-  }
-    where
-      shift : (p i : ℕ) → p < size → i ≤ n → nextKind c p ≡ 1 → Reached M p i → Fits M p i → On (Token Tb) c g dots (k .heads) p → Reached M (p + 1) (i + goesAt c p)
-      shift p i h l z u y (at-end q e) = absurd (omega (arith, q, z))
-      shift p i h l z u y (at-terminal x q b e w a) = left .fit p i x h l z u a (only p i x h l z y a) .1
-      shift p i h l z u y (at-symbol s q b e m w d) = absurd (omega (arith, q, z))
-
-  module _ (prod : unproductive g ≡ false) {L : List ℕ} (f : Firsts Tb c size L) where
+  module _ (prod : unproductive g ≡ false) (held : T (all known R)) {L : List ℕ} (f : Firsts Tb c size L) where
     flows : Flows c L M size n
-    flows = flows-of L f
-
-    record Led (q x p j : ℕ) : Type 0 where
-      on : (d : Row) (m : ℕ) → Derives g R d (afterDot dots p) j m → (t : Row) × Derives g R t (afterDot dots q) x m
-
-    -- the alternative that begins at q, over a symbol with the same alternatives
-    record Alternative (q : ℕ) (u : Symbol) : Type 0 where
-      number : ℕ
-      exists : number < length (alts g u)
-      is : afterDot dots q ≡ alternative g u number
-      alive : T (all (productive g) (alternative g u number))
-
-    alternative-at : (q e : ℕ) (u : Symbol) → e < size → OnList L e q → alts g (headOf g (k .heads) e) ≡ alts g u → Alternative q u
-    alternative-at q e u h b d =
-        let w = first-alive k shape prod f q e h b in
-        let o = k .owned q e (w .0) (w .1) in
-        let is : afterDot dots q ≡ alternative g u (o .number) = o .is ∙ ap (λ (ts : List (List Symbol)). getD ts (o .number) []) d in
-        record {
-          number = o .number;
-          exists = subst (λ (ts : List (List Symbol)). o .number < length ts) d (o .exists);
-          is = is;
-          alive = subst (λ (ss : List Symbol). T (all (productive g) ss)) is (w .2);
-        }
-
-    record Node (u : Symbol) (i m : ℕ) : Type 0 where
-      number : ℕ
-      exists : number < length (alts g u)
-      row : Row
-      derives : Derives g R row (alternative g u number) i m
-
-    ended : (q e last j m : ℕ) (u : Symbol) → e < size → OnList L e q → alts g (headOf g (k .heads) e) ≡ alts g u → last < size → nextKind c last ≡ 0 → Led q j last m → Node u j m
-    ended q e last j m u h o d b z w = go (k .stands last b)
-      where
-        go : On (Token Tb) c g dots (k .heads) last → Node u j m
-        go (at-end y is) =
-            let a = alternative-at q e u h o d in
-            let r = w .on end m (subst (λ (ss : List Symbol). Derives g R end ss m m) (sym is) d-end) in
-            record { number = a .number; exists = a .exists; row = r .0; derives = subst (λ (ss : List Symbol). Derives g R (r .0) ss j m) (a .is) (r .1) }
-        go (at-terminal x y l is v a) = absurd (omega (arith, y, z))
-        go (at-symbol s y l is v r a) = absurd (omega (arith, y, z))
-
-    over-terminal : (q x p j : ℕ) → p < size → j ≤ n → nextKind c p ≡ 1 → Fits M p j → Led q x p j → Led q x (p + 1) (j + goesAt c p)
-    over-terminal q x p j h l z y w = go (k .stands p h)
-      where
-        go : On (Token Tb) c g dots (k .heads) p → Led q x (p + 1) (j + goesAt c p)
-        go (at-end v e) = absurd (omega (arith, v, z))
-        go (at-symbol s v b e m r d) = absurd (omega (arith, v, z))
-        go (at-terminal u v b e r a) = record {
-          on = λ d m t. w .on (leaf (j + width u) d) m
-              (subst (λ (ss : List Symbol). Derives g R (leaf (j + width u) d) ss j m) (sym e)
-              (d-leaf (only p j u h l z y a) (subst (λ (i : ℕ). Derives g R d (afterDot dots (p + 1)) (j + i) m) r t)));
-        }
-
-    over-symbol : (q x p j m : ℕ) → p < size → nextKind c p ≡ 2 → ((u : Symbol) → alts g (headOf g (k .heads) (ruleAt c p)) ≡ alts g u → Node u j m) → Led q x p j → Led q x (p + 1) m
-    over-symbol q x p j m h z y w = go (k .stands p h)
-      where
-        go : On (Token Tb) c g dots (k .heads) p → Led q x (p + 1) m
-        go (at-end v e) = absurd (omega (arith, v, z))
-        go (at-terminal u v b e r a) = absurd (omega (arith, v, z))
-        go (at-symbol s v b e t r a) = record {
-          on = λ d i u. (let t = y s a in let row = node (t .number) m (t .row) d in w .on row i
-              (subst (λ (ss : List Symbol). Derives g R row ss j i) (sym e) (d-node (t .exists) (t .derives) u)));
-        }
-
-    -- steps are derivations
-    led : {q x p j : ℕ} (e : ℕ) → e < size → x ≤ n → OnList L e q → Begins M e x → Steps c L M n q x p j → Led q x p j
-    led e h l o b here = record { on = λ d m t. (d, t) }
-    led {q} {x} e h l o b (by-terminal {p = p} {j = j} s z y v) =
-        let a = arrived shape (f .linked) flows e h l o b s in
-        over-terminal q x p j (a .inside) (a .on) z y (led e h l o b s)
-    led {q} {x} e h l o b (by-symbol {p = p} {j = j} {f = q'} {l = last} {m = m} s z r t y) =
-        let a = arrived shape (f .linked) flows e h l o b s in
-        let e' = shape .names p (a .inside) z .0 in
-        let b' = flows .begin p j (a .inside) (a .on) z (a .used) in
-        let i = arrived shape (f .linked) flows (ruleAt c p) e' (a .on) r b' t in
-        let w = led (ruleAt c p) e' (a .on) r b' t in
-        over-symbol q x p j m (a .inside) z (λ u d. ended q' (ruleAt c p) last j m u e' r d (i .inside) y w) (led e h l o b s)
-
-    spans-node : (e x j : ℕ) (u : Symbol) → e < size → x ≤ n → Begins M e x → alts g (headOf g (k .heads) e) ≡ alts g u → Spans c L M n e x j → Node u x j
-    spans-node e x j u h l b d s =
-        let i = arrived shape (f .linked) flows e h l (s .listed) b (s .steps) in
-        ended (s .first) e (s .last) x j u h (s .listed) d (i .inside) (s .end) (led e h l (s .listed) b (s .steps))
-
-    -- what stands by the code stands by the grammar
-    record Standing (p i : ℕ) : Type 0 where
-      inside : p < size
-      on : i ≤ n
-      used : Reached M p i
-      stands : Stands g R (afterDot dots p) i
-
-    entered : (q e i : ℕ) (u : Symbol) → e < size → i ≤ n → OnList L e q → alts g (headOf g (k .heads) e) ≡ alts g u → Begins M e i
-        → ((a : ℕ) → a < length (alts g u) → T (all (productive g) (alternative g u a)) → Stands g R (alternative g u a) i) → Standing q i
-    entered q e i u h l o d b go =
-        let a = alternative-at q e u h o d in
-        record {
-          inside = list-inside (f .linked) h q o;
-          on = l;
-          used = flows .first q e i h l o b;
-          stands = subst (λ (ss : List Symbol). Stands g R ss i) (sym (a .is)) (go (a .number) (a .exists) (a .alive));
-        }
-
-    standing : {p i : ℕ} → Stood c L M n top p i → Standing p i
-    standing (at-first {q} o) = entered q top 0 (root g) (k .root-inside) (omega arith) o (k .root-head) (left .root) (λ a l v. at-root l v)
-    standing (entering {p} {i} {q} v z b) = go (standing v) (k .stands p (standing v .inside))
-      where
-        go : Standing p i → On (Token Tb) c g dots (k .heads) p → Standing q i
-        go o (at-end y e) = absurd (omega (arith, y, z))
-        go o (at-terminal x y l e w a) = absurd (omega (arith, y, z))
-        go o (at-symbol u y l e m r d) = entered q (ruleAt c p) i u (shape .names p (o .inside) z .0) (o .on) b d (left .begin p i (o .inside) (o .on) z (o .used))
-            (λ a x t. into (subst (λ (ss : List Symbol). Stands g R ss i) e (o .stands)) x t)
-    standing (past-terminal {p} {i} v z y b) = go (standing v) (k .stands p (standing v .inside))
-      where
-        go : Standing p i → On (Token Tb) c g dots (k .heads) p → Standing (p + 1) (i + goesAt c p)
-        go o (at-end q e) = absurd (omega (arith, q, z))
-        go o (at-symbol u q l e m r d) = absurd (omega (arith, q, z))
-        go o (at-terminal x q l e w a) =
-            let fit = only p i x (o .inside) (o .on) z y a in
-            let far = fits-within x R i (o .on) fit in
-            record {
-              inside = omega (arith, l, k .count);
-              on = b;
-              used = flows .shift p i (o .inside) (o .on) z (o .used) y;
-              stands = subst (λ (j : ℕ). Stands g R (afterDot dots (p + 1)) (i + j)) (sym w) (sees.past-terminal (subst (λ (ss : List Symbol). Stands g R ss i) e (o .stands)) fit far);
-            }
-    standing (past-symbol {p} {i} {m} v z w) = go (standing v) (k .stands p (standing v .inside))
-      where
-        go : Standing p i → On (Token Tb) c g dots (k .heads) p → Standing (p + 1) m
-        go o (at-end q e) = absurd (omega (arith, q, z))
-        go o (at-terminal x q l e y a) = absurd (omega (arith, q, z))
-        go o (at-symbol u q l e t r d) =
-            let h = shape .names p (o .inside) z .0 in
-            let b = left .begin p i (o .inside) (o .on) z (o .used) in
-            let at = spans-node (ruleAt c p) i m u h (o .on) b d w in
-            let far = arrived shape (f .linked) flows (ruleAt c p) h (o .on) (w .listed) b (w .steps) .on in
-            record {
-              inside = omega (arith, l, k .count);
-              on = far;
-              used = steps-over k left (o .inside) e (at .exists) (at .derives) far (o .used) .1;
-              stands = sees.past-symbol (subst (λ (ss : List Symbol). Stands g R ss i) e (o .stands)) (at .exists) (at .derives) far;
-            }
+    flows = flows-of k shape left only L f
 
     -- a dot before a symbol with alternatives; before a terminal
     record Named (p : ℕ) (u : Symbol) (ss : List Symbol) : Type 0 where
@@ -235,40 +80,141 @@ module _ {Tb c M : List ℕ} {R : Text} {size top first : ℕ} {g : Grammar} (k 
         go (at-terminal y z b e w a) = let q : y ≡ x = cc in record { kind = z; next = omega (arith, k .count); rest = cc; goes = w ∙ ap width q; token = subst (Token Tb p) q a }
         go (at-symbol v z b e m r d) = absurd (m x cc)
 
-    -- what stands is flagged
+    -- the first dot of an alternative that can be finished, of the symbol after a dot
+    record Entry (p : ℕ) (u : Symbol) (a : ℕ) : Type 0 where
+      dot : ℕ
+      inside : dot < size
+      owner : ownerAt c dot ≡ ruleAt c p + 1
+      listed : OnList L (ruleAt c p) dot
+      is : afterDot dots dot ≡ alternative g u a
+
+    entry : (p a : ℕ) {u : Symbol} {ss : List Symbol} → p < size → Named p u ss → a < length (alts g u) → T (all (productive g) (alternative g u a)) → Entry p u a
+    entry p a {u} h w l t =
+        let e = find (k .chains p h (w .kind)) a (rw (w .same) l) in
+        let i : e .place < size = omega (arith, e .inside, k .count) in
+        let is : afterDot dots (e .place) ≡ alternative g u a = e .is ∙ ap (λ (ts : List (List Symbol)). getD ts a []) (w .same) in
+        record {
+          dot = e .place;
+          inside = i;
+          owner = e .owned;
+          listed = alive-first k shape prod f (e .place) (ruleAt c p) i (e .owned) (subst (λ (ss : List Symbol). T (all (productive g) ss)) (sym is) t);
+          is = is;
+        }
+
+    -- derivations are steps
+    record Ended (q x m : ℕ) : Type 0 where
+      last : ℕ
+      steps : Steps c L M n q x last m
+      end : nextKind c last ≡ 0
+
+    record From (e q x : ℕ) : Type 0 where
+      inside : e < size
+      on : x ≤ n
+      listed : OnList L e q
+      begins : Begins M e x
+
+    arrives : (e q x p j : ℕ) → From e q x → Steps c L M n q x p j → Arrived c M size n e x p j
+    arrives e q x p j w s = arrived shape (f .linked) flows e (w .inside) (w .on) (w .listed) (w .begins) s
+
+    at-its-end : (p : ℕ) → afterDot dots p ≡ [] → On (Token Tb) c g dots (k .heads) p → nextKind c p ≡ 0
+    at-its-end p is (at-end z e) = z
+    at-its-end p is (at-terminal x z b e w a) = absurd (let q : _≡_ {A = ℕ} 1 0 = cc in omega arith)
+    at-its-end p is (at-symbol u z b e m r d) = absurd (let q : _≡_ {A = ℕ} 1 0 = cc in omega arith)
+
+    run : {t : Row} {ss : List Symbol} {j m : ℕ} → Derives g R t ss j m → Inside g ss → (e q x p : ℕ) → From e q x → afterDot dots p ≡ ss → m ≤ n → Steps c L M n q x p j → Ended q x m
+    run {j = j} d-end i e q x p w is b s =
+        record { last = p; steps = s; end = at-its-end p is (k .stands p (arrives e q x p j w s .inside)) }
+    run (d-leaf {x = y} {i = j} fit d) i e q x p w is b s =
+        let a = arrives e q x p j w s in
+        let v = before-terminal (a .inside) is in
+        let z = left .fit p j y (a .inside) (a .on) (v .kind) (a .used) (v .token) fit in
+        run d (i .1) e q x (p + 1) w (v .rest) b (subst (λ (h : ℕ). Steps c L M n q x (p + 1) (j + h)) (v .goes)
+        (by-terminal s (v .kind) (z .0) (omega (arith, forward g R d, v .goes, b))))
+    run (d-node {s = u} {a = a} {i = j} {m = o} l d₁ d₂) i e q x p w is b s =
+        let at = arrives e q x p j w s in
+        let v = before-symbol (at .inside) is l in
+        let inner = alternative-of g (i .0) a in
+        let y = entry p a (at .inside) v l (derived-productive g held inner d₁) in
+        let from : From (ruleAt c p) (y .dot) j = record {
+          inside = shape .names p (at .inside) (v .kind) .0;
+          on = at .on;
+          listed = y .listed;
+          begins = left .begin p j (at .inside) (at .on) (v .kind) (at .used);
+        } in
+        let r = run d₁ inner (ruleAt c p) (y .dot) j (y .dot) from (y .is) (omega (arith, forward g R d₂, b)) here in
+        run d₂ (i .1) e q x (p + 1) w (v .rest) b (by-symbol s (v .kind) (y .listed) (r .steps) (r .end))
+
+    -- what stands by the grammar stands by the code
     record AtDot (ss : List Symbol) (i : ℕ) : Type 0 where
       dot : ℕ
       inside : dot < size
       on : i ≤ n
       is : afterDot dots dot ≡ ss
       used : Reached M dot i
+      stood : Stood c L M n top dot i
+      within : Inside g ss
 
-    flagged : {ss : List Symbol} {i : ℕ} → Stands g R ss i → AtDot ss i
-    flagged (at-root {a} l t) =
+    found : {ss : List Symbol} {i : ℕ} → Stands g R ss i → AtDot ss i
+    found (at-root {a} l t) =
         let w = find (k .root-chain) a l in
         let h : w .place < size = omega (arith, w .inside, k .count) in
-        record { dot = w .place; inside = h; on = omega arith; is = w .is; used = left .first (w .place) top 0 h (omega arith) (w .owned) (left .root) }
-    flagged (sees.past-terminal {x} {ss} {i} z fit far) =
-        let o = flagged z in
+        let o = alive-first k shape prod f (w .place) top h (w .owned) (subst (λ (ss : List Symbol). T (all (productive g) ss)) (sym (w .is)) t) in
+        record {
+          dot = w .place;
+          inside = h;
+          on = omega arith;
+          is = w .is;
+          used = left .first (w .place) top 0 h (omega arith) (w .owned) (left .root);
+          stood = at-first o;
+          within = alternative-of g (root-inside g .0) a;
+        }
+    found (sees.past-terminal {x} {ss} {i} z fit far) =
+        let o = found z in
         let w = before-terminal (o .inside) (o .is) in
         let y = left .fit (o .dot) i x (o .inside) (o .on) (w .kind) (o .used) (w .token) fit in
-        record { dot = o .dot + 1; inside = w .next; on = far; is = w .rest; used = subst (λ (b : ℕ). Reached M (o .dot + 1) (i + b)) (w .goes) (y .1) }
-    flagged (into {s = u} {a = a} {i = i} z l t) =
-        let o = flagged z in
-        let w = before-symbol (o .inside) (o .is) l in
-        let e = find (k .chains (o .dot) (o .inside) (w .kind)) a (rw (w .same) l) in
-        let h : e .place < size = omega (arith, e .inside, k .count) in
         record {
-          dot = e .place;
-          inside = h;
-          on = o .on;
-          is = e .is ∙ ap (λ (ts : List (List Symbol)). getD ts a []) (w .same);
-          used = left .first (e .place) (ruleAt c (o .dot)) i h (o .on) (e .owned) (left .begin (o .dot) i (o .inside) (o .on) (w .kind) (o .used));
+          dot = o .dot + 1;
+          inside = w .next;
+          on = far;
+          is = w .rest;
+          used = subst (λ (b : ℕ). Reached M (o .dot + 1) (i + b)) (w .goes) (y .1);
+          stood = subst (λ (b : ℕ). Stood c L M n top (o .dot + 1) (i + b)) (w .goes) (past-terminal (o .stood) (w .kind) (y .0) (omega (arith, far, w .goes)));
+          within = o .within .1;
         }
-    flagged (sees.past-symbol {a = a} {m = m} z l d b) =
-        let o = flagged z in
+    found (into {s = u} {a = a} {i = i} z l t) =
+        let o = found z in
         let w = before-symbol (o .inside) (o .is) l in
-        record { dot = o .dot + 1; inside = w .next; on = b; is = w .rest; used = steps-over k left (o .inside) (o .is) l d b (o .used) .1 }
+        let e = entry (o .dot) a (o .inside) w l t in
+        record {
+          dot = e .dot;
+          inside = e .inside;
+          on = o .on;
+          is = e .is;
+          used = left .first (e .dot) (ruleAt c (o .dot)) i (e .inside) (o .on) (e .owner) (left .begin (o .dot) i (o .inside) (o .on) (w .kind) (o .used));
+          stood = entering (o .stood) (w .kind) (e .listed);
+          within = alternative-of g (o .within .0) a;
+        }
+    found (sees.past-symbol {a = a} {i = i} {m = m} z l d b) =
+        let o = found z in
+        let w = before-symbol (o .inside) (o .is) l in
+        let inner = alternative-of g (o .within .0) a in
+        let e = entry (o .dot) a (o .inside) w l (derived-productive g held inner d) in
+        let from : From (ruleAt c (o .dot)) (e .dot) i = record {
+          inside = shape .names (o .dot) (o .inside) (w .kind) .0;
+          on = o .on;
+          listed = e .listed;
+          begins = left .begin (o .dot) i (o .inside) (o .on) (w .kind) (o .used);
+        } in
+        let r = run d inner (ruleAt c (o .dot)) (e .dot) i (e .dot) from (e .is) b here in
+        record {
+          dot = o .dot + 1;
+          inside = w .next;
+          on = b;
+          is = w .rest;
+          used = steps-over k left (o .inside) (o .is) l d b (o .used) .1;
+          stood = past-symbol (o .stood) (w .kind) (record { first = e .dot; last = r .last; listed = e .listed; steps = r .steps; end = r .end });
+          within = o .within .1;
+        }
 
     -- as many characters of the terminal after a dot are begun as the code counts
     begun-at : (p i : ℕ) → p < size → Begun Tb c R p i (begun (afterDot dots p) (drop i R))
@@ -290,17 +236,17 @@ module _ {Tb c M : List ℕ} {R : Text} {size top first : ℕ} {g : Grammar} (k 
     root-there : {t : Row} {w : Text} {j : ℕ} → T (all known w) → Derives g w t (root g ∷ []) 0 j → (ss : List Symbol) × Stands g R ss 0
     root-there v (d-node {a = a} l d d-end) = (alternative g (root g) a, at-root l (derived-productive g v (alternative-of g (root-inside g .0) a) d))
 
-    module _ (tokened : Tokened Tb c size) (short : length R ≤ 200) {r : ℕ} (bound : Bound Tb c R M size (n + 1) r) where
+    module _ (tokened : Tokened Tb c size) (short : length R ≤ 200) {r : ℕ} (bound : (p i k : ℕ) → p < size → i ≤ n → Stood c L M n top p i → Touch Tb c R p i k → k ≤ r) where
       most : {ss : List Symbol} {i : ℕ} → Stands g R ss i → i + begun ss (drop i R) ≤ r
       most {ss} {i} z =
-          let o = flagged z in
+          let o = found z in
           let e : begun (afterDot dots (o .dot)) (drop i R) ≡ begun ss (drop i R) = ap (λ (ts : List Symbol). begun ts (drop i R)) (o .is) in
-          bound .most (o .dot) i (i + begun ss (drop i R)) (o .inside) (omega (arith, o .on)) (o .used)
+          bound (o .dot) i (i + begun ss (drop i R)) (o .inside) (o .on) (o .stood)
           (record { count = begun ss (drop i R); begun = subst (Begun Tb c R (o .dot) i) e (begun-at (o .dot) i (o .inside)); is = refl })
 
       reached : (p i : ℕ) → p < size → i ≤ n → Stood c L M n top p i → Touch Tb c R p i r → Farthest g R r
       reached p i h l s t =
-          let v = standing s in
+          let v = standing k shape left only prod f s in
           let ranging : Ranging Tb c R size i = record { tokened = tokened; short = short; on = l } in
           let e = one-begun ranging h (t .begun) (begun-at p i h) in
           record { symbols = afterDot dots p; place = i; stands = v .stands; is = omega (arith, t .is, e); most = most }
@@ -313,4 +259,4 @@ module _ {Tb c M : List ℕ} {R : Text} {size top first : ℕ} {g : Grammar} (k 
       farthest (inr z) = reached (z .0) (z .1) (z .2) (z .3) (z .4) (z .5)
 
   pub confirmed-fault : {r : ℕ} → Tokened Tb c size → length R ≤ 200 → unproductive g ≡ false → T (all known R) → Confirmed Tb R c M size top r → FaultAt g R r
-  confirmed-fault t short prod held w = farthest-fault g R held (farthest prod (w .listed) t short (w .most) (w .is))
+  confirmed-fault t short prod held w = farthest-fault g R held (farthest prod held (w .listed) t short (w .most) (w .is))

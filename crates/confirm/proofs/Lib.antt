@@ -1,4 +1,3 @@
-pub mod Rows
-pub mod Laws
 pub mod Reaches
+pub mod Standing
 pub mod Found

@@ -4,16 +4,16 @@ use mathlib.Core.List.{List}
 use mathlib.Core.Logic.{_⊎_}
 use mathlib.Core.Path.{_≡_}
 use Prim.Native.Nat.{ℕ, _+_, _*_, _<_, _≤_}
-use lib.ListN.{length, getD}
+use lib.ListN.{length}
 use Rattle.text.specs.Lists.{Text}
 use Rattle.chart.specs.Heights.{stretches}
-use Rattle.reach.specs.Flags.{Reached, Begins}
+use Rattle.reach.specs.Flags.{Begins}
 use Rattle.fault.specs.Firsts.{Tokened, Firsts}
-use Rattle.fault.specs.Far.{Begun, Ranging}
+use Rattle.fault.specs.Far.{Begun}
 use Rattle.bits.specs.Bits.{Lit}
 use Rattle.ends.specs.Spans.{Flows}
-use Rattle.confirm.specs.Stood.{Stood}
-use Rattle.confirm.specs.Sets.{Member}
+use Rattle.standing.specs.Stood.{Stood}
+use Rattle.standing.specs.Sets.{Member}
 
 -- the terminal after the dot p, begun at i, reaches k
 pub record Touch (Tb c : List ℕ) (R : Text) (p i k : ℕ) : Type 0 where
@@ -30,24 +30,19 @@ pub record Hit (Tb c : List ℕ) (R : Text) (size : ℕ) (S : List ℕ) (k : ℕ
   pub member : Member S dot place
   pub touch : Touch Tb c R dot place k
 
--- r is `best`, or what is hit
-pub record Best (Tb c : List ℕ) (R : Text) (size : ℕ) (S : List ℕ) (best r : ℕ) : Type 0 where
+-- r is the farthest of `best` and what the places of the sets reach that are in P
+pub record Best (Tb c : List ℕ) (R : Text) (size : ℕ) (S : List ℕ) (P : ℕ → ℕ → Type 0) (best r : ℕ) : Type 0 where
   pub within : best ≤ length R → r ≤ length R
   pub is : (r ≡ best) ⊎ Hit Tb c R size S r
+  pub low : best ≤ r
+  pub most : (p i k : ℕ) → P p i → i ≤ length R → Member S p i → Touch Tb c R p i k → k ≤ r
 
 -- what is reached at one place, if it is on
 pub record One (Tb c : List ℕ) (R : Text) (p x : ℕ) (on : Bool) (best r : ℕ) : Type 0 where
   pub within : best ≤ length R → r ≤ length R
   pub is : (r ≡ best) ⊎ ((on ≡ true) × (x ≤ length R) × Touch Tb c R p x r)
-
--- nothing that is flagged from the dots before b reaches farther at i
-pub record Bounds (Tb c : List ℕ) (R : Text) (M : List ℕ) (i a b best r : ℕ) : Type 0 where
   pub low : best ≤ r
-  pub most : (p k : ℕ) → a ≤ p → p < b → Reached M p i → Touch Tb c R p i k → k ≤ r
-
--- at the places before b
-pub record Bound (Tb c : List ℕ) (R : Text) (M : List ℕ) (size b r : ℕ) : Type 0 where
-  pub most : (p i k : ℕ) → p < size → i < b → Reached M p i → Touch Tb c R p i k → k ≤ r
+  pub most : on ≡ true → x ≤ length R → (k : ℕ) → Touch Tb c R p x k → k ≤ r
 
 pub record Confirming (Tb : List ℕ) (R : Text) (c M F : List ℕ) (size n top main : ℕ) : Type 0 where
   pub tokened : Tokened Tb c size
@@ -65,14 +60,11 @@ pub record Confirmed (Tb : List ℕ) (R : Text) (c M : List ℕ) (size top r : �
   pub firsts : List ℕ
   pub listed : Firsts Tb c size firsts
   pub is : (r ≡ 0) ⊎ ((p : ℕ) × (i : ℕ) × (p < size) × (i ≤ length R) × Stood c firsts M (length R) top p i × Touch Tb c R p i r)
-  pub most : Bound Tb c R M size (length R + 1) r
+  pub most : (p i k : ℕ) → p < size → i ≤ length R → Stood c firsts M (length R) top p i → Touch Tb c R p i k → k ≤ r
 
--- what is reached at the places of the number v of a set
-pub record Words (Tb c : List ℕ) (R : Text) (p v word best r : ℕ) : Type 0 where
+-- what is reached at the places of the number v of a set, by its bits before b
+pub record Words (Tb c : List ℕ) (R : Text) (p v word b best r : ℕ) : Type 0 where
   pub within : best ≤ length R → r ≤ length R
   pub is : (r ≡ best) ⊎ ((b : ℕ) × (b < 32) × Lit word b × (32 * v + b ≤ length R) × Touch Tb c R p (32 * v + b) r)
-
--- what bounding goes by
-pub record Bounding (Tb c : List ℕ) (R : Text) (M : List ℕ) (size i : ℕ) : Type 0 where
-  pub ranging : Ranging Tb c R size i
-  pub long : length M ≡ 308736
+  pub low : best ≤ r
+  pub most : (d k : ℕ) → d < b → Lit word d → 32 * v + d ≤ length R → Touch Tb c R p (32 * v + d) k → k ≤ r

@@ -1,3 +1,1 @@
-pub mod Stood
-pub mod Sets
 pub mod Find

@@ -7,9 +7,22 @@ ghost use Rattle.items.specs.Items.{tokenAt};
 ghost use Rattle.markup.specs.Pieces.{Pieced};
 ghost use Rattle.cursor.specs.Ahead.{SomeAhead, SomeText, SomeNode, rootAt};
 ghost use Rattle.cursor.specs.Events.{Closes, KindIn, Shown, Settled, Next, Over, Entered, Past, Inside};
+use left_parse::NOTE_COLUMNS;
+use left_parse::NOTE_ITEM;
 use left_parse::Position;
 use markup::Piece;
 use text::CharPlace;
+
+// The kinds of items.
+const TERMINAL: usize = items::TERMINAL as usize;
+
+const ELEMENT: usize = items::ELEMENT as usize;
+
+const ATTRIBUTE: usize = items::ATTRIBUTE as usize;
+
+const DELETED: usize = items::DELETED as usize;
+
+const ALTERNATIVE_END: usize = items::ALTERNATIVE_END as usize;
 
 // Where the walk stands; and, inside an attribute's value, one more than the attribute's entry (0: in no value).
 pub struct Cursor {
@@ -37,7 +50,7 @@ fn closes(table: &[u32], item: usize, value: usize, inner: usize) -> bool
     if value > 0 {
         return false;
     }
-    items::kind_at(table, item) == 2
+    items::kind_at(table, item) == ELEMENT
 }
 
 // The kind of an item; in a value all nodes are as deleted ones.
@@ -48,11 +61,11 @@ fn kind_in(table: &[u32], item: usize, value: usize) -> usize
     if value == 0 {
         return k;
     }
-    if k == 2 {
-        return 4;
+    if k == ELEMENT {
+        return DELETED;
     }
-    if k == 3 {
-        return 4;
+    if k == ATTRIBUTE {
+        return DELETED;
     }
     k
 }
@@ -67,24 +80,24 @@ fn pass(table: &[u32], parse: &[u32], scratch: &mut [u64], from: Cursor) -> Curs
         let h = c.at;
         let value = c.value;
         let k = kind_in(table, h.item, value);
-        if k == 1 {
+        if k == TERMINAL {
             let p = markup::piece_of(table, items::token_at(table, h.item), h.place);
             if p.count > 0 {
                 return c;
             }
             let n = left_parse::skip(table, h);
             c = Cursor { at: n, value };
-        } else if k == 2 {
+        } else if k == ELEMENT {
             return c;
-        } else if k == 3 {
+        } else if k == ATTRIBUTE {
             return c;
-        } else if k == 4 {
+        } else if k == DELETED {
             let n = left_parse::enter(table, parse, scratch, h);
             c = Cursor { at: n, value };
         } else if h.inner == 0 {
             return c;
         } else {
-            let item = left_parse::note_at(scratch, 2 * (h.inner - 1) + 1);
+            let item = left_parse::note_at(scratch, NOTE_COLUMNS * (h.inner - 1) + NOTE_ITEM);
             if closes(table, item, value, h.inner) {
                 return c;
             }
@@ -101,12 +114,12 @@ fn settle(table: &[u32], parse: &[u32], scratch: &mut [u64], c: Cursor) -> Curso
 {
     let h = c.at;
     let k = items::kind_at(table, h.item);
-    if k < 5 {
+    if k < ALTERNATIVE_END {
         if c.value == 0 {
-            if k == 2 {
+            if k == ELEMENT {
                 return c;
             }
-            if k == 3 {
+            if k == ATTRIBUTE {
                 return c;
             }
         }
@@ -115,7 +128,7 @@ fn settle(table: &[u32], parse: &[u32], scratch: &mut [u64], c: Cursor) -> Curso
     if h.inner == 0 {
         return c;
     }
-    let item = left_parse::note_at(scratch, 2 * (h.inner - 1) + 1);
+    let item = left_parse::note_at(scratch, NOTE_COLUMNS * (h.inner - 1) + NOTE_ITEM);
     if closes(table, item, c.value, h.inner) {
         return c;
     }
@@ -129,19 +142,19 @@ fn event_at(table: &[u32], parse: &[u32], scratch: &mut [u64], c: Cursor) -> Eve
 {
     let h = c.at;
     let k = items::kind_at(table, h.item);
-    if k == 1 {
+    if k == TERMINAL {
         return Event::Text(c);
     }
-    if k == 2 {
+    if k == ELEMENT {
         return Event::Open(items::token_at(table, h.item), c);
     }
-    if k == 3 {
+    if k == ATTRIBUTE {
         return Event::Attribute(items::token_at(table, h.item), c);
     }
     if h.inner == 0 {
         return Event::End;
     }
-    let item = left_parse::note_at(scratch, 2 * (h.inner - 1) + 1);
+    let item = left_parse::note_at(scratch, NOTE_COLUMNS * (h.inner - 1) + NOTE_ITEM);
     let n = left_parse::leave(scratch, h);
     Event::Close(item, Cursor { at: n, value: 0 })
 }
@@ -181,7 +194,7 @@ pub fn enter(table: &[u32], parse: &[u32], scratch: &mut [u64], c: Cursor) -> Cu
 {
     let h = c.at;
     let n = left_parse::enter(table, parse, scratch, h);
-    if items::kind_at(table, h.item) == 3 {
+    if items::kind_at(table, h.item) == ATTRIBUTE {
         let value = n.inner;
         return Cursor { at: n, value };
     }

@@ -1,3 +1,4 @@
-pub mod Reach
 pub mod Cells
+pub mod Reach
 pub mod Laws
+pub mod Rounds

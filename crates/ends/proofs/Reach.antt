@@ -1,16 +1,15 @@
 -- Where steps lead: the flags of the pass from the left have it.
 use mathlib.Core.List.{List}
-use mathlib.Core.Logic.{_⊎_, inl, inr, ⊎-elim}
-use mathlib.Core.Path.{_≡_, refl, sym, subst, _∙_}
+use mathlib.Core.Path.{_≡_, sym, subst, _∙_}
 use Prim.Native.Nat.{ℕ, _+_, _*_, _-_, _<_, _≤_}
 use native.Mathlib.Omega.{arith}
-use lib.ListN.{length, getD}
-use Rattle.chart.specs.Code.{nextKind, goesAt, ruleAt}
-use Rattle.reach.specs.Flags.{Fits, Reached, Begins, Ends, homeOf}
+use lib.ListN.{getD}
+use Rattle.chart.specs.Code.{ruleAt}
+use Rattle.reach.specs.Flags.{Reached, Begins, Ends, homeOf}
 use Rattle.reach.specs.Work.{Listed, l-here, l-next, Linked}
 use Rattle.reach.proofs.Closed.{home-next}
 use Rattle.sparse.specs.Cells.{Shape}
-use Rattle.ends.specs.Spans.{OnList, Steps, here, by-terminal, by-symbol, Spans, Flows}
+use Rattle.ends.specs.Spans.{OnList, Steps, here, by-terminal, by-symbol, Flows}
 
 pub list-inside : {L : List ℕ} {size e : ℕ} → Linked size L → e < size → (q : ℕ) → OnList L e q → q < size
 list-inside {L} {size} {e} w h q l = go (getD L (2 * e) 0) (w .last e h) (λ u v. v) l

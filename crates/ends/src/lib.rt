@@ -1,12 +1,12 @@
-// Where rules end that begin at a place of the record: for each rule and place a set of places, from the last place to the first. What is in
-// a set is so; that nothing is missing is not promised.
+// Where rules end that begin at a place of the record: for each rule and place a set of places, exactly, from the last place to the first. A
+// queue brings the sets of a place near to what they become, which promises nothing; rounds over all rules then close them.
 ghost use mathlib.Core.Path.{_≡_};
-ghost use Prim.Native.Nat.{ℕ, _+_, _*_, _-_, _/_, _<_, _≤_};
-ghost use lib.ListN.{length, getD};
+ghost use Prim.Native.Nat.{_+_, _*_, _-_, _/_, _<_, _≤_};
+ghost use lib.ListN.{length};
 ghost use Rattle.chart.specs.Heights.{stretches};
 ghost use Rattle.reach.specs.Flags.{Begins};
 ghost use Rattle.moves.specs.Moves.{Row};
-ghost use Rattle.ends.specs.Table.{Finished, Cleared, Trying, Tried, Ground, Settling, Settled, Opening, Opened, Filled};
+ghost use Rattle.ends.specs.Table.{Finished, Cleared, Trying, Tried, Ground, Settling, Settled, Redone, Rounded, Closing, Opening, Opened, Filled};
 use chart::AT_END;
 use chart::CODE_COLUMNS;
 
@@ -31,7 +31,7 @@ pub struct Start {
 // The rule's ends take in the set; whether they grew.
 fn finish(main: &mut [u32], s: Start, cur: &[u32; 8]) -> bool
     requires { ⌜ Row (s .n) (s .rule) (length (now main)) × (s .m ≤ s .n) ⌝ }
-    ensures { λ _. ⌜ Finished (s .n) (now (main .entry)) (now (main .exit)) (s .rule) (s .m) (now (cur .entry)) ⌝ }
+    ensures { λ r. ⌜ Finished (s .n) (now (main .entry)) (now (main .exit)) (s .rule) (s .m) (now (cur .entry)) r ⌝ }
 {
     let n = s.n;
     let m = s.m;
@@ -53,7 +53,7 @@ fn finish(main: &mut [u32], s: Start, cur: &[u32; 8]) -> bool
 // The ends by the alternative that begins at the dot q.
 fn alternative(code: &[u32], marks: &[u8], main: &mut [u32], s: Start, q: usize) -> bool
     requires { ⌜ Trying (now code) (now marks) (s .size) (s .n) (s .m) (s .rule) q (now main) ⌝ }
-    ensures { λ _. ⌜ Tried (now (code .entry)) (now (marks .entry)) (s .size) (s .n) (s .m) (s .rule) q (now (main .entry)) (now (main .exit)) ⌝ }
+    ensures { λ r. ⌜ Tried (now (code .entry)) (now (marks .entry)) (s .size) (s .n) (s .m) (s .rule) q (now (main .entry)) (now (main .exit)) r ⌝ }
 {
     let size = s.size;
     let n = s.n;
@@ -82,7 +82,7 @@ fn alternative(code: &[u32], marks: &[u8], main: &mut [u32], s: Start, q: usize)
 // The ends by all alternatives on the rule's list; whether they grew.
 fn derive(code: &[u32], firsts: &[u32], marks: &[u8], main: &mut [u32], s: Start) -> bool
     requires { ⌜ Settling (now code) (now firsts) (now marks) (s .size) (s .n) (s .m) (now main) × (s .rule < s .size) × Begins (now marks) (s .rule) (s .m) ⌝ }
-    ensures { λ _. ⌜ Settled (now (code .entry)) (now (firsts .entry)) (now (marks .entry)) (s .size) (s .n) (s .m) (now (main .entry)) (now (main .exit)) ⌝ }
+    ensures { λ r. ⌜ Redone (now (code .entry)) (now (firsts .entry)) (now (marks .entry)) (s .size) (s .n) (s .m) (s .rule) (now (main .entry)) (now (main .exit)) r ⌝ }
 {
     let rule = s.rule;
     let mut grew = false;
@@ -223,6 +223,43 @@ fn settle(
     }
 }
 
+// The ends of the rule once more, if it may begin at m; whether they grew.
+fn redo(code: &[u32], firsts: &[u32], marks: &[u8], main: &mut [u32], s: Start) -> bool
+    requires { ⌜ Settling (now code) (now firsts) (now marks) (s .size) (s .n) (s .m) (now main) × (s .rule < s .size) ⌝ }
+    ensures { λ r. ⌜ Redone (now (code .entry)) (now (firsts .entry)) (now (marks .entry)) (s .size) (s .n) (s .m) (s .rule) (now (main .entry)) (now (main .exit)) r ⌝ }
+{
+    if marks[reach::PLACE * s.m + (reach::BEGINS + s.rule)] == 0 {
+        return false;
+    }
+    derive(code, firsts, marks, main, s)
+}
+
+// A round over all rules; whether some ends grew.
+fn round(code: &[u32], firsts: &[u32], marks: &[u8], main: &mut [u32], s: Start) -> bool
+    requires { ⌜ Settling (now code) (now firsts) (now marks) (s .size) (s .n) (s .m) (now main) ⌝ }
+    ensures { λ r. ⌜ Rounded (now (code .entry)) (now (firsts .entry)) (now (marks .entry)) (s .size) (s .n) (s .m) (s .size) (now (main .entry)) (now (main .exit)) r ⌝ }
+{
+    let size = s.size;
+    let n = s.n;
+    let m = s.m;
+    let mut grew = false;
+    let mut rule = 0;
+    while rule < size {
+        let more = redo(code, firsts, marks, main, Start { size, n, m, rule });
+        grew = text::either(grew, more);
+        rule += 1;
+    }
+    grew
+}
+
+// Rounds until no ends grow.
+fn close(code: &[u32], firsts: &[u32], marks: &[u8], main: &mut [u32], s: Start)
+    requires { ⌜ Settling (now code) (now firsts) (now marks) (s .size) (s .n) (s .m) (now main) ⌝ }
+    ensures { λ _. ⌜ Closing (now (code .entry)) (now (firsts .entry)) (now (marks .entry)) (s .size) (s .n) (s .m) (now (main .entry)) (now (main .exit)) ⌝ }
+{
+    while round(code, firsts, marks, main, s) {}
+}
+
 fn clear_row(main: &mut [u32], s: Start)
     requires { ⌜ Row (s .n) (s .rule) (length (now main)) × (s .m ≤ s .n) ⌝ }
     ensures { λ _. ⌜ Cleared (s .n) (now (main .entry)) (now (main .exit)) (s .rule) (s .m) ⌝ }
@@ -239,32 +276,37 @@ fn clear_row(main: &mut [u32], s: Start)
     }
 }
 
-// A rule that may begin at m has an empty row there, and comes into the queue.
-fn begin_at(marks: &[u8], main: &mut [u32], queue: &mut [u32; 1026], s: Start)
+// A rule that may begin at m has an empty row there, and comes into the queue; whether it may.
+fn begin_at(marks: &[u8], main: &mut [u32], queue: &mut [u32; 1026], s: Start) -> bool
     requires { ⌜ Opening (now marks) (s .size) (s .n) (s .m) (s .rule) (length (now main)) ⌝ }
-    ensures { λ _. ⌜ Opened (now (marks .entry)) (s .size) (s .n) (s .m) (s .rule) (s .rule + 1) (now (main .entry)) (now (main .exit)) ⌝ }
+    ensures { λ r. ⌜ Opened (now (marks .entry)) (s .size) (s .n) (s .m) (s .rule) (s .rule + 1) (now (main .entry)) (now (main .exit)) r ⌝ }
 {
     let m = s.m;
     let rule = s.rule;
     if marks[reach::PLACE * m + (reach::BEGINS + rule)] == 0 {
-        return;
+        return false;
     }
     clear_row(main, s);
     push(queue, rule);
+    true
 }
 
-fn begin(marks: &[u8], main: &mut [u32], queue: &mut [u32; 1026], s: Start)
+// All rules that may begin at m; whether there is one.
+fn begin(marks: &[u8], main: &mut [u32], queue: &mut [u32; 1026], s: Start) -> bool
     requires { ⌜ (length (now marks) ≡ 308736) × (s .size ≤ 512) × (s .n ≤ 200) × (s .m ≤ s .n) × (s .size * stretches (s .n) ≤ length (now main)) ⌝ }
-    ensures { λ _. ⌜ Opened (now (marks .entry)) (s .size) (s .n) (s .m) 0 (s .size) (now (main .entry)) (now (main .exit)) ⌝ }
+    ensures { λ r. ⌜ Opened (now (marks .entry)) (s .size) (s .n) (s .m) 0 (s .size) (now (main .entry)) (now (main .exit)) r ⌝ }
 {
     let size = s.size;
     let n = s.n;
     let m = s.m;
+    let mut some = false;
     let mut rule = 0;
     while rule < size {
-        begin_at(marks, main, queue, Start { size, n, m, rule });
+        let one = begin_at(marks, main, queue, Start { size, n, m, rule });
+        some = text::either(some, one);
         rule += 1;
     }
+    some
 }
 
 // The ends of all rules, wherever they may begin.
@@ -290,7 +332,9 @@ pub fn fill(
             m,
             rule: 0,
         };
-        begin(marks, main, &mut queue, s);
-        settle(code, firsts, notes, marks, main, &mut queue, s);
+        if begin(marks, main, &mut queue, s) {
+            settle(code, firsts, notes, marks, main, &mut queue, s);
+            close(code, firsts, marks, main, s);
+        }
     }
 }

@@ -1,7 +1,6 @@
 pub mod Keys
 pub mod Alike
 pub mod Ranges
-pub mod WantLaws
 pub mod Places
 pub mod Model
 pub mod Found

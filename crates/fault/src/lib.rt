@@ -8,7 +8,6 @@ ghost use Rattle.terminals.specs.Places.{Beside};
 ghost use Rattle.viable.specs.Stands.{alike};
 ghost use Rattle.fault.specs.Firsts.{Tokened, Finishing, Tells, KeyPut, Keyed, Firsts};
 ghost use Rattle.fault.specs.Far.{Agrees, Begun, Ranging, Ranged, Reach, Placing, Placed};
-ghost use Rattle.fault.specs.Wants.{Wanting, WantedAt, WantedAll};
 use chart::AT_END;
 use chart::AT_SYMBOL;
 use chart::AT_TERMINAL;
@@ -20,10 +19,6 @@ use stands::FREE;
 use stands::PLACE;
 use stands::Spot;
 use text::CharPlace;
-
-const MAY: u8 = 1;
-
-const WANTED: u8 = 2;
 
 // Whether the rest of an alternative after the dot p can be finished, if `after` says it of the dot after p: no terminal in it is dead.
 fn finishes(table: &[u32], code: &[u32], size: usize, p: usize, after: bool) -> bool
@@ -232,37 +227,4 @@ pub fn place(
         },
     );
     CharPlace(farthest(table, code, text, &flags, size))
-}
-
-// An end that may be is wanted.
-fn want(marks: &mut [u8], x: usize)
-    requires { ⌜ x < length (now marks) ⌝ }
-    ensures { λ _. ⌜ Wanting (now (marks .entry)) (now (marks .exit)) (λ y. y ≡ x) × (1 ≤ getD (now (marks .entry)) x 0 → 2 ≤ getD (now (marks .exit)) x 0) ⌝ }
-{
-    if marks[x] == MAY {
-        marks[x] = WANTED;
-    }
-}
-
-fn want_at(marks: &mut [u8], size: usize, j: usize)
-    requires { ⌜ (length (now marks) ≡ 308736) × (size ≤ 512) × (j ≤ 200) ⌝ }
-    ensures { λ _. ⌜ WantedAt (now (marks .entry)) (now (marks .exit)) j size ⌝ }
-{
-    let mut e = 0;
-    while e < size {
-        want(marks, reach::PLACE * j + (reach::ENDS + e));
-        e += 1;
-    }
-}
-
-// Every end that may be, of a record that ends at n.
-pub fn want_all(marks: &mut [u8], size: usize, n: CharPlace)
-    requires { ⌜ (length (now marks) ≡ 308736) × (size ≤ 512) × (n .0 ≤ 200) ⌝ }
-    ensures { λ _. ⌜ WantedAll (now (marks .entry)) (now (marks .exit)) size (n .0 + 1) ⌝ }
-{
-    let mut j = 0;
-    while j <= n.0 {
-        want_at(marks, size, j);
-        j += 1;
-    }
 }

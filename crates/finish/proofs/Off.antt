@@ -39,8 +39,9 @@ use Rattle.fault.specs.Far.{Placing, Placed}
 use Rattle.fault.proofs.Found as search
 use Rattle.fault.proofs.Found.{Searched, found-fault}
 use Rattle.parser.specs.Chosen.{Fault}
-use Rattle.plain_reading.proofs.Plain.{Roomy, finished-plain}
-use Rattle.parser.proofs.Located.{Located, tables-for, tokened-for, placing}
+use Rattle.plain_reading.specs.Filled.{Roomy, Walkable}
+use Rattle.plain_reading.proofs.Plain.{finished-plain}
+use Rattle.finish.proofs.Located.{Located, tables-for, tokened-for, placing}
 use Rattle.finish.specs.Ended.{Settled}
 
 -- a fixed point has the least heights of every grammar with this code
@@ -48,16 +49,34 @@ pub filled-of : {c f : List ℕ} {size n : ℕ} {H : List ℕ} → Fixpoint c f 
 filled-of {c} {f} {size} {H = H} fix room g r top first k e =
     fixed-heights c f g r size top first k H (subst (λ (m : ℕ). Fixpoint c f size m H) (sym e) fix) (rw e room)
 
-module _ {Tb c f : List ℕ} {R : Text} {size top first : ℕ} {H : List ℕ} {parse : ℕ} (s : Settled Tb c f R size top first H parse) {M F : List ℕ}
-    (m : Marked c f size (length R + 1) M) (n : Noted c size F × Empties c F size) {g : Grammar} (k : Ruled (Token Tb) c g size top first) where
-  pub roomy : Roomy c f R size (length H)
-  roomy = record {
+module _ {Tb c f : List ℕ} {R : Text} {size top first : ℕ} {H : List ℕ} {parse : ℕ} (s : Settled Tb c f R size top first H parse) where
+  roomy-of : Roomy c f R size (length H)
+  roomy-of = record {
     small = s .small;
     code-room = omega (arith, s .small, s .code-long);
     short = s .short;
     fits-room = omega (arith, s .small, s .fits-long);
     room = s .room;
   }
+
+  -- what the walk is given
+  pub settled-walkable : {M F : List ℕ} → length M ≡ 308736 → (length F ≡ 2048) × ((x : ℕ) → getD F x 0 ≡ 0) → Walkable c f size (length R) top first H M F parse
+  settled-walkable m n = record {
+    grammar = s .grammar;
+    text = R;
+    long = refl;
+    ruled = fitted (s .ruled) (s .rows);
+    roomy = roomy-of;
+    filled = filled-of (s .fixed) (s .room);
+    marks = m;
+    notes = n;
+    numbers = s .numbers;
+  }
+
+module _ {Tb c f : List ℕ} {R : Text} {size top first : ℕ} {H : List ℕ} {parse : ℕ} (s : Settled Tb c f R size top first H parse) {M F : List ℕ}
+    (m : Marked c f size (length R + 1) M) (n : Noted c size F × Empties c F size) {g : Grammar} (k : Ruled (Token Tb) c g size top first) where
+  pub roomy : Roomy c f R size (length H)
+  roomy = roomy-of s
 
   pub kf : Ruled (Fitting f R) c g size top first
   kf = fitted k (s .rows)

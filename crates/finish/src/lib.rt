@@ -37,9 +37,7 @@ fn read_off(
     let size = rules.size;
     let n = text.len();
     let mut marks = [0u8; sparse::MARKS];
-    full::mark_all(code, fits, size, n, &mut marks);
     let mut notes = [0u32; sparse::NOTES];
-    empties::note_rules(code, &mut notes, size);
     let rule = Rule {
         name: rules.top,
         first: rules.first,
@@ -49,7 +47,7 @@ fn read_off(
         n: CharPlace(n),
         rule,
     };
-    let walked = chooser::walk(code, &marks, &notes, main, root, parse);
+    let walked = plain_reading::walk_filled(code, fits, main, root, &mut marks, &mut notes, parse);
     let Walked::NoReading = walked else {
         return parser::of_walked(walked);
     };

@@ -18,19 +18,9 @@ use Rattle.chart.specs.Heights.{none}
 use Rattle.heights.specs.Table.{cellOf, valueOf, Shape, Place}
 use Rattle.heights.specs.Filling.{Gives, by-terminal, by-split, by-owned}
 use Rattle.sweeps.specs.Layers.{Offered}
-use Rattle.fixpoint.specs.Fixed.{Tells, Below, Fixed, DotsFixed, StartsFixed, EndsFixed, Fixpoint, Least, Leasts, Lowered}
-
-never : {P : Type 0} → true ≡ false → P
-never e = absurd (let z : _≡_ {A = ℕ} 0 1 = cc in omega arith)
-
-pub hit : {P : Type 0} → P → Tells true P
-hit p = record { yes = λ _. p; no = λ _. refl }
-
-pub miss : {P : Type 0} → (P → ⊥) → Tells false P
-miss n = record { yes = λ e. never (sym e); no = λ p. absurd (n p) }
-
-pub not-so : {P : Type 0} {r : Bool} → Tells r P → r ≡ false → P → ⊥
-not-so t e p = never (sym (t .no p) ∙ e)
+use Rattle.tells.specs.Tells.{Tells}
+use Rattle.tells.proofs.Tells.{hit, miss, not-so}
+use Rattle.fixpoint.specs.Fixed.{Below, Fixed, DotsFixed, StartsFixed, EndsFixed, Fixpoint, Least, Leasts, Lowered}
 
 -- what holds below b and at b
 pub and-here : (P : ℕ → Type 0) (b : ℕ) → ((p : ℕ) → p < b → P p) → P b → (p : ℕ) → p < b + 1 → P p

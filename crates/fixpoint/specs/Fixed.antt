@@ -10,11 +10,6 @@ use Rattle.chart.specs.Heights.{none}
 use Rattle.heights.specs.Table.{cellOf, valueOf, Place}
 use Rattle.heights.specs.Filling.{Gives}
 
--- r tells whether P holds
-pub record Tells (r : Bool) (P : Type 0) : Type 0 where
-  pub yes : r ≡ true → P
-  pub no : P → r ≡ true
-
 -- the table gives the cell of p a value below b
 pub record Below (c f : List ℕ) (size n : ℕ) (t : List ℕ) (p i j b : ℕ) : Type 0 where
   pub value : ℕ

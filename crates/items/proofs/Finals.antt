@@ -20,7 +20,7 @@ use Rattle.plain.specs.Plain.{alts, alternatives, ruleFor, makes, ruled, weight
 use Rattle.layout.specs.Layout.{startsOf}
 use Rattle.items.specs.declared.State.{State}
 use Rattle.items.specs.Items.{kindAt, targetAt, tokenAt, Reads, markKind, Starts, Among, st-name, Alternatives, Items}
-use Rattle.items.specs.Machine.{kindBy}
+use Rattle.repetitions.specs.Blocks.{kindBy}
 use Rattle.items.specs.Final.{Placed, PlacedAll, Final}
 use Rattle.items.specs.Scanned.{At, Listed, l-none, l-rule, RuleCover, RuleBegins, Begins, Clean, Cleans, Bodies, Whole, Scanned}
 use Rattle.items.specs.Linked.{NameAt, headAt, firstAt, Linkable, Resolved, Linked}

@@ -9,7 +9,7 @@ use lib.Seq.{getD-take, getD-drop, getD-set-other, getD-set-same, take-set-le, d
 use Rattle.text.specs.Lists.{Text}
 use Rattle.text.proofs.Tests.{split}
 use Rattle.items.specs.Items.{kindAt, targetAt, tokenAt}
-use Rattle.items.specs.Machine.{kindBy}
+use Rattle.repetitions.specs.Blocks.{kindBy}
 use Rattle.items.specs.Linked.{NameAt, headAt, firstAt, Found, Resolved, Beside, Single, Linked}
 
 pub beside-row : {T T' : List ℕ} → Beside T T' → (j : ℕ) → getD T' (13824 + j) 0 ≡ getD T (13824 + j) 0

@@ -7,7 +7,7 @@ use lib.ListN.{length, getD, take, drop}
 use Rattle.text.specs.Lists.{Text, same}
 use Rattle.tokens.specs.Names.{Holding}
 use Rattle.items.specs.Items.{kindAt, targetAt, tokenAt}
-use Rattle.items.specs.Machine.{kindBy}
+use Rattle.repetitions.specs.Blocks.{kindBy}
 
 -- the token at a place of the tokens' part of the table holds the text
 abbrev pub NameAt : List ℕ → ℕ → Text → Type 0

@@ -169,7 +169,3 @@ pub record Ready (d : Action) (at : ℕ) (T : List ℕ) (s : State) : Type 0 whe
 
 abbrev pub Acts : Action → ℕ → List ℕ → State → List ℕ → State → Type 0
 Acts d at T s T' s' = (a b : Abs) → Rep T s a → Act d at a b → Fit b → Rep T' s' b
-
--- the kind of a name's item, by the first numbers of the name and of its rule's head
-unfoldable pub kindBy : ℕ → ℕ → ℕ
-kindBy used head = pick (eqb used 3) 4 (pick (eqb used 2) 3 (pick (eqb used 1) 2 (pick (eqb head 23) 4 (pick (eqb head 22) 3 2))))

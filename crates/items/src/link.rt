@@ -2,9 +2,6 @@
 ghost use mathlib.Core.Path.{_≡_};
 ghost use Prim.Native.Nat.{_+_};
 ghost use Rattle.items.specs.Linked.{Found, Linkable, Single, Linked};
-ghost use Rattle.items.specs.Machine.{kindBy};
-use crate::ATTRIBUTE;
-use crate::DELETED;
 use crate::ELEMENT;
 use crate::ITEM_COLUMNS;
 use crate::ITEM_KIND;
@@ -14,28 +11,6 @@ use crate::ITEMS;
 use crate::RULE_COLUMNS;
 use crate::RULE_FIRST;
 use crate::RULE_PLACE;
-
-// The kind of an item by the first numbers of the name and of its rule's head: the mark at the use wins.
-fn kind_by(used: u32, head: u32) -> u32
-    ensures { λ r. ⌜ r ≡ kindBy used head ⌝ }
-{
-    if used == tokens::NAME_DELETED {
-        return DELETED;
-    }
-    if used == tokens::NAME_ATTRIBUTE {
-        return ATTRIBUTE;
-    }
-    if used == tokens::NAME_INCLUDED {
-        return ELEMENT;
-    }
-    if head == tokens::RULE_HEAD_DELETED {
-        return DELETED;
-    }
-    if head == tokens::RULE_HEAD_ATTRIBUTE {
-        return ATTRIBUTE;
-    }
-    ELEMENT
-}
 
 // The first of the rules with the name of the token at `at`.
 fn find(table: &[u32], rules: usize, at: usize) -> usize
@@ -69,7 +44,7 @@ fn resolve(table: &mut [u32], p: usize, rules: usize)
     if ITEMS <= head {
         return;
     }
-    let kind = kind_by(table[at], table[head]);
+    let kind = repetitions::kind_by(table[at], table[head]);
     let first = table[RULE_FIRST + RULE_COLUMNS * r];
     table[ITEM_KIND + ITEM_COLUMNS * p] = kind;
     table[ITEM_TARGET + ITEM_COLUMNS * p] = first;

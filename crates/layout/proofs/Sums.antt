@@ -69,6 +69,20 @@ module _ (W : Symbol → ℕ) where
   unfolding layout made
   layout-sum g = rules-sum (rules g)
 
+  sum-concat : {A : Type 0} (f : A → List Symbol) (xs : List A) → sumOf W (concatMap f xs) ≡ sumOf (λ x. sumOf W (f x)) xs
+  sum-concat f [] = refl
+  sum-concat f (x ∷ xs) = omega (arith, sum-append W (f x) (concatMap f xs), sum-concat f xs)
+
+  named-sum : (rs : List Rule) → sumOf W (concatMap (λ r. nonterminal unmarked (r .name) ∷ []) rs) ≡ sumOf (λ r. W (nonterminal unmarked (r .name))) rs
+  named-sum [] = refl
+  named-sum (r ∷ rs) = omega (arith, named-sum rs)
+
+  -- the order has the plain rules, each as often: whatever is counted or summed over both is the same
+  pub layout-same : (g : Grammar) → sumOf W (layout g) ≡ sumOf W (ruled g)
+  layout-same g =
+      let names = concatMap (λ r. nonterminal unmarked (r .name) ∷ []) (rules g) in
+      omega (arith, layout-sum g, sum-append W names (concatMap makes (written g)), named-sum (rules g), sum-concat makes (written g))
+
 -- as many as there are rules, written and made
 count-sum : {A : Type 0} (xs : List A) → length xs ≡ sumOf (λ x. 1) xs
 count-sum [] = refl

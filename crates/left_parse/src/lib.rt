@@ -26,10 +26,13 @@ const TERMINAL: usize = items::TERMINAL as usize;
 
 const ALTERNATIVE_END: usize = items::ALTERNATIVE_END as usize;
 
-// What is noted of an entry: the entry after its subtree, and the place in the record where that ends.
-const NOTE_COLUMNS: usize = 2;
+// What is noted of an entry: the entry after its subtree, and the place in the record where that ends. While its node is open, the entry
+// of the node around it and its item.
+pub const NOTE_COLUMNS: usize = 2;
 
 const NOTE_PLACE: usize = 1;
+
+pub const NOTE_ITEM: usize = 1;
 
 // A number that is noted, 0 past the end.
 pub fn note_at(scratch: &[u64], i: usize) -> usize
@@ -118,7 +121,7 @@ pub fn enter(table: &[u32], parse: &[u32], scratch: &mut [u64], h: Position) -> 
     let x = items::target_at(table, h.item);
     let item = alternative(table, x, a);
     scratch[at] = h.inner as u64;
-    scratch[at + NOTE_PLACE] = h.item as u64;
+    scratch[at + NOTE_ITEM] = h.item as u64;
     let place = h.place;
     Position {
         item,
@@ -135,7 +138,7 @@ pub fn leave(scratch: &mut [u64], h: Position) -> Position
 {
     let at = NOTE_COLUMNS * (h.inner - 1);
     let link = note_at(scratch, at);
-    let item = note_at(scratch, at + NOTE_PLACE);
+    let item = note_at(scratch, at + NOTE_ITEM);
     let place = h.place;
     scratch[at] = h.entry as u64;
     scratch[at + NOTE_PLACE] = place.0 as u64;

@@ -63,6 +63,9 @@ pub fn chars(text: &[u32], p: CharPlace, out: &mut [u32], at: Cell) -> Character
     Characters::Quoted(q, b)
 }
 
+// The cells of a token before its characters: its kind, and their count or a hex number's value.
+pub const HEAD: usize = 2;
+
 // Writes the head of a token whose characters end at b: what it is, and their count.
 pub fn head(out: &mut [u32], at: Cell, k: u32, end: Cell)
     requires { ⌜ Headable (now out) (at .0) (end .0) ⌝ }
@@ -71,7 +74,7 @@ pub fn head(out: &mut [u32], at: Cell, k: u32, end: Cell)
     let j = at.0;
     let b = end.0;
     out[j] = k;
-    out[j + 1] = (b - (j + 2)) as u32;
+    out[j + 1] = (b - (j + HEAD)) as u32;
 }
 
 // A token for characters.
@@ -88,7 +91,7 @@ pub fn chars_token(c: Characters, quoted: u32, coded: u32, out: &mut [u32], at: 
             let j = at.0;
             out[j] = coded;
             out[j + 1] = v;
-            Step::At(q, Cell(j + 2))
+            Step::At(q, Cell(j + HEAD))
         }
         Characters::No => Step::No,
     }
@@ -107,7 +110,7 @@ pub fn read_chars(
     ensures { λ r. ⌜ After-chars-token quoted coded (now (text .entry)) (p .0) (now (out .entry)) (at .0) r (now (out .exit)) ⌝ }
 {
     let j = at.0;
-    let c = chars(text, p, out, Cell(j + 2));
+    let c = chars(text, p, out, Cell(j + HEAD));
     chars_token(c, quoted, coded, out, at)
 }
 
@@ -117,7 +120,7 @@ pub fn read_string(text: &[u32], p: CharPlace, k: u32, out: &mut [u32], at: Cell
     ensures { λ r. ⌜ After-name read-string k (now (text .entry)) (p .0) (now (out .entry)) (at .0) r (now (out .exit)) ⌝ }
 {
     let j = at.0;
-    let Step::At(q, b) = string(text, p, out, Cell(j + 2)) else {
+    let Step::At(q, b) = string(text, p, out, Cell(j + HEAD)) else {
         return Step::No;
     };
     head(out, at, k, b);

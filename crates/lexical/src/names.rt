@@ -49,7 +49,7 @@ fn name_run(text: &[u32], p: CharPlace, out: &mut [u32], at: Cell) -> Step
         return Step::No;
     }
     let j = at.0;
-    let run = copy_run(text, p, out, Cell(j + 2));
+    let run = copy_run(text, p, out, Cell(j + crate::HEAD));
     let q = run.0;
     let b = run.1;
     Step::At(q, b)

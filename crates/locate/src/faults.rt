@@ -79,7 +79,7 @@ fn offset(table: &[u32], k: usize, rule: u32) -> usize
     if tokens::form(table[k]) != tokens::FORM_RANGE {
         return 0;
     }
-    if static_errors::bad_end(rule, table[k + 1], table[k + 2]) {
+    if static_errors::bad_end(rule, table[k + tokens::FROM_CODED], table[k + tokens::FROM]) {
         return 0;
     }
     1

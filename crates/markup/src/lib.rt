@@ -118,12 +118,19 @@ fn put_in_value(out: &mut [u8], limit: BytePlace, pos: BytePlace, c: usize) -> B
     put_char(out, limit, pos, c)
 }
 
-// A character in a name (0), in text (1) or in a value (2).
+// Where a character is written: as it is, as in a name; in content; or in an attribute's value.
+pub const PLAIN: usize = 0;
+
+pub const IN_CONTENT: usize = 1;
+
+pub const IN_VALUE: usize = 2;
+
+// A character, escaped as where it is written asks.
 fn put_escaped(out: &mut [u8], limit: BytePlace, pos: BytePlace, mode: usize, c: usize) -> BytePlace
     requires { ⌜ limit .0 ≤ length (now out) ⌝ }
     ensures { λ r. ⌜ Wrote (limit .0) (pos .0) (now (out .entry)) (r .0) (now (out .exit)) (spelt mode c) ⌝ }
 {
-    if mode == 0 {
+    if mode == PLAIN {
         return put_char(out, limit, pos, c);
     }
     if c == 0x26 {
@@ -138,7 +145,7 @@ fn put_escaped(out: &mut [u8], limit: BytePlace, pos: BytePlace, mode: usize, c:
     if c == 0xd {
         return put_all(out, limit, pos, b"&#xD;");
     }
-    if mode == 2 {
+    if mode == IN_VALUE {
         return put_in_value(out, limit, pos, c);
     }
     put_char(out, limit, pos, c)
@@ -182,8 +189,8 @@ pub fn put_name(
     requires { ⌜ (limit .0 ≤ length (now out)) × (token < 4294967298) ⌝ }
     ensures { λ r. ⌜ ((k : ℕ) (n : Text) → Named (now (table .entry)) token k n → Wrote (limit .0) (pos .0) (now (out .entry)) (r .0) (now (out .exit)) n) ⌝ }
 {
-    let n = tokens::look(table, token + 1);
-    put_text(out, limit, pos, 0, table, token + 2, n)
+    let n = tokens::look(table, token + tokens::COUNT);
+    put_text(out, limit, pos, PLAIN, table, token + tokens::CHARS, n)
 }
 
 // Where text stands: at a cell of the table, if it is inserted, or at a place in the record.
@@ -204,12 +211,12 @@ pub fn piece_of(table: &[u32], token: usize, place: CharPlace) -> Piece
 {
     let c = tokens::look(table, token);
     if c == INSERT_QUOTED {
-        let count = tokens::look(table, token + 1);
-        let from = Source::Table(token + 2);
+        let count = tokens::look(table, token + tokens::COUNT);
+        let from = Source::Table(token + tokens::CHARS);
         return Piece { from, count };
     }
     if c == INSERT_CODED {
-        let from = Source::Table(token + 1);
+        let from = Source::Table(token + tokens::VALUE);
         return Piece { from, count: 1 };
     }
     let from = Source::Record(place);

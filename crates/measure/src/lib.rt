@@ -6,6 +6,19 @@ ghost use Rattle.plain.specs.Plain.{size};
 ghost use Rattle.tokens.specs.Lengths.{Holds};
 ghost use Rattle.measure.specs.Costs.{costOf, repeatCostOf, Tree};
 
+// What brackets and operators add to the size, of the rules that are made of them.
+const BRACKETS: u32 = 2;
+
+const OPTION: u32 = 3;
+
+const REPEAT0: u32 = 4;
+
+const REPEAT1: u32 = 7;
+
+const REPEAT0_SEPARATED: u32 = 10;
+
+const REPEAT1_SEPARATED: u32 = 7;
+
 // What a token adds to the size.
 fn token_cost(k: u32) -> u32
     ensures { λ r. ⌜ (r ≡ costOf k) × (r ≤ 10) ⌝ }
@@ -20,7 +33,7 @@ fn token_cost(k: u32) -> u32
         return 1;
     }
     if k == tokens::OPEN_GROUP {
-        return 2;
+        return BRACKETS;
     }
     if k == tokens::NEXT_ALTERNATIVE {
         return 1;
@@ -33,19 +46,19 @@ fn repeat_cost(k: u32) -> u32
     ensures { λ r. ⌜ (r ≡ repeatCostOf k) × (r ≤ 10) ⌝ }
 {
     if k == tokens::TO_OPTION {
-        return 3;
+        return OPTION;
     }
     if k == tokens::TO_REPEAT0 {
-        return 4;
+        return REPEAT0;
     }
     if k == tokens::TO_REPEAT1 {
-        return 7;
+        return REPEAT1;
     }
     if k == tokens::TO_REPEAT0SEP {
-        return 10;
+        return REPEAT0_SEPARATED;
     }
     if k == tokens::TO_REPEAT1SEP {
-        return 7;
+        return REPEAT1_SEPARATED;
     }
     0
 }

@@ -25,9 +25,14 @@ pub record Row (n e main : ℕ) : Type 0 where
   pub small : e < 512
   pub room : (e + 1) * stretches n ≤ main
 
--- bits of numbers from `at` on, of those whose mask is not 0
+-- each mask is 0 or all ones
+abbrev pub Masks : List ℕ → Type 0
+Masks O = (b : ℕ) → b < 32 → (getD O b 0 ≡ 0 → ⊥) → getD O b 0 ≡ 4294967295
+
+-- bits of numbers from `at` on, of those whose mask is all ones
 pub record Gathered (t : List ℕ) (at : ℕ) (O : List ℕ) (count r : ℕ) : Type 0 where
   pub is : (k : ℕ) → Lit r k → (b : ℕ) × (b < count) × (getD O b 0 ≡ 0 → ⊥) × Lit (getD t (at + b) 0) k
+  pub all : (k b : ℕ) → b < count → getD O b 0 ≡ 4294967295 → Lit (getD t (at + b) 0) k → Lit r k
 
 -- ends from places of the number v, of those whose mask is not 0
 pub record Masked (n : ℕ) (t : List ℕ) (e v : ℕ) (O : List ℕ) (x : ℕ) : Type 0 where
@@ -83,6 +88,12 @@ pub record Moved (c M : List ℕ) (n : ℕ) (t : List ℕ) (p : ℕ) (S : List �
   pub from : ℕ
   pub has : Has S from
   pub move : Move c M n t p from z
+
+-- a step gives exactly the places that are moved to
+pub record Stepped (c M : List ℕ) (n : ℕ) (t : List ℕ) (p : ℕ) (S s : List ℕ) : Type 0 where
+  pub long : length s ≡ 8
+  pub is : (z : ℕ) → Has s z → Moved c M n t p S z
+  pub all : (z : ℕ) → Moved c M n t p S z → Has s z
 
 -- what a step is given
 pub record Stepping (c M : List ℕ) (size n p main : ℕ) : Type 0 where

@@ -1,12 +1,11 @@
 // From the places of a dot to those of the dot after it, by sets of places: over a terminal by the flags, over a symbol by a table of its rule's
-// ends. What comes out is so; that nothing is missing is not promised.
+// ends.
 ghost use mathlib.Core.Bool.{true};
-ghost use mathlib.Core.Logic.{_⊎_};
 ghost use mathlib.Core.Path.{_≡_};
 ghost use Prim.Native.Nat.{ℕ, _+_, _*_, _-_, _/_, _<_, _≤_};
-ghost use lib.ListN.{length, getD};
-ghost use Rattle.bits.specs.Bits.{Lit, Has};
-ghost use Rattle.moves.specs.Moves.{columnOf, Row, Gathered, Masked, Worded, Passed, Landed, Shifting, LandedBy, Shifted, Moved, Stepping};
+ghost use lib.ListN.{length};
+ghost use Rattle.bits.specs.Bits.{Has, Adds};
+ghost use Rattle.moves.specs.Moves.{columnOf, Row, Masks, Gathered, Masked, Worded, Passed, Landed, Shifting, LandedBy, Shifted, Stepped, Stepping};
 use chart::AT_SYMBOL;
 use chart::AT_TERMINAL;
 use chart::CODE_COLUMNS;
@@ -33,7 +32,7 @@ pub fn column(n: usize, w: usize) -> usize
 // How many places of the number v are on the record.
 fn lanes(n: usize, v: usize) -> usize
     requires { ⌜ (n ≤ 200) × (32 * v ≤ n) ⌝ }
-    ensures { λ r. ⌜ (r ≤ 32) × (32 * v + r ≤ n + 1) ⌝ }
+    ensures { λ r. ⌜ (r ≤ 32) × (32 * v + r ≤ n + 1) × ((b : ℕ) → b < 32 → 32 * v + b ≤ n → b < r) ⌝ }
 {
     let left = n + 1 - 32 * v;
     if left < 32 {
@@ -57,8 +56,8 @@ fn gather(main: &[u32], at: usize, on: &[u32; 32], count: usize) -> u32
 
 // The ends from places of the number v.
 fn add_ends(main: &[u32], n: usize, rule: usize, v: usize, on: &[u32; 32], next: &mut [u32; 8])
-    requires { ⌜ Row n rule (length (now main)) × (v ≤ n / 32) ⌝ }
-    ensures { λ _. ⌜ ((x : ℕ) → Has (now (next .exit)) x → Has (now (next .entry)) x ⊎ Masked n (now (main .entry)) rule v (now (on .entry)) x) ⌝ }
+    requires { ⌜ Row n rule (length (now main)) × (v ≤ n / 32) × Masks (now on) ⌝ }
+    ensures { λ _. ⌜ Adds (Masked n (now (main .entry)) rule v (now (on .entry))) (now (next .entry)) (now (next .exit)) ⌝ }
 {
     let count = lanes(n, v);
     let last = n / bits::PLACES;
@@ -72,7 +71,7 @@ fn add_ends(main: &[u32], n: usize, rule: usize, v: usize, on: &[u32; 32], next:
 
 fn add_word(main: &[u32], n: usize, rule: usize, v: usize, word: u32, next: &mut [u32; 8])
     requires { ⌜ Row n rule (length (now main)) × (v ≤ n / 32) ⌝ }
-    ensures { λ _. ⌜ ((x : ℕ) → Has (now (next .exit)) x → Has (now (next .entry)) x ⊎ Worded n (now (main .entry)) rule v word x) ⌝ }
+    ensures { λ _. ⌜ Adds (Worded n (now (main .entry)) rule v word) (now (next .entry)) (now (next .exit)) ⌝ }
 {
     if word == 0 {
         return;
@@ -85,7 +84,7 @@ fn add_word(main: &[u32], n: usize, rule: usize, v: usize, word: u32, next: &mut
 // The ends of the rule from all places of the set.
 fn pass(main: &[u32], n: usize, rule: usize, cur: &[u32; 8], next: &mut [u32; 8])
     requires { ⌜ Row n rule (length (now main)) ⌝ }
-    ensures { λ _. ⌜ ((x : ℕ) → Has (now (next .exit)) x → Has (now (next .entry)) x ⊎ Passed n (now (main .entry)) rule (now (cur .entry)) x) ⌝ }
+    ensures { λ _. ⌜ Adds (Passed n (now (main .entry)) rule (now (cur .entry))) (now (next .entry)) (now (next .exit)) ⌝ }
 {
     let last = n / bits::PLACES;
     let mut v = 0;
@@ -98,7 +97,7 @@ fn pass(main: &[u32], n: usize, rule: usize, cur: &[u32; 8], next: &mut [u32; 8]
 // The place after the terminal that is after the dot p, if it fits at x.
 fn land(marks: &[u8], p: usize, width: usize, n: usize, x: usize, on: bool, next: &mut [u32; 8])
     requires { ⌜ Shifting (now marks) p width n × (x < 256) ⌝ }
-    ensures { λ _. ⌜ ((z : ℕ) → Has (now (next .exit)) z → Has (now (next .entry)) z ⊎ ((on ≡ true) × Landed (now (marks .entry)) p width n x z)) ⌝ }
+    ensures { λ _. ⌜ Adds (λ z. (on ≡ true) × Landed (now (marks .entry)) p width n x z) (now (next .entry)) (now (next .exit)) ⌝ }
 {
     if !on {
         return;
@@ -125,7 +124,7 @@ fn shift_word(
     next: &mut [u32; 8],
 )
     requires { ⌜ Shifting (now marks) p width n × (v ≤ 6) ⌝ }
-    ensures { λ _. ⌜ ((z : ℕ) → Has (now (next .exit)) z → Has (now (next .entry)) z ⊎ LandedBy (now (marks .entry)) p width n v word z) ⌝ }
+    ensures { λ _. ⌜ Adds (LandedBy (now (marks .entry)) p width n v word) (now (next .entry)) (now (next .exit)) ⌝ }
 {
     if word == 0 {
         return;
@@ -147,7 +146,7 @@ fn shift_word(
 
 fn shift(marks: &[u8], p: usize, width: usize, n: usize, cur: &[u32; 8], next: &mut [u32; 8])
     requires { ⌜ Shifting (now marks) p width n ⌝ }
-    ensures { λ _. ⌜ ((z : ℕ) → Has (now (next .exit)) z → Has (now (next .entry)) z ⊎ Shifted (now (marks .entry)) p width n (now (cur .entry)) z) ⌝ }
+    ensures { λ _. ⌜ Adds (Shifted (now (marks .entry)) p width n (now (cur .entry))) (now (next .entry)) (now (next .exit)) ⌝ }
 {
     let last = n / bits::PLACES;
     let mut v = 0;
@@ -159,8 +158,8 @@ fn shift(marks: &[u8], p: usize, width: usize, n: usize, cur: &[u32; 8], next: &
 
 // From the places of the dot to those of the dot after it, into a set that is empty.
 pub fn step(code: &[u32], marks: &[u8], main: &[u32], dot: Dot, cur: &[u32; 8], next: &mut [u32; 8])
-    requires { ⌜ Stepping (now code) (now marks) (dot .size) (dot .n) (dot .p) (length (now main)) × ((x : ℕ) → Has (now next) x → ⊥) ⌝ }
-    ensures { λ _. ⌜ ((z : ℕ) → Has (now (next .exit)) z → Moved (now (code .entry)) (now (marks .entry)) (dot .n) (now (main .entry)) (dot .p) (now (cur .entry)) z) ⌝ }
+    requires { ⌜ Stepping (now code) (now marks) (dot .size) (dot .n) (dot .p) (length (now main)) × ((x : ℕ) → Has (now next) x → ⊥) × (length (now next) ≡ 8) ⌝ }
+    ensures { λ _. ⌜ Stepped (now (code .entry)) (now (marks .entry)) (dot .n) (now (main .entry)) (dot .p) (now (cur .entry)) (now (next .exit)) ⌝ }
 {
     let p = dot.p;
     let kind = code[CODE_COLUMNS * p];

@@ -17,6 +17,9 @@ use text::Diagnostic;
 use text::limits;
 use text::refusals;
 
+// Judging a list notes two numbers of each entry.
+const NOTE_COLUMNS: usize = 2;
+
 // Where the record's characters end.
 pub enum Taken {
     Chars(CharPlace),
@@ -147,7 +150,7 @@ pub fn begin_list(
     ensures { λ r. ⌜ BeginsBy (λ g r. 2 * numbers) (job (now (grammar .entry)) (now («record» .entry)) scratch second) (now (table .exit)) (now (text .exit)) r ⌝ }
 {
     let opened = open_job(grammar, record, table, text);
-    lend(opened, scratch, 2 * numbers, second)
+    lend(opened, scratch, NOTE_COLUMNS * numbers, second)
 }
 
 pub fn why_begun(begun: Begun) -> Diagnostic

@@ -31,13 +31,12 @@ pub fn of_walked(walked: Walked) -> Chosen
     }
 }
 
-// The place of the fault in a record that has no reading, by the flags of the passes: the sets of places where dots surely stand. Where
-// these do not reach as far as the flags let them, a table filled with every end wanted that is flagged, and the search over it.
+// The place of the fault in a record that has no reading, by the flags of the passes.
 fn locate(
     table: &[u32],
     text: &[u32],
     code: &[u32],
-    marks: &mut [u8],
+    marks: &[u8],
     main: &mut [u32],
     size: usize,
     top: usize,
@@ -47,19 +46,12 @@ fn locate(
 {
     let mut notes = [0u32; sparse::NOTES];
     empties::note_rules(code, &mut notes, size);
-    let n = CharPlace(text.len());
-    let start = fault::Root {
+    let root = fault::Root {
         size: size,
-        n: n,
+        n: CharPlace(text.len()),
         rule: top,
     };
-    let found = confirm::find(table, text, code, marks, &notes, main, start);
-    if found.0 <= n.0 {
-        return found;
-    }
-    fault::want_all(marks, size, n);
-    quick::fill(code, marks, &notes, size, n, main);
-    fault::place(table, text, code, marks, &notes, main, start)
+    confirm::find(table, text, code, marks, &notes, main, root)
 }
 
 // By the quick engine, whose flags the search for the fault goes on with. Local are 316,928 bytes.
@@ -89,7 +81,7 @@ fn choose_quick(
     let Walked::NoReading = walked else {
         return of_walked(walked);
     };
-    let place = locate(table, text, &code, &mut marks, main, size, top);
+    let place = locate(table, text, &code, &marks, main, size, top);
     Chosen::NoReading(place)
 }
 
@@ -102,7 +94,7 @@ fn locate_anew(table: &[u32], size: usize, root: usize, text: &[u32], main: &mut
     let mut marks = [0u8; sparse::MARKS];
     let top = rules::code_rules(table, size, root, &mut code);
     left_pass::left(table, text, &code, &mut marks, size, top);
-    locate(table, text, &code, &mut marks, main, size, top)
+    locate(table, text, &code, &marks, main, size, top)
 }
 
 // By the plain engine, which has no flags of its own.

@@ -1,14 +1,12 @@
 -- From what the plain engine promises to what the walk is given.
 use mathlib.Core.List.{List}
-use mathlib.Core.Path.{_≡_, refl}
-use Prim.Native.Nat.{ℕ, _+_, _*_, _≤_}
+use mathlib.Core.Path.{_≡_, refl, sym, subst}
+use Prim.Native.Nat.{ℕ, _+_}
 use native.Mathlib.Omega.{arith}
 use lib.ListN.{length}
-use Rattle.text.specs.Limits.{mostSize, recordChars}
 use Rattle.text.specs.Lists.{Text}
 use Rattle.tree.specs.Tree.{Grammar}
 use Rattle.chart.specs.Code.{Fitting, Ruled}
-use Rattle.chart.specs.Heights.{stretches}
 use Rattle.heights.specs.Filling.{Filled}
 use Rattle.sparse.specs.Cells.{Noted}
 use Rattle.sparse.specs.Steps.{Empties}
@@ -16,14 +14,7 @@ use Rattle.full.specs.Whole.{Marked}
 use Rattle.full.proofs.Whole.{coded, shape, whole-code, whole-stays, whole-attained, whole-least, whole-live, whole-used}
 use Rattle.chooser.specs.Choose.{Choosable}
 use Rattle.reading.specs.Answer.{Finished}
-
--- a table for each stage, long enough
-pub record Roomy (c f : List ℕ) (R : Text) (size main : ℕ) : Type 0 where
-  pub small : size ≤ mostSize
-  pub code-room : 4 * size ≤ length c
-  pub short : length R ≤ recordChars
-  pub fits-room : size * (recordChars + 1) ≤ length f
-  pub room : size * stretches (length R) ≤ main
+use Rattle.plain_reading.specs.Filled.{Roomy, Walkable}
 
 pub roomy : {Tb c f : List ℕ} {g : Grammar} {R : Text} {size root top main main' parse : ℕ} → Ruled (Fitting f R) c g size top root → Choosable Tb size root R main parse
     → length c ≡ 2048 → length f ≡ 102912 → main' ≡ main → Roomy c f R size main'
@@ -54,3 +45,9 @@ module _ {c f M F H : List ℕ} {R : Text} {size top first : ℕ} {g : Grammar} 
         live = whole-live k m s l;
         used = λ q x _. whole-used k m s l q x;
       }
+
+-- the same by what the walk is given
+pub finished-filled : {c f : List ℕ} {size n top first : ℕ} {H M₀ F₀ : List ℕ} {parse : ℕ} → Walkable c f size n top first H M₀ F₀ parse → {M F : List ℕ} → Marked c f size (n + 1) M
+    → Noted c size F × Empties c F size → Finished c M F H size n top first
+finished-filled {c} {f} {size} {n} {top} {first} {H} w {M} {F} m k = subst (λ (x : ℕ). Finished c M F H size x top first) (sym (w .long))
+    (finished-plain (w .ruled) (w .roomy) (subst (λ (x : ℕ). Marked c f size (x + 1) M) (w .long) m) k (w .filled))

@@ -4,10 +4,30 @@ ghost use Rattle.tree.specs.Tree.{Grammar};
 ghost use Rattle.rules.specs.Ready.{Ready};
 ghost use Rattle.reading.specs.Answer.{Answers};
 ghost use Rattle.chooser.specs.Choose.{Choosable};
+ghost use Rattle.plain_reading.specs.Filled.{Walkable, Walks};
 use reading::Root;
 use reading::Rule;
 use reading::Walked;
 use text::CharPlace;
+
+// The walk over a main table that is filled whole: every flag is set, and the rules are noted.
+pub fn walk_filled(
+    code: &[u32],
+    fits: &[u8],
+    main: &[u32],
+    root: Root,
+    marks: &mut [u8],
+    notes: &mut [u32],
+    parse: &mut [u32],
+) -> Walked
+    requires { ⌜ Walkable (now code) (now fits) (root .size) (root .n .0) (root .rule .name) (root .rule .first) (now main) (now marks) (now notes) (length (now parse)) ⌝ }
+    ensures { λ r. ⌜ Walks (now (code .entry)) (now (fits .entry)) (root .size) (root .n .0) (root .rule .name) (root .rule .first) (now (main .entry))
+        (now (marks .exit)) (now (notes .exit)) (now (parse .exit)) r ⌝ }
+{
+    full::mark_all(code, fits, root.size, root.n.0, marks);
+    empties::note_rules(code, notes, root.size);
+    chooser::walk(code, marks, notes, main, root, parse)
+}
 
 // The left parse goes to `parse`. Local are 428,032 bytes.
 pub fn read(
@@ -27,9 +47,7 @@ pub fn read(
     let n = text.len();
     sweeps::fill(&code, &fits, size, n, main);
     let mut marks = [0u8; sparse::MARKS];
-    full::mark_all(&code, &fits, size, n, &mut marks);
     let mut notes = [0u32; sparse::NOTES];
-    empties::note_rules(&code, &mut notes, size);
     let rule = Rule {
         name: top,
         first: root,
@@ -39,5 +57,5 @@ pub fn read(
         n: CharPlace(n),
         rule,
     };
-    chooser::walk(&code, &marks, &notes, main, root, parse)
+    walk_filled(&code, &fits, main, root, &mut marks, &mut notes, parse)
 }

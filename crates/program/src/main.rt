@@ -72,16 +72,22 @@ fn run(at: usize)
     }
 }
 
+// The arguments of a job: a grammar file and a record file.
+const PAIR: usize = 2;
+
+// The first argument of the second job.
+const SECOND: usize = 1 + PAIR;
+
 // The first two arguments, and each two that follow.
 fn main() {
     let n = os::arg_count();
     run(1);
-    let mut at = 3;
+    let mut at = SECOND;
     while at < n {
         run(at);
-        if n - at <= 2 {
+        if n - at <= PAIR {
             return;
         }
-        at += 2;
+        at += PAIR;
     }
 }

@@ -20,6 +20,9 @@ use candidates::find_end;
 use candidates::number_at;
 use candidates::other_alternative;
 use candidates::other_end;
+use chart::CODE_COLUMNS;
+use chart::CODE_GOES;
+use chart::CODE_RULE;
 use chart::NONE;
 use sparse::Stretch;
 use sparse::rule_height;
@@ -62,15 +65,22 @@ pub struct Cursor {
     pub mark: bool,
 }
 
+// A row on the stack: where it goes on, the place that it goes to, and the height of its trees at most.
+pub const STACK_COLUMNS: usize = 3;
+
+const STACK_PLACE: usize = 1;
+
+const STACK_HEIGHT: usize = 2;
+
 // Puts a row on the stack: it goes on at p, to the place j, with heights at most k.
 fn push(stack: &mut [u32], depth: usize, p: usize, j: CharPlace, k: u32)
     requires { ⌜ (3 * depth + 2 < length (now stack)) × ((p < 4294967296) × (j .0 < 4294967296)) ⌝ }
     ensures { λ r. ⌜ now (stack .exit) ≡ pushed (now (stack .entry)) depth p (j .0) k ⌝ }
 {
-    let b = 3 * depth;
+    let b = STACK_COLUMNS * depth;
     stack[b] = p as u32;
-    stack[b + 1] = j.0 as u32;
-    stack[b + 2] = k;
+    stack[b + STACK_PLACE] = j.0 as u32;
+    stack[b + STACK_HEIGHT] = k;
 }
 
 // At the end of a row: goes on with the row that was put on the stack last.
@@ -80,9 +90,9 @@ fn pop(stack: &[u32], h: Cursor) -> Cursor
 {
     let n = h.n;
     let depth = h.depth - 1;
-    let b = 3 * depth;
+    let b = STACK_COLUMNS * depth;
     let p = number_at(stack, b);
-    let j = CharPlace(number_at(stack, b + 1));
+    let j = CharPlace(number_at(stack, b + STACK_PLACE));
     let i = h.j;
     Cursor {
         size: h.size,
@@ -90,7 +100,7 @@ fn pop(stack: &[u32], h: Cursor) -> Cursor
         p: p,
         i: i,
         j: j,
-        k: stack[b + 2],
+        k: stack[b + STACK_HEIGHT],
         at: h.at,
         depth: depth,
         mark: h.mark,
@@ -174,8 +184,8 @@ fn descend(
 {
     let p = h.p;
     let rule = Rule {
-        name: number_at(code, 4 * p + 2),
-        first: number_at(code, 4 * p + 1),
+        name: number_at(code, CODE_COLUMNS * p + CODE_RULE),
+        first: number_at(code, CODE_COLUMNS * p + CODE_GOES),
     };
     let size = h.size;
     let n = h.n;
@@ -214,12 +224,12 @@ fn step(
         (now (out .entry)) (now (out .exit)) (now (stack .entry)) (now (stack .exit)) h r ⌝ }
 {
     let p = h.p;
-    let kind = number_at(code, 4 * p);
+    let kind = number_at(code, CODE_COLUMNS * p);
     if kind == AFTER_ALTERNATIVE {
         return pop(stack, h);
     }
     if kind == BEFORE_TERMINAL {
-        let wide = number_at(code, 4 * p + 1);
+        let wide = number_at(code, CODE_COLUMNS * p + CODE_GOES);
         let n = h.n;
         let i = CharPlace(h.i.0 + wide);
         let j = h.j;
@@ -247,7 +257,7 @@ fn more(code: &[u32], h: Cursor) -> bool
     if limits::READING_NUMBERS < h.at {
         return false;
     }
-    if number_at(code, 4 * p) != AFTER_ALTERNATIVE {
+    if number_at(code, CODE_COLUMNS * p) != AFTER_ALTERNATIVE {
         return true;
     }
     if h.depth == 0 {

@@ -73,3 +73,7 @@ pub record Source (T : List ℕ) (i k from w : ℕ) : Type 0 where
   pub room : Room T i k
   pub low : 14848 ≤ from
   pub high : from + w ≤ 16384
+
+-- the kind of a name's item, by the first numbers of the name and of its rule's head
+unfoldable pub kindBy : ℕ → ℕ → ℕ
+kindBy used head = pick (eqb used 3) 4 (pick (eqb used 2) 3 (pick (eqb used 1) 2 (pick (eqb head 23) 4 (pick (eqb head 22) 3 2))))

@@ -5,7 +5,7 @@ ghost use Prim.Native.Nat.{_+_, _<_, _≤_, _^_};
 ghost use lib.ListN.{length, getD};
 ghost use lib.Seq.{sets};
 ghost use Rattle.repetitions.specs.Blocks.{entry, nums, entryAt, bothEnds, onceBlock, optionBlock, starBlock, restBlock, listBlock};
-ghost use Rattle.repetitions.specs.Blocks.{oneBlock, oneCount, oneFirst, twoBlock, twoCount, twoFirst, laid, Room, Source};
+ghost use Rattle.repetitions.specs.Blocks.{oneBlock, oneCount, oneFirst, twoBlock, twoCount, twoFirst, laid, Room, Source, kindBy};
 
 // Where the items begin in the grammar table.
 pub const ITEMS: usize = 12288;
@@ -39,14 +39,39 @@ pub struct Made {
     pub next: usize,
 }
 
+// An entry of the stack has the columns of an item.
+const ENTRY_TARGET: usize = 1;
+
+const ENTRY_TOKEN: usize = 2;
+
+// How many items are made: f and a rule; `f?`, `f*`, `f+`; what follows the first f of `f++sep`; `f++sep` and `f**sep`, and where the ends
+// of these begin.
+const AGAIN_ITEMS: usize = 2;
+
+const OPTION_ITEMS: usize = 3;
+
+const STAR_ITEMS: usize = 4;
+
+const PLUS_ITEMS: usize = 7;
+
+const REST_ENDS: usize = 3;
+
+const REST_ITEMS: usize = 5;
+
+const LIST_ITEMS: usize = 8;
+
+const LIST_ENDS: usize = 9;
+
+const MAYBE_LIST_ITEMS: usize = 11;
+
 // Three numbers at a place.
 pub fn put(table: &mut [u32], at: usize, a: u32, b: u32, c: u32)
     requires { ⌜ at + 3 ≤ length (now table) ⌝ }
     ensures { λ r. ⌜ now (table .exit) ≡ sets (now (table .entry)) at (a ∷ b ∷ c ∷ []) ⌝ }
 {
     table[at] = a;
-    table[at + 1] = b;
-    table[at + 2] = c;
+    table[at + ENTRY_TARGET] = b;
+    table[at + ENTRY_TOKEN] = c;
 }
 
 // Item i: of a kind, with a target.
@@ -63,7 +88,7 @@ pub fn renew(table: &mut [u32], at: usize, kind: u32, target: u32)
     ensures { λ r. ⌜ now (table .exit) ≡ sets (now (table .entry)) at (nums (entry kind target (getD (now (table .entry)) (at + 2) 0))) ⌝ }
 {
     table[at] = kind;
-    table[at + 1] = target;
+    table[at + ENTRY_TARGET] = target;
 }
 
 // Item i: the made rule at item x, with the token of its factor, whose entry stands at a place of the stack.
@@ -71,7 +96,7 @@ fn refer(table: &mut [u32], i: usize, x: usize, from: usize)
     requires { ⌜ Source (now table) i 1 from 3 × (x < 2 ^ 32) ⌝ }
     ensures { λ r. ⌜ now (table .exit) ≡ laid (now (table .entry)) i (nums (entry 4 x (entryAt (now (table .entry)) from .token))) ⌝ }
 {
-    let token = table[from + 2];
+    let token = table[from + ENTRY_TOKEN];
     put(
         table,
         ITEM_KIND + ITEM_COLUMNS * i,
@@ -87,8 +112,8 @@ pub fn copy(table: &mut [u32], i: usize, from: usize)
     ensures { λ r. ⌜ now (table .exit) ≡ laid (now (table .entry)) i (nums (entryAt (now (table .entry)) from)) ⌝ }
 {
     let a = table[from];
-    let b = table[from + 1];
-    let c = table[from + 2];
+    let b = table[from + ENTRY_TARGET];
+    let c = table[from + ENTRY_TOKEN];
     put(table, ITEM_KIND + ITEM_COLUMNS * i, a, b, c);
 }
 
@@ -116,7 +141,7 @@ fn once(table: &mut [u32], i: usize, from: usize, x: usize)
     ensures { λ r. ⌜ now (table .exit) ≡ laid (now (table .entry)) i (onceBlock (entryAt (now (table .entry)) from) x) ⌝ }
 {
     again(table, i, from, x);
-    item(table, i + 2, RULE_END, 0);
+    item(table, i + AGAIN_ITEMS, RULE_END, 0);
 }
 
 // f?
@@ -134,7 +159,7 @@ fn star(table: &mut [u32], i: usize, from: usize)
     ensures { λ r. ⌜ now (table .exit) ≡ laid (now (table .entry)) i (starBlock (entryAt (now (table .entry)) from) i) ⌝ }
 {
     again(table, i, from, i);
-    ends(table, i + 2);
+    ends(table, i + AGAIN_ITEMS);
 }
 
 // what follows the first f of f++sep; the entry of sep stands after that of f
@@ -142,9 +167,9 @@ fn rest(table: &mut [u32], i: usize, from: usize)
     requires { ⌜ Source (now table) i 5 from 6 ⌝ }
     ensures { λ r. ⌜ now (table .exit) ≡ laid (now (table .entry)) i (restBlock (entryAt (now (table .entry)) from) (entryAt (now (table .entry)) (from + 3)) i) ⌝ }
 {
-    copy(table, i, from + 3);
+    copy(table, i, from + ITEM_COLUMNS);
     again(table, i + 1, from, i);
-    ends(table, i + 3);
+    ends(table, i + REST_ENDS);
 }
 
 // The rules of `f?`, `f*` or `f+`.
@@ -156,20 +181,20 @@ pub fn one(table: &mut [u32], i: usize, from: usize, k: u32) -> Made
         option(table, i, from);
         return Made {
             first: i,
-            next: i + 3,
+            next: i + OPTION_ITEMS,
         };
     }
     star(table, i, from);
     if k == tokens::TO_REPEAT0 {
         return Made {
             first: i,
-            next: i + 4,
+            next: i + STAR_ITEMS,
         };
     }
-    once(table, i + 4, from, i);
+    once(table, i + STAR_ITEMS, from, i);
     Made {
-        first: i + 4,
-        next: i + 7,
+        first: i + STAR_ITEMS,
+        next: i + PLUS_ITEMS,
     }
 }
 
@@ -179,7 +204,7 @@ fn listed(table: &mut [u32], i: usize, from: usize)
     ensures { λ r. ⌜ now (table .exit) ≡ laid (now (table .entry)) i (listBlock (entryAt (now (table .entry)) from) (entryAt (now (table .entry)) (from + 3)) i) ⌝ }
 {
     rest(table, i, from);
-    once(table, i + 5, from, i);
+    once(table, i + REST_ITEMS, from, i);
 }
 
 // The rules of `f**sep` or `f++sep`.
@@ -192,14 +217,36 @@ pub fn two(table: &mut [u32], i: usize, from: usize, k: u32) -> Made
     listed(table, i, from);
     if k == tokens::TO_REPEAT1SEP {
         return Made {
-            first: i + 5,
-            next: i + 8,
+            first: i + REST_ITEMS,
+            next: i + LIST_ITEMS,
         };
     }
-    refer(table, i + 8, i + 5, from);
-    ends(table, i + 9);
+    refer(table, i + LIST_ITEMS, i + REST_ITEMS, from);
+    ends(table, i + LIST_ENDS);
     Made {
-        first: i + 8,
-        next: i + 11,
+        first: i + LIST_ITEMS,
+        next: i + MAYBE_LIST_ITEMS,
     }
+}
+
+// The kind of an item by the first numbers of the name and of its rule's head: the mark at the use wins.
+pub fn kind_by(used: u32, head: u32) -> u32
+    ensures { λ r. ⌜ r ≡ kindBy used head ⌝ }
+{
+    if used == tokens::NAME_DELETED {
+        return DELETED;
+    }
+    if used == tokens::NAME_ATTRIBUTE {
+        return ATTRIBUTE;
+    }
+    if used == tokens::NAME_INCLUDED {
+        return ELEMENT;
+    }
+    if head == tokens::RULE_HEAD_DELETED {
+        return DELETED;
+    }
+    if head == tokens::RULE_HEAD_ATTRIBUTE {
+        return ATTRIBUTE;
+    }
+    ELEMENT
 }

@@ -1,4 +1,2 @@
 pub mod Lines
-pub mod Starts
-pub mod Calls
 pub mod Traces

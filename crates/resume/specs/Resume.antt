@@ -53,14 +53,15 @@ noNotes = record { bytes = []; faults = []; grammars = [] }
 abbrev pub Rounds : Job → List ℕ → defined.Answer → Type 0
 Rounds j S a = Answers (laterLines j S []) noNotes Nothing (j .grammar) [] a []
 
--- A start. A refused one leaves a state of zeros, and the table as it was.
+-- A start. A refused one leaves a state of zeros, and the table as it was. What another leaves in the state's spare cells (5 to 7, and those
+-- behind the record) and in the table past the job's need is left open.
 pub record StartedAs (j : Job) (M : List ℕ) (a : Progress) (M' S' : List ℕ) : Type 0 where
   pub answer : Starts j (shown (a .answer))
   pub rounds : a .rounds ≡ 0
   pub refused : (a .answer .number ≡ 0 → ⊥) → (M' ≡ M) × Blank S'
   pub begun : a .answer .number ≡ 0 → Keeps (j .grammar) (j .input) S' × (roundsOf S' ≡ 0) × (FinishedBy S' → ⊥) × ofJob j (λ g r. After g r 0 M')
 
--- a round that is counted; `last` tells whether it was the last
+-- a round that is counted; `last` tells whether it was the last. What it leaves in the table past the job's need is left open
 pub record Counts (j : Job) (M S : List ℕ) (a : Progress) (M' S' : List ℕ) : Type 0 where
   pub last : Bool
   pub state : Counted S S' (roundsOf S + 1) (flag last)

@@ -31,6 +31,11 @@ use tokens::MEMBER_QUOTED;
 use tokens::MEMBER_RANGE;
 use tokens::SET_END;
 
+// The cells of a range's end: whether it is coded, and its character.
+const END_CHARACTER: usize = tokens::FROM - tokens::FROM_CODED;
+
+const END_CELLS: usize = tokens::TO - tokens::FROM;
+
 // An end of a range, whose character stands after at.
 fn range_end(c: Characters, out: &mut [u32], at: Cell) -> Step
     requires { ⌜ at .0 + 2 ≤ length (now out) ⌝ }
@@ -39,7 +44,7 @@ fn range_end(c: Characters, out: &mut [u32], at: Cell) -> Step
     let j = at.0;
     match c {
         Characters::Quoted(q, b) => {
-            if b.0 != j + 2 {
+            if b.0 != j + END_CELLS {
                 return Step::No;
             }
             out[j] = 0;
@@ -47,8 +52,8 @@ fn range_end(c: Characters, out: &mut [u32], at: Cell) -> Step
         }
         Characters::Coded(q, v) => {
             out[j] = 1;
-            out[j + 1] = v;
-            Step::At(q, Cell(j + 2))
+            out[j + END_CHARACTER] = v;
+            Step::At(q, Cell(j + END_CELLS))
         }
         Characters::No => Step::No,
     }
@@ -61,7 +66,7 @@ fn range_head(from: Characters, out: &mut [u32], at: Cell) -> Step
 {
     let j = at.0;
     out[j] = MEMBER_RANGE;
-    range_end(from, out, Cell(j + 1))
+    range_end(from, out, Cell(j + tokens::FROM_CODED))
 }
 
 // The rest of a range, from its hyphen on.
@@ -73,7 +78,7 @@ fn range_rest(text: &[u32], p: CharPlace, out: &mut [u32], at: Cell) -> Step
         return Step::No;
     };
     let j = at.0;
-    let c = chars(text, u, out, Cell(j + 1));
+    let c = chars(text, u, out, Cell(j + END_CHARACTER));
     spaced(text, range_end(c, out, at))
 }
 
@@ -95,7 +100,7 @@ fn chars_member(text: &[u32], p: CharPlace, out: &mut [u32], at: Cell) -> Step
     ensures { λ r. ⌜ After-member (now (text .entry)) (p .0) (now (out .entry)) (at .0) r (now (out .exit)) ⌝ }
 {
     let j = at.0;
-    let c = chars(text, p, out, Cell(j + 2));
+    let c = chars(text, p, out, Cell(j + tokens::CHARS));
     let Past::At(w) = past_chars(text, c) else {
         return Step::No;
     };
@@ -118,8 +123,8 @@ fn class_token(out: &mut [u32], at: Cell, a: u32, b: u32)
 {
     let j = at.0;
     out[j] = MEMBER_CLASS;
-    out[j + 1] = a;
-    out[j + 2] = b;
+    out[j + tokens::CAPITAL] = a;
+    out[j + tokens::SMALL] = b;
 }
 
 // A class, at its capital.
@@ -134,10 +139,10 @@ fn class(text: &[u32], p: CharPlace, out: &mut [u32], at: Cell) -> Step
     let e = peek(text, second);
     if letter(e) {
         class_token(out, at, c, e);
-        return Step::At(after(second), Cell(j + 3));
+        return Step::At(after(second), Cell(j + tokens::CLASS_CELLS));
     }
     class_token(out, at, c, 0);
-    Step::At(second, Cell(j + 3))
+    Step::At(second, Cell(j + tokens::CLASS_CELLS))
 }
 
 // A member of a set, and spacing.

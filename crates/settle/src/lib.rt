@@ -161,10 +161,10 @@ fn revisit(
     ensures { λ _. ⌜ Revisited (now (code .entry)) (now (marks .entry)) (now (notes .entry)) (s .size) (s .n .0) (s .i .0) (s .j .0) (now (main .entry)) (now (queue .entry))
         (now (main .exit)) (now (queue .exit)) rule ⌝ }
 {
-    let mut u = text::wide(notes[2 * rule]);
+    let mut u = text::wide(notes[chart::USE_COLUMNS * rule]);
     while 0 < u {
         use_rule(code, marks, notes, main, queue, u - 1, s);
-        u = text::wide(notes[2 * u - 1]);
+        u = text::wide(notes[chart::USE_COLUMNS * u - 1]);
     }
 }
 

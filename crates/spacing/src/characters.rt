@@ -167,17 +167,24 @@ pub fn is_mark(c: u32) -> bool
     c == HYPHEN
 }
 
+// The numbers of marks.
+const INCLUDED: u32 = 1;
+
+const ATTRIBUTE: u32 = 2;
+
+const DELETED: u32 = 3;
+
 // The number of a mark.
 pub fn mark_number(c: u32) -> u32
     ensures { λ r. ⌜ r ≡ markNumber (markOf c) ⌝ }
 {
     if c == AT_SIGN {
-        return 2;
+        return ATTRIBUTE;
     }
     if c == CARET {
-        return 1;
+        return INCLUDED;
     }
-    3
+    DELETED
 }
 
 pub fn name_start(c: u32) -> bool

@@ -10,19 +10,9 @@ use lib.Dec.{eqb}
 use lib.ListN.{length, getD, set, length-set, List·getD-eq-default}
 use lib.Seq.{getD-set-same, getD-set-other}
 use borrow.Author.Tests.{eqb-true, eq-eqb}
-use Rattle.state.specs.State.{stateLength, roundsOf, BytesAt, Head, Keeps, Tells, Kept, headed, Counted, Blank}
-
-never : {P : Type 0} → true ≡ false → P
-never e = absurd (let z : _≡_ {A = ℕ} 0 1 = cc in omega arith)
-
-pub miss : {P : Type 0} → (P → ⊥) → Tells false P
-miss n = record { yes = λ e. never (sym e); no = λ p. absurd (n p) }
-
-pub hit : {P : Type 0} → P → Tells true P
-hit p = record { yes = λ _. p; no = λ _. refl }
-
-pub not-so : {P : Type 0} {r : Bool} → Tells r P → r ≡ false → P → ⊥
-not-so t e p = never (sym (t .no p) ∙ e)
+use Rattle.tells.specs.Tells.{Tells}
+use Rattle.tells.proofs.Tells.{hit, miss, not-so}
+use Rattle.state.specs.State.{stateLength, roundsOf, BytesAt, Head, Keeps, Kept, headed, Counted, Blank}
 
 pub equal : (x y z : ℕ) → x ≡ z → Tells (eqb x y) (z ≡ y)
 equal x y z e = record { yes = λ q. sym e ∙ eqb-true x y q; no = λ q. eq-eqb x y (e ∙ q) }

@@ -37,11 +37,6 @@ pub record Keeps (gs rs S : List ℕ) : Type 0 where
   pub grammar : BytesAt S 8 gs
   pub input : BytesAt S 4104 rs
 
--- r tells whether P holds
-pub record Tells (r : Bool) (P : Type 0) : Type 0 where
-  pub yes : r ≡ true → P
-  pub no : P → r ≡ true
-
 -- the numbers from a place on take these bytes; the others are as they were
 pub record Kept (S S' : List ℕ) (at : ℕ) (bs : List ℕ) : Type 0 where
   pub long : length S' ≡ length S

@@ -3,7 +3,8 @@ ghost use mathlib.Core.Path.{_≡_};
 ghost use mathlib.Core.Bool.{true};
 ghost use Prim.Native.Nat.{ℕ, _+_, _≤_};
 ghost use lib.ListN.{length, getD};
-ghost use Rattle.state.specs.State.{stateLength, roundsOf, BytesAt, Head, Keeps, Tells, Kept, headed, Counted, Blank};
+ghost use Rattle.tells.specs.Tells.{Tells};
+ghost use Rattle.state.specs.State.{stateLength, roundsOf, BytesAt, Head, Keeps, Kept, headed, Counted, Blank};
 use text::limits;
 
 // The numbers before the bytes.

@@ -16,6 +16,7 @@ use Rattle.category.specs.Category.{isClass}
 use Rattle.tree.specs.Tree.{Mark, Chars, string, hex, Member, Terminal, literal, inclusion, exclusion, insertion, Rule, Grammar, rules, codes}
 use Rattle.tree.specs.Tree.{Symbol, terminal, nonterminal, group, option, repeat0, repeat1, repeat0sep, repeat1sep, rest}
 use Rattle.tree.specs.Tree as tree
+use Rattle.tree.specs.Tokens.{open-group, close-group, next-alternative, to-option, to-repeat0, to-repeat1, to-repeat0sep, to-repeat1sep, rule-end, version-is}
 use Rattle.tree.specs.Tokens.{Token, name, set-end, rule-head, capped, encode, memberToken, memberTokens, terminalTokens, grammarTokens}
 use Rattle.plain.specs.Written.{written, namesIn, terminalsIn, membersIn, charsInMember, charsIn, hexIn, names, terminals, members, hexes, heads}
 use Rattle.plain.specs.Static.{undefined, duplicate, beyond, unassignable, banned, codeOf, runsBack, backwards, noClass, unclassed}
@@ -36,29 +37,34 @@ symbolPart p (repeat0sep f sep) = []
 symbolPart p (repeat1sep f sep) = []
 symbolPart p (rest f sep) = []
 
+-- where tokens that hold nothing give nothing
+local-of : {A : Type 0} (p : Token → List A) → p open-group ≡ [] → p close-group ≡ [] → p next-alternative ≡ [] → p to-option ≡ [] → p to-repeat0 ≡ [] → p to-repeat1 ≡ []
+    → p to-repeat0sep ≡ [] → p to-repeat1sep ≡ [] → p rule-end ≡ [] → ((k : Text) → p (version-is k) ≡ []) → Local p (symbolPart p)
+local-of p opens closes next optional star plus stars pluses ends version = record {
+  terminals = λ x. refl;
+  name = λ m n. refl;
+  group = λ b. refl;
+  option = λ f. refl;
+  repeat0 = λ f. refl;
+  repeat1 = λ f. refl;
+  repeat0sep = λ f s. refl;
+  repeat1sep = λ f s. refl;
+  open-group = opens;
+  close-group = closes;
+  next-alternative = next;
+  to-option = optional;
+  to-repeat0 = star;
+  to-repeat1 = plus;
+  to-repeat0sep = stars;
+  to-repeat1sep = pluses;
+  rule-end = ends;
+  version = version;
+}
+
 -- what is taken from parts, nothing from a part of no account
 module _ {A : Type 0} (p : Part → List A) (e : p other ≡ []) where
   local : Local (λ x. p (part x)) (symbolPart (λ x. p (part x)))
-  local = record {
-    terminals = λ x. refl;
-    name = λ m n. refl;
-    group = λ b. refl;
-    option = λ f. refl;
-    repeat0 = λ f. refl;
-    repeat1 = λ f. refl;
-    repeat0sep = λ f s. refl;
-    repeat1sep = λ f s. refl;
-    open-group = e;
-    close-group = e;
-    next-alternative = e;
-    to-option = e;
-    to-repeat0 = e;
-    to-repeat1 = e;
-    to-repeat0sep = e;
-    to-repeat1sep = e;
-    rule-end = e;
-    version = λ k. e;
-  }
+  local = local-of (λ x. p (part x)) e e e e e e e e e (λ k. e)
 
   -- a test over the tokens is one over the symbols
   pub by-symbols : ((n : Text) → p (headed n) ≡ []) → (t : A → Bool) (g : Grammar) → T (proper g)
@@ -86,26 +92,7 @@ faults x = pick (sound x) [] (true ∷ [])
 
 faults-local : Local faults (symbolPart faults)
 unfolding faults
-faults-local = record {
-  terminals = λ x. refl;
-  name = λ m n. refl;
-  group = λ b. refl;
-  option = λ f. refl;
-  repeat0 = λ f. refl;
-  repeat1 = λ f. refl;
-  repeat0sep = λ f s. refl;
-  repeat1sep = λ f s. refl;
-  open-group = refl;
-  close-group = refl;
-  next-alternative = refl;
-  to-option = refl;
-  to-repeat0 = refl;
-  to-repeat1 = refl;
-  to-repeat0sep = refl;
-  to-repeat1sep = refl;
-  rule-end = refl;
-  version = λ k. refl;
-}
+faults-local = local-of faults refl refl refl refl refl refl refl refl refl (λ k. refl)
 
 fault-member : (m : Member) → T (properMember m) → faults (memberToken m) ≡ []
 unfolding faults

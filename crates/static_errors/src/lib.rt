@@ -85,15 +85,15 @@ fn bad_codes(table: &[u32], k: usize, rule: u32) -> bool
 {
     let f = tokens::form(table[k]);
     if f == tokens::FORM_CODE {
-        return bad_code(rule, table[k + 1]);
+        return bad_code(rule, table[k + tokens::VALUE]);
     }
     if f != tokens::FORM_RANGE {
         return false;
     }
-    if bad_end(rule, table[k + 1], table[k + 2]) {
+    if bad_end(rule, table[k + tokens::FROM_CODED], table[k + tokens::FROM]) {
         return true;
     }
-    bad_end(rule, table[k + 3], table[k + 4])
+    bad_end(rule, table[k + tokens::TO_CODED], table[k + tokens::TO])
 }
 
 fn runs_back(table: &[u32], k: usize) -> bool
@@ -103,7 +103,7 @@ fn runs_back(table: &[u32], k: usize) -> bool
     if tokens::form(table[k]) != tokens::FORM_RANGE {
         return false;
     }
-    table[k + 4] < table[k + 2]
+    table[k + tokens::TO] < table[k + tokens::FROM]
 }
 
 fn no_class(table: &[u32], k: usize) -> bool
@@ -113,7 +113,7 @@ fn no_class(table: &[u32], k: usize) -> bool
     if tokens::form(table[k]) != tokens::FORM_CLASS {
         return false;
     }
-    category::CLASSES <= category::class_of(table[k + 1], table[k + 2])
+    category::CLASSES <= category::class_of(table[k + tokens::CAPITAL], table[k + tokens::SMALL])
 }
 
 fn lacks(table: &[u32], k: usize, index: &[u32], n: usize) -> bool
@@ -247,21 +247,28 @@ pub fn static_refusal(table: &[u32], end: usize) -> Ruling
     refusal(table, end, &index, n)
 }
 
+// The characters of `1.0` in a token at the table's start.
+const ONE_LENGTH: u32 = 3;
+
+const SECOND: usize = tokens::CHARS + 1;
+
+const THIRD: usize = tokens::CHARS + 2;
+
 // The name at the table's start is `1.0`.
 fn is_one(table: &[u32]) -> bool
     requires { ⌜ Named (now table) 0 ⌝ }
     ensures { λ r. ⌜ r ≡ same (nameAt (now (table .entry)) 0) (chars "1.0") ⌝ }
 {
-    if table[1] != 3 {
+    if table[tokens::COUNT] != ONE_LENGTH {
         return false;
     }
-    if table[2] != 0x31 {
+    if table[tokens::CHARS] != 0x31 {
         return false;
     }
-    if table[3] != 0x2e {
+    if table[SECOND] != 0x2e {
         return false;
     }
-    table[4] == 0x30
+    table[THIRD] == 0x30
 }
 
 // A prolog names a version other than `1.0`.

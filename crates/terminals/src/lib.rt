@@ -53,15 +53,23 @@ fn member_matches(table: &[u32], at: usize, c: u32) -> bool
 {
     let kind = table[at];
     if kind == tokens::MEMBER_QUOTED {
-        return is_among(table, at + 2, text::wide(table[at + 1]), c);
+        return is_among(
+            table,
+            at + tokens::CHARS,
+            text::wide(table[at + tokens::COUNT]),
+            c,
+        );
     }
     if kind == tokens::MEMBER_CODED {
-        return c == table[at + 1];
+        return c == table[at + tokens::VALUE];
     }
     if kind == tokens::MEMBER_RANGE {
-        return text::between(c, table[at + 2], table[at + 4]);
+        return text::between(c, table[at + tokens::FROM], table[at + tokens::TO]);
     }
-    category::in_class(category::class_of(table[at + 1], table[at + 2]), c)
+    category::in_class(
+        category::class_of(table[at + tokens::CAPITAL], table[at + tokens::SMALL]),
+        c,
+    )
 }
 
 // One of the members from a place on matches a character.
@@ -86,7 +94,13 @@ pub fn terminal_fits(table: &[u32], at: usize, text: &[u32], i: CharPlace) -> bo
 {
     let kind = table[at];
     if kind < tokens::CODED {
-        return spells(table, at + 2, text::wide(table[at + 1]), text, i);
+        return spells(
+            table,
+            at + tokens::CHARS,
+            text::wide(table[at + tokens::COUNT]),
+            text,
+            i,
+        );
     }
     if tokens::RULE_HEAD <= kind {
         return true;
@@ -97,7 +111,7 @@ pub fn terminal_fits(table: &[u32], at: usize, text: &[u32], i: CharPlace) -> bo
     }
     let c = text[place];
     if kind < tokens::INCLUDE {
-        return table[at + 1] == c;
+        return table[at + tokens::VALUE] == c;
     }
     let found = any_member(table, at + 1, c);
     if kind < tokens::EXCLUDE {

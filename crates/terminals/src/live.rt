@@ -51,15 +51,23 @@ fn member_is_live(table: &[u32], at: usize) -> bool
 {
     let kind = table[at];
     if kind == tokens::MEMBER_QUOTED {
-        return some_known(table, at + 2, text::wide(table[at + 1]));
+        return some_known(
+            table,
+            at + tokens::CHARS,
+            text::wide(table[at + tokens::COUNT]),
+        );
     }
     if kind == tokens::MEMBER_CODED {
-        return alphabet::known(table[at + 1]);
+        return alphabet::known(table[at + tokens::VALUE]);
     }
     if kind == tokens::MEMBER_RANGE {
-        return alphabet::rank(table[at + 2]) < alphabet::rank_past(table[at + 4]);
+        return alphabet::rank(table[at + tokens::FROM])
+            < alphabet::rank_past(table[at + tokens::TO]);
     }
-    category::class_is_known(category::class_of(table[at + 1], table[at + 2]))
+    category::class_is_known(category::class_of(
+        table[at + tokens::CAPITAL],
+        table[at + tokens::SMALL],
+    ))
 }
 
 // One of the members from a place on does.
@@ -95,10 +103,14 @@ pub fn is_live(table: &[u32], at: usize) -> bool
 {
     let kind = table[at];
     if kind < tokens::CODED {
-        return all_known(table, at + 2, text::wide(table[at + 1]));
+        return all_known(
+            table,
+            at + tokens::CHARS,
+            text::wide(table[at + tokens::COUNT]),
+        );
     }
     if kind < tokens::INCLUDE {
-        return alphabet::known(table[at + 1]);
+        return alphabet::known(table[at + tokens::VALUE]);
     }
     if kind < tokens::EXCLUDE {
         return some_member_is_live(table, at + 1);

@@ -52,18 +52,23 @@ fn mark_member(table: &[u32], at: usize, places: &mut [bool], categories: &mut [
 {
     let kind = table[at];
     if kind == tokens::MEMBER_QUOTED {
-        mark_quoted(table, at + 2, text::wide(table[at + 1]), places);
+        mark_quoted(
+            table,
+            at + tokens::CHARS,
+            text::wide(table[at + tokens::COUNT]),
+            places,
+        );
         return;
     }
     if kind == tokens::MEMBER_CODED {
-        mark_range(places, table[at + 1], table[at + 1]);
+        mark_range(places, table[at + tokens::VALUE], table[at + tokens::VALUE]);
         return;
     }
     if kind == tokens::MEMBER_RANGE {
-        mark_range(places, table[at + 2], table[at + 4]);
+        mark_range(places, table[at + tokens::FROM], table[at + tokens::TO]);
         return;
     }
-    let class = category::class_of(table[at + 1], table[at + 2]);
+    let class = category::class_of(table[at + tokens::CAPITAL], table[at + tokens::SMALL]);
     let span = category::class_categories(class);
     mark(categories, span.first, span.past);
 }

@@ -127,15 +127,20 @@ fn put_coded(out: &mut [u8], limit: BytePlace, pos: BytePlace, n: usize) -> Byte
     put_hex(out, limit, q, PAST_CHARACTERS)
 }
 
+// The cells of a range's end: whether it is coded, and its character.
+const END_CHARACTER: usize = tokens::FROM - tokens::FROM_CODED;
+
+const END_CELLS: usize = tokens::TO - tokens::FROM;
+
 // An end of a range: a character after 0, or a hex number.
 fn put_end(out: &mut [u8], limit: BytePlace, pos: BytePlace, t: &[u32], k: usize) -> BytePlace
     requires { ⌜ (limit .0 ≤ length (now out)) × (k + 2 ≤ length (now t)) ⌝ }
     ensures { λ r. ⌜ Wrote (limit .0) (pos .0) (now (out .entry)) (r .0) (now (out .exit)) (endAt (now (t .entry)) k) ⌝ }
 {
     if tokens::look(t, k) == 0 {
-        return put_quoted(out, limit, pos, t, k + 1, 1);
+        return put_quoted(out, limit, pos, t, k + END_CHARACTER, 1);
     }
-    put_coded(out, limit, pos, tokens::look(t, k + 1))
+    put_coded(out, limit, pos, tokens::look(t, k + END_CHARACTER))
 }
 
 fn put_range(out: &mut [u8], limit: BytePlace, pos: BytePlace, t: &[u32], k: usize) -> BytePlace
@@ -144,8 +149,10 @@ fn put_range(out: &mut [u8], limit: BytePlace, pos: BytePlace, t: &[u32], k: usi
 {
     let q = put_end(out, limit, pos, t, k);
     let q = markup::put(out, limit, q, b'-');
-    put_end(out, limit, q, t, k + 2)
+    put_end(out, limit, q, t, k + END_CELLS)
 }
+
+const SECOND_LETTER: usize = tokens::SMALL - tokens::CAPITAL;
 
 // A class of one letter, before 0, or of two.
 fn put_class(out: &mut [u8], limit: BytePlace, pos: BytePlace, t: &[u32], k: usize) -> BytePlace
@@ -153,15 +160,12 @@ fn put_class(out: &mut [u8], limit: BytePlace, pos: BytePlace, t: &[u32], k: usi
     ensures { λ r. ⌜ Wrote (limit .0) (pos .0) (now (out .entry)) (r .0) (now (out .exit)) (classAt (now (t .entry)) k) ⌝ }
 {
     let q = markup::put_char(out, limit, pos, tokens::look(t, k));
-    let d = tokens::look(t, k + 1);
+    let d = tokens::look(t, k + SECOND_LETTER);
     if d == 0 {
         return q;
     }
     markup::put_char(out, limit, q, d)
 }
-
-// Characters as they are (markup::put_text).
-const PLAIN: usize = 0;
 
 // What the token at k holds.
 fn put_held(out: &mut [u8], limit: BytePlace, pos: BytePlace, t: &[u32], k: usize) -> BytePlace
@@ -169,21 +173,21 @@ fn put_held(out: &mut [u8], limit: BytePlace, pos: BytePlace, t: &[u32], k: usiz
     ensures { λ r. ⌜ Wrote (limit .0) (pos .0) (now (out .entry)) (r .0) (now (out .exit)) (heldAt (formOf (getD (now (t .entry)) k 0)) (now (t .entry)) k) ⌝ }
 {
     let form = tokens::form(t[k]);
-    let second = tokens::look(t, k + 1);
+    let second = tokens::look(t, k + tokens::COUNT);
     if form < tokens::FORM_TEXT {
-        return markup::put_text(out, limit, pos, PLAIN, t, k + 2, second);
+        return markup::put_text(out, limit, pos, markup::PLAIN, t, k + tokens::CHARS, second);
     }
     if form == tokens::FORM_TEXT {
-        return put_quoted(out, limit, pos, t, k + 2, second);
+        return put_quoted(out, limit, pos, t, k + tokens::CHARS, second);
     }
     if form == tokens::FORM_CODE {
         return put_coded(out, limit, pos, second);
     }
     if form == tokens::FORM_RANGE {
-        return put_range(out, limit, pos, t, k + 1);
+        return put_range(out, limit, pos, t, k + tokens::FROM_CODED);
     }
     if form == tokens::FORM_CLASS {
-        return put_class(out, limit, pos, t, k + 1);
+        return put_class(out, limit, pos, t, k + tokens::CAPITAL);
     }
     pos
 }

@@ -92,6 +92,33 @@ pub const FORM_CLASS: u32 = 5;
 
 pub const FORM_BARE: u32 = 6;
 
+// What stands after a token's kind, by its form: the count of its characters, and they; a hex number's value; for each end of a range whether
+// it is coded, and its character; the letters of a class.
+pub const COUNT: usize = 1;
+
+pub const CHARS: usize = 2;
+
+pub const VALUE: usize = 1;
+
+pub const FROM_CODED: usize = 1;
+
+pub const FROM: usize = 2;
+
+pub const TO_CODED: usize = 3;
+
+pub const TO: usize = 4;
+
+pub const CAPITAL: usize = 1;
+
+pub const SMALL: usize = 2;
+
+// The cells of a token of a form.
+pub const CODE_CELLS: usize = 2;
+
+pub const RANGE_CELLS: usize = 5;
+
+pub const CLASS_CELLS: usize = 3;
+
 // A number of a table, 0 past its end.
 pub fn look(t: &[u32], i: usize) -> usize
     ensures { λ r. ⌜ (r ≡ getD (now (t .entry)) i 0) × (r < 4294967296) ⌝ }
@@ -157,16 +184,16 @@ pub fn token_end(table: &[u32], k: usize) -> usize
 {
     let f = form(table[k]);
     if f < FORM_CODE {
-        return k + (text::wide(table[k + 1]) + 2);
+        return k + (text::wide(table[k + COUNT]) + CHARS);
     }
     if f == FORM_CODE {
-        return k + 2;
+        return k + CODE_CELLS;
     }
     if f == FORM_RANGE {
-        return k + 5;
+        return k + RANGE_CELLS;
     }
     if f == FORM_CLASS {
-        return k + 3;
+        return k + CLASS_CELLS;
     }
     k + 1
 }
@@ -176,8 +203,8 @@ pub fn same_name(table: &[u32], a: usize, b: usize) -> bool
     requires { ⌜ Names (now table) a b ⌝ }
     ensures { λ r. ⌜ r ≡ same (nameAt (now (table .entry)) a) (nameAt (now (table .entry)) b) ⌝ }
 {
-    let count = text::wide(table[a + 1]);
-    if text::wide(table[b + 1]) != count {
+    let count = text::wide(table[a + COUNT]);
+    if text::wide(table[b + COUNT]) != count {
         return false;
     }
     // Names that are made by counting differ at their ends.
@@ -186,7 +213,7 @@ pub fn same_name(table: &[u32], a: usize, b: usize) -> bool
     }
     let mut i = 0;
     while i < count {
-        if table[a + 2 + i] != table[b + 2 + i] {
+        if table[a + CHARS + i] != table[b + CHARS + i] {
             return false;
         }
         i += 1;
@@ -202,8 +229,8 @@ fn is_named(table: &[u32], at: usize) -> bool
     if size <= at {
         return false;
     }
-    let count = look(table, at + 1);
-    if size < at + 2 + count {
+    let count = look(table, at + COUNT);
+    if size < at + CHARS + count {
         return false;
     }
     true

@@ -52,7 +52,7 @@ fn put_quoted(
         → Wrote (limit .0) (pos .0) (now (out .entry)) (q .0) (now (out .exit)) (pick quoted (concatMap (escape true) t) (chars ""))) ⌝ }
 {
     if quoted {
-        return markup::put_piece(out, limit, pos, 2, table, record, p);
+        return markup::put_piece(out, limit, pos, markup::IN_VALUE, table, record, p);
     }
     pos
 }
@@ -161,7 +161,7 @@ fn put_text(table: &[u32], record: &[u32], out: &mut [u8], o: Output, p: Piece) 
     let due = o.due;
     let q = o.pos;
     let q = markup::put_lead(out, limit, q, o.unclosed);
-    let pos = markup::put_piece(out, limit, q, 1, table, record, p);
+    let pos = markup::put_piece(out, limit, q, markup::IN_CONTENT, table, record, p);
     Output {
         limit,
         pos,

@@ -101,21 +101,37 @@ fn some_odd(t: &[u32], from: usize, count: usize, name: bool) -> bool
     false
 }
 
+// The second character of a token.
+const AFTER_FIRST: usize = tokens::CHARS + 1;
+
 // Whether the name that a token holds is no XML name.
 pub fn bad_name(table: &[u32], token: usize) -> bool
     requires { ⌜ token < 4294967298 ⌝ }
     ensures { λ r. ⌜ ((k : ℕ) (n : Text) → Named (now (table .entry)) token k n → r ≡ not (xmlName n)) ⌝ }
 {
-    let n = tokens::look(table, token + 1);
+    let n = tokens::look(table, token + tokens::COUNT);
     if n == 0 {
         return true;
     }
-    let first = tokens::look(table, token + 2) as u32;
+    let first = tokens::look(table, token + tokens::CHARS) as u32;
     if name_start(first) {
-        return some_odd(table, token + 3, n - 1, true);
+        return some_odd(table, token + AFTER_FIRST, n - 1, true);
     }
     true
 }
+
+// The letters of xmlns in a token that holds it.
+const XMLNS_LENGTH: usize = 5;
+
+const X: usize = tokens::CHARS;
+
+const M: usize = X + 1;
+
+const L: usize = X + 2;
+
+const N: usize = X + 3;
+
+const S: usize = X + 4;
 
 // Whether a character stands at a place, and those after it are right too.
 fn spells(t: &[u32], at: usize, c: usize, after: bool) -> bool
@@ -132,14 +148,14 @@ fn is_xmlns(table: &[u32], token: usize) -> bool
     requires { ⌜ token < 4294967298 ⌝ }
     ensures { λ r. ⌜ ((k : ℕ) (n : Text) → Named (now (table .entry)) token k n → r ≡ same n (chars "xmlns")) ⌝ }
 {
-    if tokens::look(table, token + 1) != 5 {
+    if tokens::look(table, token + tokens::COUNT) != XMLNS_LENGTH {
         return false;
     }
-    let r = spells(table, token + 6, 0x73, true);
-    let r = spells(table, token + 5, 0x6e, r);
-    let r = spells(table, token + 4, 0x6c, r);
-    let r = spells(table, token + 3, 0x6d, r);
-    spells(table, token + 2, 0x78, r)
+    let r = spells(table, token + S, 0x73, true);
+    let r = spells(table, token + N, 0x6e, r);
+    let r = spells(table, token + L, 0x6c, r);
+    let r = spells(table, token + M, 0x6d, r);
+    spells(table, token + X, 0x78, r)
 }
 
 // Whether some character of a terminal's text is no XML character.

@@ -14,7 +14,7 @@ use std::{fmt, thread};
 
 use ixml::limits::{main_table, GRAMMAR_TABLE, RECORD_CHARACTERS};
 use ixml::Answer;
-use ixml_yardstick::gen::{Random, Style};
+use ixml_yardstick::gen::Random;
 use ixml_yardstick::{gen, statics, syntax};
 use lent::Lent;
 
@@ -106,14 +106,7 @@ impl Job {
     /// A made-up job of any style, mostly with a short record and now and then
     /// with a damaged one.
     pub fn made_up(random: &mut Random) -> Job {
-        let style = *random.pick(&Style::ALL);
-        let longest = match random.below(1000) {
-            0..=1 => RECORD_CHARACTERS,
-            2..=49 => 40,
-            50..=299 => 20,
-            _ => 8,
-        };
-        let job = gen::job(random, style, longest);
+        let job = gen::any_job(random);
         let mut job = Job::new(job.grammar, job.record);
         if random.chance(2) {
             grammars::spoil(random, &mut job.grammar);

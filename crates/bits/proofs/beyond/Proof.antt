@@ -5,12 +5,12 @@ use mathlib.Core.Logic.{_⊎_, inl, inr, ⊎-elim}
 use Prim.Native.Nat.{ℕ, _+_, _*_, _-_, _/_, _%_, _^_, _<_, _≤_}
 use lib.ListN.{length, getD}
 use Rattle.bits.specs.Bits.{bitOf, Lit, Has}
-use Rattle.bits.proofs.Laws.{lit-or, lit-and, lit-zero, lit-shifted, lit-power, has-put, masked-next}
+use Rattle.bits.proofs.Laws.{beyond-of}
 use Rattle.bits.proofs.beyond.Statement.{statement}
 use Rattle.bits.proofs.beyond.Tie as tie
 
 returns : tie.Need-returns
-returns c = λ k h. lit-and h .0
+returns c = beyond-of _ _
 
 pub beyond-spec : {M : Type 1} → statement M
 beyond-spec = tie.close (tie.spec returns)

@@ -5,7 +5,6 @@ use mathlib.Core.Logic.{_⊎_, inl, inr, ⊎-elim}
 use Prim.Native.Nat.{ℕ, _+_, _*_, _-_, _/_, _%_, _^_, _<_, _≤_}
 use lib.ListN.{length, getD}
 use Rattle.bits.specs.Bits.{bitOf, Lit, Has}
-use Rattle.bits.proofs.Laws.{lit-or, lit-and, lit-zero, lit-shifted, lit-power, has-put, masked-next}
 use lib.Pow.{shl-exact}
 use Rattle.bits.proofs.power.Statement.{statement}
 use Rattle.bits.proofs.power.Tie as tie

@@ -4,8 +4,8 @@ use mathlib.Core.Path.{_≡_, refl, sym, ap, subst, _∙_}
 use mathlib.Core.Logic.{_⊎_, inl, inr, ⊎-elim}
 use Prim.Native.Nat.{ℕ, _+_, _*_, _-_, _/_, _%_, _^_, _<_, _≤_}
 use lib.ListN.{length, getD}
-use Rattle.bits.specs.Bits.{bitOf, Lit, Has}
-use Rattle.bits.proofs.Laws.{lit-or, lit-and, lit-zero, lit-shifted, lit-power, has-put, masked-next}
+use Rattle.bits.specs.Bits.{Lit, Has, Union}
+use Rattle.bits.proofs.Laws.{put-adds}
 use Rattle.bits.proofs.put.Statement.{statement}
 use Rattle.bits.proofs.put.Tie as tie
 
@@ -31,7 +31,9 @@ element-write-set : tie.Need-element-write-set
 element-write-set c = search needs
 
 returns : tie.Need-returns
-returns c = λ y w. has-put _ _ refl (λ k u. ⊎-elim inl (λ v. inr (subst (λ (x : ℕ). Lit x k) (c .before .power .ensures) v)) (c .join .ensures k u)) w
+returns c =
+    let pre = c .before .before .before .pre in
+    put-adds (c .before .before .before .args .set .now) pre refl (rw (c .before .power .ensures) at (c .join .ensures))
 
 pub put-spec : {M : Type 1} → statement M
 put-spec = tie.close (tie.spec cast-b mul-join element-copy-out-join power-requires join-requires mul-set element-write-set returns)

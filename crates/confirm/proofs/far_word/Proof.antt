@@ -8,18 +8,18 @@ use Prim.Native.Nat.{ℕ, _+_, _*_, _-_, _/_, _%_, _^_, _<_, _≤_}
 use lib.ListN.{length, getD}
 use Rattle.bits.specs.Bits.{Lit, Has}
 use Rattle.confirm.specs.Find.{Words}
-use Rattle.confirm.proofs.Reaches.{words-start, words-next}
+use Rattle.confirm.proofs.Reaches.{words-start, words-none, words-next, words-end}
 use Rattle.confirm.proofs.far_word.Statement.{statement}
 use Rattle.confirm.proofs.far_word.Tie as tie
 
 abbrev Inv-loop : tie.InvT-loop
-Inv-loop table code text word best size p v far₀ b₀ far b = Words table code text p v word best far
+Inv-loop table code text word best size p v far₀ b₀ far b = Words table code text p v word b best far
 
 abbrev μ-loop : tie.MeasureT-loop
 μ-loop table code text word best size p v far₀ b₀ far b = 32 - b
 
 returns : tie.Need-returns Inv-loop μ-loop
-returns c = words-start
+returns c = words-none (c .if1 .taken)
 
 loop-holds : tie.Need-loop-holds Inv-loop μ-loop
 loop-holds c = words-start
@@ -50,11 +50,11 @@ loop-again c =
     let at-loop-test = c .before .before .before in
     let at-loop = at-loop-test .before in
     let start = at-loop .before .before .before .before .before in
-    words-next (at-loop-test .loop-test .taken) (ap (λ (y : ℕ). 32 * start .args .s .x + y) (c .before .before .wide .ensures)) (c .before .lit .ensures) (at-loop .loop .inv)
-    (c .far-one .ensures)
+    words-next (at-loop-test .loop-test .taken) (ap (λ (y : ℕ). 32 * start .args .s .x + y) (c .before .before .wide .ensures)) (c .before .lit .ensures .0)
+    (c .before .lit .ensures .1) (at-loop .loop .inv) (c .far-one .ensures)
 
 returns-2 : tie.Need-returns-2 Inv-loop μ-loop
-returns-2 c = c .before .loop .inv
+returns-2 c = words-end (c .loop-test .left) (c .before .loop .inv)
 
 pub far-word-spec : {M : Type 1} → statement M
 far-word-spec = tie.close (tie.spec Inv-loop μ-loop returns loop-holds mul-x wide-requires add-x lit-requires far-one-requires add-b loop-less loop-again returns-2)

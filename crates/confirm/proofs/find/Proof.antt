@@ -1,16 +1,10 @@
 use borrow.Author.Needs.{needs}
 use native.Mathlib.Omega.{arith}
-use mathlib.Core.Bool.{Bool, true, false}
-use mathlib.Core.Path.{_≡_, refl, sym, ap, subst, _∙_}
-use mathlib.Core.List.{List}
-use mathlib.Core.Logic.{_⊎_, inl, inr, ⊎-elim}
-use Prim.Native.Nat.{ℕ, _+_, _*_, _-_, _/_, _%_, _^_, _<_, _≤_}
-use lib.ListN.{length, getD}
-use Rattle.bits.specs.Bits.{Lit, Has}
+use Prim.Native.Nat.{ℕ}
 use lib.ListN.{length-replicate}
 use Rattle.chart.proofs.Users.{all-zero}
 use Rattle.ends.proofs.Laws.{ground-as}
-use Rattle.confirm.proofs.Rows.{no-member}
+use Rattle.standing.proofs.Rows.{no-member}
 use Rattle.confirm.proofs.Reaches.{ground-for, confirmed}
 use Rattle.confirm.proofs.find.Statement.{statement}
 use Rattle.confirm.proofs.find.Tie as tie
@@ -43,10 +37,12 @@ stand-requires c κs =
       record {
         ground = ground-as (at-fill .fill .ensures .long) (ground-for (start .pre) (at-list-firsts .list-firsts .ensures));
         sound = at-fill .fill .ensures .sound;
+        complete = at-fill .fill .ensures .complete;
         root = start .pre .root;
         inside = start .pre .inside;
       },
       no-member,
+      length-replicate {A = ℕ} 8192 0,
     )
 
 sure-requires : tie.Need-sure-requires
@@ -54,53 +50,18 @@ sure-requires c κs =
     let start = c .before .before .before .before .before .before .before .before .before .before .before .before .before .before .before .before .before .before .before in
     record { tokened = start .pre .tokened; short = start .pre .short; on = omega arith }
 
-bound-requires : tie.Need-bound-requires
-bound-requires c κs =
-    let start = c .before .before .before .before .before .before .before .before .before .before .before .before .before .before .before .before .before .before .before .before in
-    record { ranging = record { tokened = start .pre .tokened; short = start .pre .short; on = omega arith }; long = start .pre .marks-long }
-
 same-length : tie.Need-same-length
-same-length c = c .before .before .before .before .before .before .before .before .before .before .fill .ensures .long
+same-length c =
+    let at-fill = c .before .before .before .before .before .before .before .before in
+    at-fill .fill .ensures .long
 
 returns : tie.Need-returns
 returns c =
-    let at-stand = c .before .before .before .before in
+    let at-stand = c .before .before in
     let at-fill = at-stand .before .before .before .before .before .before in
     let at-list-firsts = at-fill .before .before .before .before in
-    let start = at-list-firsts .before .before .before .before .before .before .before .before in (
-      at-fill .fill .ensures .long,
-      λ h. confirmed (start .pre .long) (start .pre .tokened .shape .small) (at-list-firsts .list-firsts .ensures) (at-stand .stand .ensures)
-          (c .before .before .sure .ensures) (c .before .bound .ensures) (c .if1 .taken),
-    )
-
-add-t30 : tie.Need-add-t30
-add-t30 c =
-    let start = c .before .before .before .before .before .before .before .before .before .before .before .before .before .before .before .before .before .before .before .before .before .before in
-    omega (arith, start .pre .long, start .pre .short)
-
-same-length-2 : tie.Need-same-length-2
-same-length-2 c = c .before .before .before .before .before .before .before .before .before .before .fill .ensures .long
-
-returns-2 : tie.Need-returns-2
-returns-2 c =
-    let at-fill = c .before .before .before .before .before .before .before .before .before .before in
-    let start = at-fill .before .before .before .before .before .before .before .before .before .before .before .before in
-    (at-fill .fill .ensures .long, λ h. absurd (omega (arith, h, start .pre .long)))
+    let start = at-list-firsts .before .before .before .before .before .before .before .before in
+    (at-fill .fill .ensures .long, confirmed (start .pre .long) (start .pre .tokened .shape .small) (at-list-firsts .list-firsts .ensures) (at-stand .stand .ensures) (c .sure .ensures))
 
 pub find-spec : {M : Type 1} → statement M
-find-spec =
-    tie.close
-    (tie.spec
-    slice-aggregate-list-firsts
-    list-firsts-requires
-    slice-aggregate-fill
-    fill-requires
-    slice-aggregate-stand
-    stand-requires
-    sure-requires
-    bound-requires
-    same-length
-    returns
-    add-t30
-    same-length-2
-    returns-2)
+find-spec = tie.close (tie.spec slice-aggregate-list-firsts list-firsts-requires slice-aggregate-fill fill-requires slice-aggregate-stand stand-requires sure-requires same-length returns)

@@ -3,7 +3,7 @@ use borrow.Author.Tests.{not-true, not-false}
 use Rattle.opening.proofs.Texts.{got-part}
 use Rattle.job.proofs.Readings.{choosable}
 use Rattle.job.proofs.Parsed.{readable}
-use Rattle.state.proofs.Cells.{not-so}
+use Rattle.tells.proofs.Tells.{not-so}
 use Rattle.resume.proofs.Lines.{resumed-at}
 use Rattle.ending.proofs.Ended.{not-resumed, not-yet, other-table, parsed}
 use borrow.Author.Needs.{needs}
@@ -98,7 +98,8 @@ returns-3 c =
     let at-finished = at-if1 .before in
     let at-begun = at-finished .before .before .before .before in
     λ j w. (let s = resumed-at j _ _ _ _ _ (at-begun .begun .given .1) w in
-    other-table j _ _ _ _ _ _ _ s (at-finished .finished .ensures .yes (not-false (at-finished .finished .result) (at-if1 .if1 .left))) _ (at-finish .finish .ensures (s .started .grammar .tree) (s .started .grammar .ready))
+    other-table j _ _ _ _ _ _ _ s (at-finished .finished .ensures .yes (not-false (at-finished .finished .result) (at-if1 .if1 .left))) _
+    (at-finish .finish .ensures (s .started .grammar .tree) (s .started .grammar .ready))
     (at-enum-told2 .enum-told2 .given .1) _ (at-plain2 .plain2 .ensures) (at-refused3 .refused3 .ensures))
 
 parse-of-requires : tie.Need-parse-of-requires
@@ -118,7 +119,8 @@ returns-4 c =
     let at-rounds = at-wide .before in
     let at-begun = at-rounds .before .before in
     λ j w. (let s = resumed-at j _ _ _ _ _ (at-begun .begun .given .1) w in
-    parsed j _ _ _ _ _ _ _ s (at-finished .finished .ensures .yes (not-false (at-finished .finished .result) (at-if1 .if1 .left))) _ (at-finish .finish .ensures (s .started .grammar .tree) (s .started .grammar .ready))
+    parsed j _ _ _ _ _ _ _ s (at-finished .finished .ensures .yes (not-false (at-finished .finished .result) (at-if1 .if1 .left))) _
+    (at-finish .finish .ensures (s .started .grammar .tree) (s .started .grammar .ready))
     _ (at-ended .ended .given .1) (at-parse-of .parse-of .ensures) (at-wide .wide .ensures ∙ at-rounds .rounds .ensures))
 
 pub end-read-spec : {M : Type 1} → statement M

@@ -21,7 +21,9 @@ add-if1-2 : tie.Need-add-if1-2
 add-if1-2 c = omega (arith, c .before .before .pre .row .small, c .before .before .pre .on, c .before .before .pre .row .short)
 
 shared-slice-read-if1 : tie.Need-shared-slice-read-if1
-shared-slice-read-if1 c = omega (arith, c .before .before .before .pre .row .small, c .before .before .before .pre .on, c .before .before .before .pre .row .short, c .before .before .before .pre .long)
+shared-slice-read-if1 c =
+    let pre = c .before .before .before .pre in
+    omega (arith, pre .row .small, pre .on, pre .row .short, pre .long)
 
 returns : tie.Need-returns
 returns c = opened-none (λ b. omega (arith, c .if1 .taken, b))

@@ -9,15 +9,15 @@ use lib.ListN.{length, getD}
 use Rattle.bits.specs.Bits.{Lit, Has}
 use Rattle.reach.specs.Work.{Listed}
 use Rattle.ends.specs.Spans.{OnList}
-use Rattle.ends.specs.Table.{Settled}
 use Rattle.ends.proofs.Reach.{link-here, link-less, link-next}
-use Rattle.ends.proofs.Laws.{tried-next, ground-as, settled-start}
+use Rattle.ends.proofs.Laws.{ground-as}
+use Rattle.ends.proofs.Rounds.{Trials, trials-start, trials-next, trials-end}
 use Rattle.ends.proofs.derive.Statement.{statement}
 use Rattle.ends.proofs.derive.Tie as tie
 
 abbrev Inv-loop : tie.InvT-loop
-Inv-loop code firsts marks main₀ s rule grew₀ x₀ main grew x = (x ≤ s .size) × ((u : ℕ) → Listed firsts x u → OnList firsts (s .rule) u) × Settled code firsts marks (s .size) (s .n)
-    (s .m) main₀ main
+Inv-loop code firsts marks main₀ s rule grew₀ x₀ main grew x = (x ≤ s .size) × ((u : ℕ) → Listed firsts x u → OnList firsts (s .rule) u) × Trials code firsts marks (s .size) (s .n)
+    (s .m) (s .rule) x main₀ main grew
 
 abbrev μ-loop : tie.MeasureT-loop
 μ-loop code firsts marks main₀ s rule grew₀ x₀ main grew x = x
@@ -37,7 +37,7 @@ wide-requires c κs = search needs
 loop-holds : tie.Need-loop-holds Inv-loop μ-loop
 loop-holds c =
     let start = c .before .before .before .before .before .before in
-    rw (c .wide .ensures) (start .pre .0 .ground .linked .last _ (start .pre .1), λ u z. z, settled-start (start .pre .0))
+    rw (c .wide .ensures) (start .pre .0 .ground .linked .last _ (start .pre .1), λ u z. z, trials-start refl (start .pre .0))
 
 sub-alternative : tie.Need-sub-alternative Inv-loop μ-loop
 sub-alternative c = omega (arith, c .before .loop-test .taken)
@@ -47,8 +47,8 @@ alternative-requires c κs =
     let start = c .before .before .before .before .before .before .before .before .before in
     record {
       lists = start .args .firsts .now;
-      ground = ground-as (c .before .before .loop .inv .2 .long) (start .pre .0 .ground);
-      sound = c .before .before .loop .inv .2 .sound;
+      ground = ground-as (c .before .before .loop .inv .2 .settled .long) (start .pre .0 .ground);
+      sound = c .before .before .loop .inv .2 .settled .sound;
       listed = link-here (start .pre .0 .ground .linked) (start .pre .1) (c .before .loop-test .taken) (c .before .before .loop .inv .1);
       on = start .pre .0 .on;
       inside = start .pre .1;
@@ -99,15 +99,16 @@ loop-again c =
     rw (c .wide2 .ensures) (
       omega (arith, at-loop .loop .inv .0, link-less (start .pre .0 .ground .linked) (start .pre .1) (at-loop-test .loop-test .taken) (at-loop .loop .inv .1)),
       link-next (start .pre .0 .ground .linked) (start .pre .1) (at-loop-test .loop-test .taken) (at-loop .loop .inv .1),
-      tried-next (start .pre .0 .ground) (link-here (start .pre .0 .ground .linked) (start .pre .1) (at-loop-test .loop-test .taken) (at-loop .loop .inv .1)) (at-loop .loop .inv .2)
-          (at-alternative .alternative .ensures),
+      trials-next (at-loop .loop .grew) (at-alternative .alternative .result) (start .pre .0 .ground)
+          (link-here (start .pre .0 .ground .linked) (start .pre .1) (at-loop-test .loop-test .taken) (at-loop .loop .inv .1)) (at-loop-test .loop-test .taken) refl (at-loop .loop .inv .2)
+          (at-alternative .alternative .ensures) (c .before .before .either .ensures),
     )
 
 same-length : tie.Need-same-length Inv-loop μ-loop
-same-length c = c .before .loop .inv .2 .long
+same-length c = c .before .loop .inv .2 .settled .long
 
 returns : tie.Need-returns Inv-loop μ-loop
-returns c = c .before .loop .inv .2
+returns c = trials-end (omega (arith, c .loop-test .left)) (c .before .loop .inv .2)
 
 pub derive-spec : {M : Type 1} → statement M
 derive-spec =

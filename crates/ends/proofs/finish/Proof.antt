@@ -8,20 +8,20 @@ use Prim.Native.Nat.{ℕ, _+_, _*_, _-_, _/_, _%_, _^_, _<_, _≤_}
 use lib.ListN.{length, getD}
 use Rattle.bits.specs.Bits.{Lit, Has}
 use Rattle.moves.specs.Moves.{Row}
-use Rattle.ends.specs.Table.{Finished}
 use Rattle.moves.proofs.Cells.{column-on, cell-inside}
-use Rattle.ends.proofs.Cells.{finish-start, finish-step}
+use Rattle.ends.proofs.Cells.{Finishing, finish-start, finish-step, finish-end}
+use borrow.Author.Tests.{eqb-true, eqb-false, not-true, not-false}
 use Rattle.ends.proofs.finish.Statement.{statement}
 use Rattle.ends.proofs.finish.Tie as tie
 
 abbrev Inv-loop : tie.InvT-loop
-Inv-loop main₀ cur n m rule last grew₀ w₀ main grew w = (m / 32 ≤ w) × Finished n main₀ main rule m cur
+Inv-loop main₀ cur n m rule last grew₀ w₀ main grew w = (m / 32 ≤ w) × Finishing n main₀ main rule m cur w grew
 
 abbrev μ-loop : tie.MeasureT-loop
 μ-loop main₀ cur n m rule last grew₀ w₀ main grew w = last + 1 - w
 
 loop-holds : tie.Need-loop-holds Inv-loop μ-loop
-loop-holds c = (omega arith, finish-start)
+loop-holds c = (omega arith, finish-start (omega arith))
 
 column-requires : tie.Need-column-requires Inv-loop μ-loop
 column-requires c κs = (c .before .before .before .pre .0 .short, c .loop-test .taken)
@@ -91,17 +91,19 @@ loop-again c =
     let at-column = at-cell .before in
     let at-loop-test = at-column .before in
     let at-loop = at-loop-test .before in
-    let start = at-loop .before .before in (
+    let start = at-loop .before .before in
+    let place = rw (at-column .column .ensures) at (at-cell .cell .ensures) in
+    let inside = cell-inside (start .pre .0) (at-loop-test .loop-test .taken) (start .pre .1) (at-loop .loop .inv .0) place in (
       omega (arith, at-loop .loop .inv .0),
-      finish-step (start .pre .1) (at-loop-test .loop-test .taken) (at-loop .loop .inv .0)
-          (rw (at-column .column .ensures) at (at-cell .cell .ensures)) (at-loop .loop .inv .1) (c .before .join .ensures),
+      finish-step (start .pre .1) (at-loop-test .loop-test .taken) (at-loop .loop .inv .0) place (omega (arith, inside, at-loop .loop .inv .1 .long)) (at-loop .loop .inv .1)
+          (c .before .join .ensures) (c .either .ensures) (λ z. eqb-false _ _ (not-true _ z)) (λ z. eqb-true _ _ (not-false _ z)),
     )
 
 same-length : tie.Need-same-length Inv-loop μ-loop
 same-length c = c .before .loop .inv .1 .long
 
 returns : tie.Need-returns Inv-loop μ-loop
-returns c = c .before .loop .inv .1
+returns c = finish-end (c .loop-test .left) (c .before .loop .inv .1)
 
 pub finish-spec : {M : Type 1} → statement M
 finish-spec =

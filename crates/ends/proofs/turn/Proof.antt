@@ -41,16 +41,16 @@ wake-requires c κs =
     (start .pre .2, start .pre .0 .ground .marks-long, omega (arith, start .pre .0 .on, start .pre .0 .ground .short), omega (arith, start .pre .1, start .pre .0 .ground .shape .small))
 
 same-length : tie.Need-same-length
-same-length c = c .before .before .before .before .before .derive .ensures .long
+same-length c = c .before .before .before .before .before .derive .ensures .settled .long
 
 returns-2 : tie.Need-returns-2
-returns-2 c = c .before .before .before .before .before .derive .ensures
+returns-2 c = c .before .before .before .before .before .derive .ensures .settled
 
 same-length-2 : tie.Need-same-length-2
-same-length-2 c = c .before .before .before .derive .ensures .long
+same-length-2 c = c .before .before .before .derive .ensures .settled .long
 
 returns-3 : tie.Need-returns-3
-returns-3 c = c .before .before .before .derive .ensures
+returns-3 c = c .before .before .before .derive .ensures .settled
 
 pub turn-spec : {M : Type 1} → statement M
 turn-spec = tie.close (tie.spec mul-if1 add-if1 add-if1-2 shared-slice-read-if1 returns derive-requires wake-requires same-length returns-2 same-length-2 returns-3)

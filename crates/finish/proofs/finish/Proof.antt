@@ -4,7 +4,8 @@ use Rattle.rules.proofs.Whole.{here}
 use Rattle.heights.proofs.Exact.{safe}
 use Rattle.prepare.proofs.Rows.{fitted}
 use Rattle.full.proofs.Whole.{coded}
-use Rattle.fixpoint.proofs.Tests.{most-by, not-so}
+use Rattle.tells.proofs.Tells.{not-so}
+use Rattle.fixpoint.proofs.Tests.{most-by}
 use Rattle.finish.proofs.Off.{not-finished}
 use borrow.Author.Needs.{needs}
 use native.Mathlib.Omega.{arith}

@@ -1,52 +1,23 @@
-use mathlib.Core.Path.{_≡_, refl, sym, subst}
 use Prim.Native.Nat.{ℕ}
 use lib.ListN.{length-replicate}
 use Rattle.chart.proofs.Users.{all-zero}
-use Rattle.sparse.proofs.Coded.{shape-of}
 use Rattle.plain_reading.proofs.Plain.{finished-plain}
 use Rattle.parser.proofs.Located.{as-walked, fails}
-use Rattle.finish.proofs.Off.{roomy, settled-finished, settled-placing, settled-fault}
+use Rattle.finish.proofs.Off.{settled-walkable, settled-finished, settled-placing, settled-fault}
 use borrow.Author.Needs.{needs}
-use native.Mathlib.Omega.{arith}
 use Rattle.finish.proofs.read_off.Statement.{statement}
 use Rattle.finish.proofs.read_off.Tie as tie
 
-slice-aggregate-mark-all : tie.Need-slice-aggregate-mark-all
-slice-aggregate-mark-all c = search needs
+slice-aggregate-walk-filled : tie.Need-slice-aggregate-walk-filled
+slice-aggregate-walk-filled c = search needs
 
-mark-all-requires : tie.Need-mark-all-requires
-mark-all-requires c κs =
-    let start = c .before .before .before .before .before .before .before in (
-      record {
-        small = start .pre .small;
-        room = omega (arith, start .pre .small, start .pre .code-long);
-        fits-room = omega
-            (arith, start .pre .small, start .pre .fits-long);
-        short = start .pre .short;
-      },
-      length-replicate {A = ℕ} 308736 0,
-    )
+slice-aggregate-walk-filled-2 : tie.Need-slice-aggregate-walk-filled-2
+slice-aggregate-walk-filled-2 c = search needs
 
-slice-aggregate-note-rules : tie.Need-slice-aggregate-note-rules
-slice-aggregate-note-rules c = search needs
-
-note-rules-requires : tie.Need-note-rules-requires
-note-rules-requires c κs =
-    let start = c .before .before .before .before .before .before .before .before .before .before in
-    (shape-of (start .pre .ruled) (start .pre .small) (omega (arith, start .pre .small, start .pre .code-long)), length-replicate {A = ℕ} 2048 0, all-zero 2048)
-
-slice-aggregate-walk : tie.Need-slice-aggregate-walk
-slice-aggregate-walk c = search needs
-
-slice-aggregate-walk-2 : tie.Need-slice-aggregate-walk-2
-slice-aggregate-walk-2 c = search needs
-
-walk-requires : tie.Need-walk-requires
-walk-requires c κs =
-    let at-note-rules = c .before .before .before .before in
-    let at-mark-all = at-note-rules .before .before .before in
-    let start = at-mark-all .before .before .before .before .before .before .before .before in
-    (settled-finished (start .pre) (at-mark-all .mark-all .ensures) (at-note-rules .note-rules .ensures) (start .pre .ruled), start .pre .numbers)
+walk-filled-requires : tie.Need-walk-filled-requires
+walk-filled-requires c κs =
+    let start = c .before .before .before .before .before .before .before .before .before in
+    settled-walkable (start .pre) (length-replicate {A = ℕ} 308736 0) (length-replicate {A = ℕ} 2048 0, all-zero 2048)
 
 enum-told : tie.Need-enum-told
 enum-told c = search needs
@@ -62,12 +33,10 @@ unfolding settled-finished finished-plain
 returns c =
     let at-of-walked = c in
     let at-match = at-of-walked .before in
-    let at-walk = at-match .before .before .before in
-    let at-note-rules = at-walk .before .before .before .before .before in
-    let at-mark-all = at-note-rules .before .before .before in
-    let start = at-mark-all .before .before .before .before .before .before .before .before in
-    λ g k. as-walked g _ _ (at-walk .walk .result) (at-of-walked .of-walked .result) (at-of-walked .of-walked .ensures) (at-match .match .keys2)
-    (at-walk .walk .ensures (settled-finished (start .pre) (at-mark-all .mark-all .ensures) (at-note-rules .note-rules .ensures) k))
+    let at-walk-filled = at-match .before .before .before .before .before in
+    let start = at-walk-filled .before .before .before .before .before .before .before .before .before .before in
+    λ g k. as-walked g _ _ (at-walk-filled .walk-filled .result) (at-of-walked .of-walked .result) (at-of-walked .of-walked .ensures) (at-match .match .keys2)
+    (at-walk-filled .walk-filled .ensures .answers (settled-finished (start .pre) (at-walk-filled .walk-filled .ensures .marked) (at-walk-filled .walk-filled .ensures .noted) k))
 
 slice-aggregate-place : tie.Need-slice-aggregate-place
 slice-aggregate-place c = search needs
@@ -77,10 +46,9 @@ slice-aggregate-place-2 c = search needs
 
 place-requires : tie.Need-place-requires
 place-requires c κs =
-    let at-note-rules = c .before .before .before .before .before .before .before .before .before .before .before in
-    let at-mark-all = at-note-rules .before .before .before in
-    let start = at-mark-all .before .before .before .before .before .before .before .before in
-    settled-placing (start .pre) (at-mark-all .mark-all .ensures) (at-note-rules .note-rules .ensures) (start .pre .ruled)
+    let at-walk-filled = c .before .before .before .before .before .before .before .before in
+    let start = at-walk-filled .before .before .before .before .before .before .before .before .before .before in
+    settled-placing (start .pre) (at-walk-filled .walk-filled .ensures .marked) (at-walk-filled .walk-filled .ensures .noted) (start .pre .ruled)
 
 same-length-2 : tie.Need-same-length-2
 same-length-2 c = search needs
@@ -90,25 +58,19 @@ unfolding settled-finished finished-plain
 returns-2 c =
     let at-place = c in
     let at-enum-told = at-place .before .before .before in
-    let at-walk = at-enum-told .before .before .before .before in
-    let at-note-rules = at-walk .before .before .before .before .before in
-    let at-mark-all = at-note-rules .before .before .before in
-    let start = at-mark-all .before .before .before .before .before .before .before .before in
-    λ g k. fails g _ _ (at-walk .walk .result) (at-enum-told .enum-told .given .1)
-    (at-walk .walk .ensures (settled-finished (start .pre) (at-mark-all .mark-all .ensures) (at-note-rules .note-rules .ensures) k))
-    (settled-fault (start .pre) (at-mark-all .mark-all .ensures) (at-note-rules .note-rules .ensures) k (at-place .place .ensures))
+    let at-walk-filled = at-enum-told .before .before .before .before .before .before in
+    let start = at-walk-filled .before .before .before .before .before .before .before .before .before .before in
+    λ g k. fails g _ _ (at-walk-filled .walk-filled .result) (at-enum-told .enum-told .given .1)
+    (at-walk-filled .walk-filled .ensures .answers (settled-finished (start .pre) (at-walk-filled .walk-filled .ensures .marked) (at-walk-filled .walk-filled .ensures .noted) k))
+    (settled-fault (start .pre) (at-walk-filled .walk-filled .ensures .marked) (at-walk-filled .walk-filled .ensures .noted) k (at-place .place .ensures))
 
 pub read-off-spec : {M : Type 1} → statement M
 read-off-spec =
     tie.close
     (tie.spec
-    slice-aggregate-mark-all
-    mark-all-requires
-    slice-aggregate-note-rules
-    note-rules-requires
-    slice-aggregate-walk
-    slice-aggregate-walk-2
-    walk-requires
+    slice-aggregate-walk-filled
+    slice-aggregate-walk-filled-2
+    walk-filled-requires
     enum-told
     of-walked-requires
     same-length

@@ -1,7 +1,8 @@
 use Prim.Native.Nat.{ℕ, _+_, _-_, _≤_, _<_}
 use borrow.Author.Tests.{not-true, not-false}
 use Rattle.fixpoint.specs.Fixed.{DotsFixed, StartsFixed}
-use Rattle.fixpoint.proofs.Tests.{not-so, and-here, none-missed, all-hit}
+use Rattle.tells.proofs.Tells.{not-so}
+use Rattle.fixpoint.proofs.Tests.{and-here, none-missed, all-hit}
 use native.Mathlib.Omega.{arith}
 use Rattle.fixpoint.proofs.column_fixed.Statement.{statement}
 use Rattle.fixpoint.proofs.column_fixed.Tie as tie

@@ -3,7 +3,8 @@ use Prim.Native.Nat.{ℕ}
 use lib.ListN.{getD}
 use Rattle.heights.proofs.Cells.{at-room}
 use borrow.Author.Tests.{not-true, not-false}
-use Rattle.fixpoint.proofs.Tests.{not-so, dot-greatest, dot-lower, dot-none, dot-given, most-by}
+use Rattle.tells.proofs.Tells.{not-so}
+use Rattle.fixpoint.proofs.Tests.{dot-greatest, dot-lower, dot-none, dot-given, most-by}
 use borrow.Author.Needs.{needs}
 use native.Mathlib.Omega.{arith}
 use Rattle.fixpoint.proofs.dot_fixed.Statement.{statement}

@@ -1,7 +1,8 @@
 use Prim.Native.Nat.{ℕ, _+_, _-_, _≤_, _<_}
 use borrow.Author.Tests.{not-true, not-false}
 use Rattle.fixpoint.specs.Fixed.{StartsFixed, EndsFixed}
-use Rattle.fixpoint.proofs.Tests.{not-so, and-here, hit, miss, ends-fixed, fixed-ends}
+use Rattle.tells.proofs.Tells.{not-so, hit, miss}
+use Rattle.fixpoint.proofs.Tests.{and-here, ends-fixed, fixed-ends}
 use native.Mathlib.Omega.{arith}
 use Rattle.fixpoint.proofs.is_fixpoint.Statement.{statement}
 use Rattle.fixpoint.proofs.is_fixpoint.Tie as tie

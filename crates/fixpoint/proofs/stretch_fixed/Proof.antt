@@ -2,7 +2,8 @@ use Prim.Native.Nat.{ℕ, _+_, _-_, _≤_, _<_}
 use lib.ListN.{length-replicate}
 use borrow.Author.Tests.{not-true, not-false}
 use Rattle.fixpoint.specs.Fixed.{Fixed, DotsFixed}
-use Rattle.fixpoint.proofs.Tests.{leasts-start, not-so, and-here, none-missed, all-hit}
+use Rattle.tells.proofs.Tells.{not-so}
+use Rattle.fixpoint.proofs.Tests.{leasts-start, and-here, none-missed, all-hit}
 use borrow.Author.Needs.{needs}
 use native.Mathlib.Omega.{arith}
 use Rattle.fixpoint.proofs.stretch_fixed.Statement.{statement}

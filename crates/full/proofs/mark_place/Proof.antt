@@ -64,7 +64,8 @@ slice-write-marks-3 : tie.Need-slice-write-marks-3 Inv-loop μ-loop
 slice-write-marks-3 c =
     let at-loop = c .before .before in
     let start = at-loop .before .before .before .before in
-    below-set _ (set (at-loop .loop .marks) _ _) _ _ _ (below-set _ (at-loop .loop .marks) _ _ _ (omega (arith, start .pre .0 .short, start .pre .0 .small, start .pre .1, at-loop .loop .inv .1, at-loop .loop .inv .0 .long, c .before .loop-test .taken)))
+    below-set _ (set (at-loop .loop .marks) _ _) _ _ _ (below-set _ (at-loop .loop .marks) _ _ _
+    (omega (arith, start .pre .0 .short, start .pre .0 .small, start .pre .1, at-loop .loop .inv .1, at-loop .loop .inv .0 .long, c .before .loop-test .taken)))
 
 add-p : tie.Need-add-p Inv-loop μ-loop
 add-p c = omega (arith, c .before .before .before .before .before .before .pre .0 .small, c .before .loop-test .taken)

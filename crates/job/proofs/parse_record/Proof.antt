@@ -14,7 +14,8 @@ read-begun-requires c κs =
     let start = at-begin .before .before .before .before .before .before .before .before .before in
     let j = job (start .args .grammar .now) (start .args .record .now) (length (start .args .main .now)) (start .args .lending .second) in
     let done = at-begin .begin in
-    prepared j (done .last .1 .1 .1 .1 .0) (done .last .1 .1 .1 .1 .1 .0) (length (start .args .main .now)) (length (start .args .parse .now)) (done .result) (done .ensures) (search needs) (search needs) (start .pre .room)
+    prepared j (done .last .1 .1 .1 .1 .0) (done .last .1 .1 .1 .1 .1 .0) (length (start .args .main .now)) (length (start .args .parse .now))
+    (done .result) (done .ensures) (search needs) (search needs) (start .pre .room)
 
 same-length : tie.Need-same-length
 same-length c = search needs

@@ -6,14 +6,15 @@ use mathlib.Core.List.{List}
 use mathlib.Core.Logic.{_⊎_, inl, inr, ⊎-elim}
 use Prim.Native.Nat.{ℕ, _+_, _*_, _-_, _/_, _%_, _^_, _<_, _≤_}
 use lib.ListN.{length, getD}
-use Rattle.bits.specs.Bits.{Lit, Has}
+use Rattle.bits.specs.Bits.{Lit, Has, Adds}
 use Rattle.moves.specs.Moves.{Masked}
-use Rattle.moves.proofs.Cells.{column-on, lanes-inside, masked-step}
+use Rattle.moves.proofs.Cells.{column-on, lanes-inside, masked-word, masked-next}
+use Rattle.bits.proofs.Laws.{adds-none, adds-as}
 use Rattle.moves.proofs.add_ends.Statement.{statement}
 use Rattle.moves.proofs.add_ends.Tie as tie
 
 abbrev Inv-loop : tie.InvT-loop
-Inv-loop main n rule v on next₀ count last w₀ next w = (v ≤ w) × ((x : ℕ) → Has next x → Has next₀ x ⊎ Masked n main rule v on x)
+Inv-loop main n rule v on next₀ count last w₀ next w = (v ≤ w) × Adds (λ x. Masked n main rule v on x × (x / 32 < w)) next₀ next
 
 abbrev μ-loop : tie.MeasureT-loop
 μ-loop main n rule v on next₀ count last w₀ next w = last + 1 - w
@@ -22,7 +23,7 @@ lanes-requires : tie.Need-lanes-requires Inv-loop μ-loop
 lanes-requires c κs = (c .before .pre .0 .short, omega (arith, c .before .pre .1))
 
 loop-holds : tie.Need-loop-holds Inv-loop μ-loop
-loop-holds c = (omega arith, λ x h. inl h)
+loop-holds c = (omega arith, adds-none (λ x z. omega (arith, z .0 .derived .order, z .0 .low, z .1)))
 
 mul-cell : tie.Need-mul-cell Inv-loop μ-loop
 mul-cell c = search needs
@@ -74,15 +75,17 @@ loop-again c =
     let at-column = at-cell .before in
     let at-loop-test = at-column .before in
     let at-loop = at-loop-test .before in
-    let at-lanes = at-loop .before in (
+    let at-lanes = at-loop .before in
+    let pre = at-lanes .before .before .pre in (
       omega (arith, at-loop .loop .inv .0),
-      λ x h. ⊎-elim (at-loop .loop .inv .1 x) inr
-          (masked-step (at-loop .loop .next) (rw (at-column .column .ensures) at (at-cell .cell .ensures)) (at-loop-test .loop-test .taken) (at-loop .loop .inv .0)
-          (at-lanes .lanes .ensures) (c .before .gather .ensures) (c .join .ensures) x h),
+      masked-next (at-loop .loop .inv .1)
+          (masked-word _ _ _ _ _ _ _ (rw (at-column .column .ensures) at (at-cell .cell .ensures)) (at-loop-test .loop-test .taken) (at-loop .loop .inv .0)
+          (at-lanes .lanes .ensures .0) (at-lanes .lanes .ensures .1) (at-lanes .lanes .ensures .2) (pre .2) (c .before .gather .ensures) (at-loop .loop .next) (pre .0 .short)
+          (c .join .ensures)),
     )
 
 returns : tie.Need-returns Inv-loop μ-loop
-returns c = c .before .loop .inv .1
+returns c = adds-as _ (c .before .loop .inv .1) (λ x z. z .0) (λ x z. (z, omega (arith, z .derived .inside, c .loop-test .left)))
 
 pub add-ends-spec : {M : Type 1} → statement M
 add-ends-spec =

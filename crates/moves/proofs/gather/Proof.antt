@@ -6,7 +6,7 @@ use mathlib.Core.List.{List}
 use mathlib.Core.Logic.{_⊎_, inl, inr, ⊎-elim}
 use Prim.Native.Nat.{ℕ, _+_, _*_, _-_, _/_, _%_, _^_, _<_, _≤_}
 use lib.ListN.{length, getD}
-use Rattle.bits.specs.Bits.{Lit, Has}
+use Rattle.bits.specs.Bits.{Lit, Has, Adds}
 use Rattle.moves.specs.Moves.{Gathered}
 use Rattle.moves.proofs.Cells.{gathered-none, gathered-next}
 use Rattle.moves.proofs.gather.Statement.{statement}

@@ -20,10 +20,10 @@ sub-left : tie.Need-sub-left
 sub-left c = search needs
 
 returns : tie.Need-returns
-returns c = search needs
+returns c = (omega (arith, c .if1 .taken), omega (arith, c .before .pre .1), λ b h l. omega (arith, h, l))
 
 returns-2 : tie.Need-returns-2
-returns-2 c = search needs
+returns-2 c = (omega arith, omega (arith, c .before .pre .1, c .if1 .left), λ b h l. omega (arith, h))
 
 pub lanes-spec : {M : Type 1} → statement M
 lanes-spec = tie.close (tie.spec add-left mul-left sub-left returns returns-2)

@@ -6,20 +6,20 @@ use mathlib.Core.List.{List}
 use mathlib.Core.Logic.{_⊎_, inl, inr, ⊎-elim}
 use Prim.Native.Nat.{ℕ, _+_, _*_, _-_, _/_, _%_, _^_, _<_, _≤_}
 use lib.ListN.{length, getD}
-use Rattle.bits.specs.Bits.{Lit, Has}
+use Rattle.bits.specs.Bits.{Lit, Has, Adds}
 use Rattle.moves.specs.Moves.{Passed}
-use Rattle.moves.proofs.Cells.{word-passed}
+use Rattle.moves.proofs.Cells.{PassedTo, passed-start, passed-next, passed-end}
 use Rattle.moves.proofs.pass.Statement.{statement}
 use Rattle.moves.proofs.pass.Tie as tie
 
 abbrev Inv-loop : tie.InvT-loop
-Inv-loop main n rule cur next₀ last v₀ next v = ((x : ℕ) → Has next x → Has next₀ x ⊎ Passed n main rule cur x)
+Inv-loop main n rule cur next₀ last v₀ next v = Adds (PassedTo n main rule cur v) next₀ next
 
 abbrev μ-loop : tie.MeasureT-loop
 μ-loop main n rule cur next₀ last v₀ next v = last + 1 - v
 
 loop-holds : tie.Need-loop-holds Inv-loop μ-loop
-loop-holds c = λ x h. inl h
+loop-holds c = passed-start
 
 mul-add-word : tie.Need-mul-add-word Inv-loop μ-loop
 mul-add-word c = search needs
@@ -40,10 +40,10 @@ loop-again : tie.Need-loop-again Inv-loop μ-loop
 loop-again c =
     let at-loop = c .before .before .before .before in
     let start = at-loop .before .before in
-    λ x h. ⊎-elim (at-loop .loop .inv x) (λ z. inr (word-passed (start .args .cur .now) z)) (c .add-word .ensures x h)
+    passed-next (start .args .cur .now) (at-loop .loop .inv) (c .add-word .ensures)
 
 returns : tie.Need-returns Inv-loop μ-loop
-returns c = c .before .loop .inv
+returns c = passed-end (c .before .before .before .args .cur .now) (c .loop-test .left) (c .before .loop .inv)
 
 pub pass-spec : {M : Type 1} → statement M
 pass-spec = tie.close (tie.spec Inv-loop μ-loop loop-holds mul-add-word element-copy-out-add-word add-word-requires add-v loop-less loop-again returns)

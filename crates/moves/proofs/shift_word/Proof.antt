@@ -6,22 +6,23 @@ use mathlib.Core.List.{List}
 use mathlib.Core.Logic.{_⊎_, inl, inr, ⊎-elim}
 use Prim.Native.Nat.{ℕ, _+_, _*_, _-_, _/_, _%_, _^_, _<_, _≤_}
 use lib.ListN.{length, getD}
-use Rattle.bits.specs.Bits.{Lit, Has}
-use Rattle.moves.specs.Moves.{LandedBy}
+use Rattle.bits.specs.Bits.{Lit, Has, Adds}
+use Rattle.bits.proofs.Laws.{adds-none, lit-zero}
+use Rattle.moves.proofs.Cells.{LandedTo, landed-start, landed-next, landed-end}
 use Rattle.moves.proofs.shift_word.Statement.{statement}
 use Rattle.moves.proofs.shift_word.Tie as tie
 
 abbrev Inv-loop : tie.InvT-loop
-Inv-loop marks p width n v word next₀ b₀ next b = (b ≤ 32) × ((z : ℕ) → Has next z → Has next₀ z ⊎ LandedBy marks p width n v word z)
+Inv-loop marks p width n v word next₀ b₀ next b = (b ≤ 32) × Adds (LandedTo marks p width n v word b) next₀ next
 
 abbrev μ-loop : tie.MeasureT-loop
 μ-loop marks p width n v word next₀ b₀ next b = 32 - b
 
 returns : tie.Need-returns Inv-loop μ-loop
-returns c = λ z h. inl h
+returns c = adds-none (λ x m. lit-zero (c .if1 .taken) (m .lit))
 
 loop-holds : tie.Need-loop-holds Inv-loop μ-loop
-loop-holds c = (omega arith, λ z h. inl h)
+loop-holds c = (omega arith, landed-start)
 
 mul-land : tie.Need-mul-land Inv-loop μ-loop
 mul-land c = search needs
@@ -53,13 +54,13 @@ loop-again c =
     let at-loop-test = at-wide .before in
     let at-loop = at-loop-test .before in (
       omega (arith, at-loop-test .loop-test .taken),
-      λ z h. ⊎-elim (at-loop .loop .inv .1 z)
-          (λ y. inr (record { b = at-loop .loop .b; low = at-loop-test .loop-test .taken; lit = c .before .before .lit .ensures (y .0); landed = rw (at-wide .wide .ensures) at (y .1) }))
-          (c .land .ensures z h),
+      landed-next (at-loop-test .loop-test .taken) (let z : 32 * at-loop .before .before .before .args .v + at-wide .wide .result
+          ≡ 32 * at-loop .before .before .before .args .v + at-loop .loop .b = omega (arith, at-wide .wide .ensures) in z)
+          (c .before .before .lit .ensures .0) (c .before .before .lit .ensures .1) (at-loop .loop .inv .1) (c .land .ensures),
     )
 
 returns-2 : tie.Need-returns-2 Inv-loop μ-loop
-returns-2 c = c .before .loop .inv .1
+returns-2 c = landed-end (c .loop-test .left) (c .before .loop .inv .1)
 
 pub shift-word-spec : {M : Type 1} → statement M
 shift-word-spec = tie.close (tie.spec Inv-loop μ-loop returns loop-holds mul-land wide-requires add-land lit-requires land-requires add-b loop-less loop-again returns-2)

@@ -6,9 +6,8 @@ use mathlib.Core.List.{List}
 use mathlib.Core.Logic.{_⊎_, inl, inr, ⊎-elim}
 use Prim.Native.Nat.{ℕ, _+_, _*_, _-_, _/_, _%_, _^_, _<_, _≤_}
 use lib.ListN.{length, getD}
-use Rattle.bits.specs.Bits.{Lit, Has}
-use Rattle.moves.specs.Moves.{Moved, move-terminal, move-symbol}
-use Rattle.moves.proofs.Cells.{row-of}
+use Rattle.bits.specs.Bits.{Lit, Has, Adds}
+use Rattle.moves.proofs.Cells.{row-of, stepped-terminal, stepped-symbol, stepped-end}
 use Rattle.moves.proofs.step.Statement.{statement}
 use Rattle.moves.proofs.step.Tie as tie
 
@@ -45,12 +44,7 @@ returns : tie.Need-returns
 returns c =
     let at-if1 = c .before .before .before .before in
     let start = at-if1 .before .before .before .before .before in
-    λ z h. ⊎-elim (λ e. absurd (start .pre .1 z e)) (λ y. record {
-      from = y .from;
-      has = y .has;
-      move = move-terminal (at-if1 .if1 .taken)
-          (rw (c .before .before .wide .ensures) at (y .landed));
-    }) (c .shift .ensures z h)
+    stepped-terminal (start .pre .2) (start .pre .1) (at-if1 .if1 .taken) (c .before .before .wide .ensures) (c .shift .ensures)
 
 mul-wide-3 : tie.Need-mul-wide-3
 mul-wide-3 c = search needs
@@ -80,15 +74,12 @@ returns-2 : tie.Need-returns-2
 returns-2 c =
     let at-if2 = c .before .before .before .before in
     let start = at-if2 .before .before .before .before .before .before in
-    λ z h. ⊎-elim (λ e. absurd (start .pre .1 z e)) (λ y. record {
-      from = y .from;
-      has = y .has;
-      move = move-symbol (at-if2 .if2 .taken) (y .on)
-          (rw (c .before .before .wide2 .ensures) at (y .derived));
-    }) (c .pass .ensures z h)
+    stepped-symbol (start .pre .2) (start .pre .1) (at-if2 .if2 .taken) (c .before .before .wide2 .ensures) (c .pass .ensures)
 
 returns-3 : tie.Need-returns-3
-returns-3 c = λ z h. absurd (c .before .before .before .before .before .before .pre .1 z h)
+returns-3 c =
+    let start = c .before .before .before .before .before .before in
+    stepped-end (start .pre .2) (start .pre .1) (c .before .if1 .left) (c .if2 .left)
 
 pub step-spec : {M : Type 1} → statement M
 step-spec =

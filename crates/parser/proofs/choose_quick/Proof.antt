@@ -66,7 +66,7 @@ locate-requires c κs =
 
 same-length-3 : tie.Need-same-length-3
 same-length-3 c =
-    let at-locate = c .before .before .before in
+    let at-locate = c .before .before in
     let at-read = at-locate .before .before .before .before .before .before .before .before .before .before .before in
     at-locate .locate .kept .1 .1 .1 .1 .0 ∙ at-read .read .kept .1 .1 .1 .1 .0
 
@@ -75,7 +75,7 @@ same-length-4 c = search needs
 
 returns-2 : tie.Need-returns-2
 returns-2 c =
-    let at-locate = c .before .before .before in
+    let at-locate = c .before .before in
     let at-enum-told = at-locate .before .before .before .before in
     let at-read = at-enum-told .before .before .before .before .before .before .before in
     let at-code-rules = at-read .before .before .before .before .before .before in

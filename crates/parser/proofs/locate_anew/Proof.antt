@@ -52,7 +52,7 @@ same-length c = search needs
 
 returns : tie.Need-returns
 returns c =
-    let at-locate = c .before .before .before in
+    let at-locate = c .before .before in
     let at-code-rules = at-locate .before .before .before .before .before .before .before .before .before in
     λ g ready. at-locate .locate .ensures g _ (at-code-rules .code-rules .ensures g ready)
 

@@ -4,7 +4,6 @@ use Prim.Native.Nat.{ℕ}
 use lib.ListN.{length-replicate}
 use Rattle.chart.proofs.Users.{all-zero}
 use Rattle.heights.proofs.Exact.{safe}
-use Rattle.sparse.proofs.Coded.{shape-of}
 use Rattle.full.proofs.Whole.{coded}
 use Rattle.plain_reading.proofs.Plain.{roomy, finished-plain}
 use borrow.Author.Needs.{needs}
@@ -19,7 +18,8 @@ slice-aggregate-prepare-2 c = search needs
 
 prepare-requires : tie.Need-prepare-requires
 prepare-requires c κs =
-    let pre = c .before .before .before .before .before .before .pre in
+    let start = c .before .before .before .before .before .before in
+    let pre = start .pre in
     record {
       grammar = pre .grammar;
       ready = pre .ready;
@@ -39,65 +39,44 @@ slice-aggregate-fill-2 c = search needs
 fill-requires : tie.Need-fill-requires
 fill-requires c κs =
     let at-prepare = c .before .before .before .before .before in
-    let pre = at-prepare .before .before .before .before .before .before .before .pre in
+    let start = at-prepare .before .before .before .before .before .before .before in
+    let pre = start .pre in
     let code = at-prepare .prepare .ensures (pre .grammar) (pre .ready) in
     let a = roomy {f = at-prepare .prepare .last .1 .1 .1 .1 .1 .0} code pre
     (omega (arith, at-prepare .prepare .kept .1 .1 .1 .1 .0)) (omega (arith, at-prepare .prepare .kept .1 .1 .1 .1 .1 .0)) refl in
     safe _ _ _ _ _ _ _ _ (coded code (a .small) (a .code-room) (a .short) (a .fits-room)) (a .room)
 
-slice-aggregate-mark-all : tie.Need-slice-aggregate-mark-all
-slice-aggregate-mark-all c = search needs
+slice-aggregate-walk-filled : tie.Need-slice-aggregate-walk-filled
+slice-aggregate-walk-filled c = search needs
 
-slice-aggregate-mark-all-2 : tie.Need-slice-aggregate-mark-all-2
-slice-aggregate-mark-all-2 c = search needs
+slice-aggregate-walk-filled-2 : tie.Need-slice-aggregate-walk-filled-2
+slice-aggregate-walk-filled-2 c = search needs
 
-slice-aggregate-mark-all-3 : tie.Need-slice-aggregate-mark-all-3
-slice-aggregate-mark-all-3 c = search needs
+slice-aggregate-walk-filled-3 : tie.Need-slice-aggregate-walk-filled-3
+slice-aggregate-walk-filled-3 c = search needs
 
-mark-all-requires : tie.Need-mark-all-requires
-mark-all-requires c κs =
-    let at-prepare = c .before .before .before .before .before .before .before .before .before .before .before in
-    let pre = at-prepare .before .before .before .before .before .before .before .pre in
-    let code = at-prepare .prepare .ensures (pre .grammar) (pre .ready) in
-    let a = roomy {f = at-prepare .prepare .last .1 .1 .1 .1 .1 .0} code pre
-    (omega (arith, at-prepare .prepare .kept .1 .1 .1 .1 .0)) (omega (arith, at-prepare .prepare .kept .1 .1 .1 .1 .1 .0)) refl in
-    (record { small = a .small; room = a .code-room; fits-room = a .fits-room; short = a .short }, length-replicate {A = ℕ} 308736 0)
+slice-aggregate-walk-filled-4 : tie.Need-slice-aggregate-walk-filled-4
+slice-aggregate-walk-filled-4 c = search needs
 
-slice-aggregate-note-rules : tie.Need-slice-aggregate-note-rules
-slice-aggregate-note-rules c = search needs
-
-slice-aggregate-note-rules-2 : tie.Need-slice-aggregate-note-rules-2
-slice-aggregate-note-rules-2 c = search needs
-
-note-rules-requires : tie.Need-note-rules-requires
-note-rules-requires c κs =
-    let at-prepare = c .before .before .before .before .before .before .before .before .before .before .before .before .before .before .before in
-    let pre = at-prepare .before .before .before .before .before .before .before .pre in
-    let code = at-prepare .prepare .ensures (pre .grammar) (pre .ready) in
-    let a = roomy {f = at-prepare .prepare .last .1 .1 .1 .1 .1 .0} code pre
-    (omega (arith, at-prepare .prepare .kept .1 .1 .1 .1 .0)) (omega (arith, at-prepare .prepare .kept .1 .1 .1 .1 .1 .0)) refl in
-    (shape-of code (a .small) (a .code-room), length-replicate {A = ℕ} 2048 0, all-zero 2048)
-
-slice-aggregate-walk : tie.Need-slice-aggregate-walk
-slice-aggregate-walk c = search needs
-
-slice-aggregate-walk-2 : tie.Need-slice-aggregate-walk-2
-slice-aggregate-walk-2 c = search needs
-
-slice-aggregate-walk-3 : tie.Need-slice-aggregate-walk-3
-slice-aggregate-walk-3 c = search needs
-
-walk-requires : tie.Need-walk-requires
-walk-requires c κs =
-    let at-note-rules = c .before .before .before .before .before .before in
-    let at-mark-all = at-note-rules .before .before .before .before in
-    let at-fill = at-mark-all .before .before .before .before .before .before in
+walk-filled-requires : tie.Need-walk-filled-requires
+walk-filled-requires c κs =
+    let at-fill = c .before .before .before .before .before .before .before .before in
     let at-prepare = at-fill .before .before .before .before .before .before in
-    let pre = at-prepare .before .before .before .before .before .before .before .pre in
+    let start = at-prepare .before .before .before .before .before .before .before in
+    let pre = start .pre in
     let code = at-prepare .prepare .ensures (pre .grammar) (pre .ready) in
-    let a = roomy {f = at-prepare .prepare .last .1 .1 .1 .1 .1 .0} code pre
-    (omega (arith, at-prepare .prepare .kept .1 .1 .1 .1 .0)) (omega (arith, at-prepare .prepare .kept .1 .1 .1 .1 .1 .0)) (at-fill .fill .kept .1 .1 .1 .1 .0) in
-    (finished-plain code a (at-mark-all .mark-all .ensures) (at-note-rules .note-rules .ensures) (at-fill .fill .ensures), pre .numbers)
+    record {
+      grammar = pre .grammar;
+      text = start .args .text .now;
+      long = refl;
+      ruled = code;
+      roomy = roomy {f = at-prepare .prepare .last .1 .1 .1 .1 .1 .0} code pre (omega (arith, at-prepare .prepare .kept .1 .1 .1 .1 .0)) (omega (arith, at-prepare .prepare .kept .1 .1 .1 .1 .1 .0))
+          (at-fill .fill .kept .1 .1 .1 .1 .0);
+      filled = at-fill .fill .ensures;
+      marks = length-replicate {A = ℕ} 308736 0;
+      notes = (length-replicate {A = ℕ} 2048 0, all-zero 2048);
+      numbers = pre .numbers;
+    }
 
 same-length : tie.Need-same-length
 same-length c = search needs
@@ -108,17 +87,15 @@ same-length-2 c = search needs
 returns : tie.Need-returns
 unfolding finished-plain
 returns c =
-    let at-walk = c .before .before in
-    let at-note-rules = at-walk .before .before .before .before .before .before .before in
-    let at-mark-all = at-note-rules .before .before .before .before in
-    let at-fill = at-mark-all .before .before .before .before .before .before in
+    let at-walk-filled = c .before .before .before .before in
+    let at-fill = at-walk-filled .before .before .before .before .before .before .before .before .before in
     let at-prepare = at-fill .before .before .before .before .before .before in
-    let pre = at-prepare .before .before .before .before .before .before .before .pre in
-    let code = at-prepare .prepare .ensures (pre .grammar) (pre .ready) in
-    let a = roomy {f = at-prepare .prepare .last .1 .1 .1 .1 .1 .0} code pre
+    let start = at-prepare .before .before .before .before .before .before .before in
+    let pre = start .pre in
+    let a = roomy {f = at-prepare .prepare .last .1 .1 .1 .1 .1 .0} (at-prepare .prepare .ensures (pre .grammar) (pre .ready)) pre
     (omega (arith, at-prepare .prepare .kept .1 .1 .1 .1 .0)) (omega (arith, at-prepare .prepare .kept .1 .1 .1 .1 .1 .0)) (at-fill .fill .kept .1 .1 .1 .1 .0) in
-    λ g w. at-walk .walk .ensures
-    (finished-plain (at-prepare .prepare .ensures g w) a (at-mark-all .mark-all .ensures) (at-note-rules .note-rules .ensures) (at-fill .fill .ensures))
+    λ g w. at-walk-filled .walk-filled .ensures .answers
+    (finished-plain (at-prepare .prepare .ensures g w) a (at-walk-filled .walk-filled .ensures .marked) (at-walk-filled .walk-filled .ensures .noted) (at-fill .fill .ensures))
 
 pub read-spec : {M : Type 1} → statement M
 read-spec =
@@ -130,17 +107,11 @@ read-spec =
     slice-aggregate-fill
     slice-aggregate-fill-2
     fill-requires
-    slice-aggregate-mark-all
-    slice-aggregate-mark-all-2
-    slice-aggregate-mark-all-3
-    mark-all-requires
-    slice-aggregate-note-rules
-    slice-aggregate-note-rules-2
-    note-rules-requires
-    slice-aggregate-walk
-    slice-aggregate-walk-2
-    slice-aggregate-walk-3
-    walk-requires
+    slice-aggregate-walk-filled
+    slice-aggregate-walk-filled-2
+    slice-aggregate-walk-filled-3
+    slice-aggregate-walk-filled-4
+    walk-filled-requires
     same-length
     same-length-2
     returns)

@@ -1,7 +1,7 @@
 use Rattle.answer.specs.Answer.{job}
 use borrow.Author.Tests.{not-true, not-false}
 use Rattle.opening.proofs.Starts.{small}
-use Rattle.state.proofs.Cells.{not-so}
+use Rattle.tells.proofs.Tells.{not-so}
 use Rattle.resume.proofs.Lines.{not-kept, not-opened, lent-or-not}
 use borrow.Author.Needs.{needs}
 use Rattle.resume.proofs.resume.Statement.{statement}

@@ -1,5 +1,6 @@
 use mathlib.Core.Path.{sym, _∙_}
-use Rattle.state.proofs.Cells.{miss, head-by}
+use Rattle.tells.proofs.Tells.{miss}
+use Rattle.state.proofs.Cells.{head-by}
 use borrow.Author.Needs.{needs}
 use native.Mathlib.Omega.{arith}
 use Rattle.state.proofs.is_head.Statement.{statement}

@@ -1,5 +1,6 @@
 use borrow.Author.Tests.{not-true, not-false}
-use Rattle.state.proofs.Cells.{miss, not-so, keeps-by}
+use Rattle.tells.proofs.Tells.{miss, not-so}
+use Rattle.state.proofs.Cells.{keeps-by}
 use native.Mathlib.Omega.{arith}
 use Rattle.state.proofs.keeps.Statement.{statement}
 use Rattle.state.proofs.keeps.Tie as tie

@@ -20,7 +20,7 @@ use std::thread;
 
 use ixml::limits::GRAMMAR_TABLE;
 use ixml::Answer;
-use lent::Lent;
+use lent::{Cell, Lent};
 
 /// The stack that every call must do with.
 const STACK: usize = 1 << 20;
@@ -55,11 +55,14 @@ fn run() -> Result<(), String> {
     Ok(())
 }
 
+/// A call with tables and a result.
+type OnTables<T> = fn(&[u8], &[u8], &mut [u32], &mut [u32], &mut [T]) -> Answer;
+
 #[derive(Clone, Copy)]
 enum Call {
     Check,
     /// By one of the two engines.
-    Read(fn(&[u8], &[u8], &mut [u32], &mut [u32], &mut [u32]) -> Answer),
+    Read(OnTables<u32>),
     Convert,
 }
 
@@ -163,38 +166,30 @@ impl Job {
         })
     }
 
+    /// The answer of a call, what it wrote, and whether it wrote behind that.
+    fn filled<T: Cell>(
+        &self,
+        call: OnTables<T>,
+        main_table: &mut Lent<u32>,
+        grammar_table: &mut Lent<u32>,
+        text: fn(&[T]) -> String,
+    ) -> (Answer, String, bool) {
+        let mut result = Lent::new(self.result, SEED);
+        let (main, grammar) = (main_table.lend(), grammar_table.lend());
+        let answer = call(&self.grammar, &self.record, main, grammar, result.lend());
+        let filled = filled(answer, self.result);
+        let touched = result.touched_behind(filled);
+        (answer, text(&result.cells()[..filled]), touched)
+    }
+
     /// The line of output.
     fn run(&self) -> String {
         let mut main_table = Lent::new(self.main_table, SEED);
         let mut grammar_table = Lent::new(self.grammar_table, SEED);
         let (answer, result, mut touched) = match self.call {
             Call::Check => (ixml::check(&self.grammar), "-".to_string(), false),
-            Call::Read(read) => {
-                let mut result = Lent::new(self.result, SEED);
-                let answer = read(
-                    &self.grammar,
-                    &self.record,
-                    main_table.lend(),
-                    grammar_table.lend(),
-                    result.lend(),
-                );
-                let filled = filled(answer, self.result);
-                let touched = result.touched_behind(filled);
-                (answer, decimal(&result.cells()[..filled]), touched)
-            }
-            Call::Convert => {
-                let mut result = Lent::new(self.result, SEED);
-                let answer = ixml::convert(
-                    &self.grammar,
-                    &self.record,
-                    main_table.lend(),
-                    grammar_table.lend(),
-                    result.lend(),
-                );
-                let filled = filled(answer, self.result);
-                let touched = result.touched_behind(filled);
-                (answer, hex(&result.cells()[..filled]), touched)
-            }
+            Call::Read(read) => self.filled(read, &mut main_table, &mut grammar_table, decimal),
+            Call::Convert => self.filled(ixml::convert, &mut main_table, &mut grammar_table, hex),
         };
         touched |= main_table.guards_touched() || grammar_table.guards_touched();
         output(answer, &result, &[], touched)

@@ -46,7 +46,8 @@ loop-holds c =
     let start = at-rest-cells .before .before .before .before .before .before .before in
     let a = start .args in
     let pre = start .pre in
-    unmet-barren (now (a .code)) (now (a .marks)) (now (a .notes)) (a .s .n .0) (now (a .main)) (a .p) (a .s .i .0) (λ l w e. omega (arith, w, e, pre .1 .1 .height)) (at-rest-cells .rest-cells .ensures .0)
+    unmet-barren (now (a .code)) (now (a .marks)) (now (a .notes)) (a .s .n .0) (now (a .main)) (a .p) (a .s .i .0) (λ l w e. omega (arith, w, e, pre .1 .1 .height))
+    (at-rest-cells .rest-cells .ensures .0)
     (c .next-end .ensures)
     (unmet-from (now (a .code)) (now (a .marks)) (now (a .notes)) (a .s .n .0) (now (a .main)) (a .p) (a .s .i .0) (a .s .j .0) (at-first-end .first-end .result .0) (pre .0 .order)
     (λ l w e. omega (arith, w, e, pre .1 .1 .height)) (at-first-end .first-end .ensures))
@@ -96,7 +97,8 @@ loop-again c =
     let a = start .args in
     let pre = start .pre in
     let u = unmet-next (at-loop .loop .inv) (λ low. omega (arith, at-split .split .ensures, at-if2 .if2 .taken)) in
-    unmet-barren (now (a .code)) (now (a .marks)) (now (a .notes)) (a .s .n .0) (now (a .main)) (a .p) (a .s .i .0) (λ l w e. omega (arith, w, e, pre .1 .1 .height)) (at-rest-cells .rest-cells .ensures .0)
+    unmet-barren (now (a .code)) (now (a .marks)) (now (a .notes)) (a .s .n .0) (now (a .main)) (a .p) (a .s .i .0) (λ l w e. omega (arith, w, e, pre .1 .1 .height))
+    (at-rest-cells .rest-cells .ensures .0)
     (c .next-end2 .ensures) u
 
 returns-2 : tie.Need-returns-2 Inv-loop μ-loop

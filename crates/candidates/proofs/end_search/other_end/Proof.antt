@@ -69,8 +69,12 @@ returns-2 c =
     let at-loop = at-next-end .before .before .before .before in
     let b = at-next-end .next-end .ensures in
     let s = at-split .split .ensures in
-    tells-yes
-    (record { place = at-next-end .next-end .result .0; after = omega (arith, at-loop .loop .inv .order, b .from); before = b .to; too = record { other = at-if4 .if4 .taken; derives = λ e. c .if5 .taken (s ∙ e) } })
+    tells-yes (record {
+      place = at-next-end .next-end .result .0;
+      after = omega (arith, at-loop .loop .inv .order, b .from);
+      before = b .to;
+      too = record { other = at-if4 .if4 .taken; derives = λ e. c .if5 .taken (s ∙ e) };
+    })
 
 loop-less : tie.Need-loop-less Inv-loop μ-loop
 loop-less c =

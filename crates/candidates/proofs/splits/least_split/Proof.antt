@@ -74,7 +74,8 @@ loop-again c =
     let a = start .args in
     let b = at-next-end .next-end .ensures in
     let s = sought-over (now (a .code)) (now (a .marks)) (now (a .notes)) (a .s .n .0) (now (a .main)) (at-rest-cells .rest-cells .ensures .0) b (at-loop .loop .inv) in
-    sought-next (now (a .code)) (now (a .marks)) (now (a .notes)) (a .s .n .0) (now (a .main)) (at-split .split .result) (at-smaller .smaller .result) s (b .to) (at-split .split .ensures) (at-smaller .smaller .ensures)
+    sought-next (now (a .code)) (now (a .marks)) (now (a .notes)) (a .s .n .0) (now (a .main)) (at-split .split .result) (at-smaller .smaller .result) s (b .to) (at-split .split .ensures)
+    (at-smaller .smaller .ensures)
 
 returns : tie.Need-returns Inv-loop μ-loop
 returns c =

@@ -44,7 +44,8 @@ returns c =
     let at-is-last = at-if1 .before in
     let start = at-is-last .before .before in
     let p = start .pre in
-    row-last (start .args .s .n .0) (start .args .s .j .0) (start .args .p + 1) (p .0) (p .1) (sym (at-is-last .is-last .ensures) ∙ at-if1 .if1 .taken) (at-number-at .number-at .ensures .0) (c .cell .ensures)
+    row-last (start .args .s .n .0) (start .args .s .j .0) (start .args .p + 1) (p .0) (p .1) (sym (at-is-last .is-last .ensures) ∙ at-if1 .if1 .taken)
+    (at-number-at .number-at .ensures .0) (c .cell .ensures)
 
 cell-requires-2 : tie.Need-cell-requires-2
 cell-requires-2 c κs =

@@ -1,0 +1,1 @@
+// A test and what it tells: a definition and its laws, no code.

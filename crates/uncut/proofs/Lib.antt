@@ -1,0 +1,2 @@
+pub mod ReadsAs
+pub mod ConvertsAs
