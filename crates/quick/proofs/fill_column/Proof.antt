@@ -20,14 +20,14 @@ begin-column-requires : tie.Need-begin-column-requires Inv-loop μ-loop
 begin-column-requires c κs =
     let start = c .before .before .before .before .before .before .before .before in
     let g = start .pre in
-    (g .0, g .1, g .2, g .3)
+    (g .0, g .1, g .2, g .3, g .4)
 
 loop-holds : tie.Need-loop-holds Inv-loop μ-loop
 loop-holds c =
     let at-begin-column = c .before .before .before .before .before .before in
     let start = at-begin-column .before .before .before .before .before .before .before .before .before in
     let g = start .pre in
-    (omega arith, refl, at-begin-column .begin-column .ensures, g .4, g .5)
+    (omega arith, refl, at-begin-column .begin-column .ensures, g .5, g .6)
 
 sub-i : tie.Need-sub-i Inv-loop μ-loop
 sub-i c = omega (arith, c .loop-test .taken)
@@ -67,12 +67,12 @@ same-length c =
 same-length-2 : tie.Need-same-length-2 Inv-loop μ-loop
 same-length-2 c =
     let start = c .before .before .before .before .before .before .before .before .before .before .before .before .before .before .before .before .before in
-    c .before .loop .inv .3 .long ∙ sym (start .pre .4 .long)
+    c .before .loop .inv .3 .long ∙ sym (start .pre .5 .long)
 
 same-length-3 : tie.Need-same-length-3 Inv-loop μ-loop
 same-length-3 c =
     let start = c .before .before .before .before .before .before .before .before .before .before .before .before .before .before .before .before .before in
-    c .before .loop .inv .2 .listed .long ∙ sym (start .pre .3)
+    c .before .loop .inv .2 .rows .listed .long ∙ sym (start .pre .3)
 
 returns : tie.Need-returns Inv-loop μ-loop
 returns c =
@@ -83,7 +83,8 @@ returns c =
     let e : l .i ≡ 0 = omega (arith, c .loop-test .left) in (
       before-next _ _ _ _ _ _ (start .pre .0 .empties)
           (subst (λ (x : ℕ). From (a .code .now) (a .marks .now) (a .notes .now) (a .s .size) (a .s .n .0) (a .s .j .0) x (l .main) (l .column)) e (l .inv .2)),
-      l .inv .2 .listed .long,
+      l .inv .2 .rows .listed .long,
+      l .inv .2 .rows .units,
       l .inv .3,
       l .inv .4,
     )
