@@ -249,12 +249,8 @@ module _ (c M : List ℕ) (n j : ℕ) where
 
 -- one stretch after the other
 module _ (c M F : List ℕ) (size n j : ℕ) where
-  -- the rows are cleared, the flags too, and the empty stretch has handed on
-  module _ {t u v B C D E : List ℕ} (stop : j ≤ n) (a : Before c M F size n j t) (b : ClearedTo c M n j size t u) (l : Rows c M size j F C) (f : Untouched j C B) (d : Unnoted j size B D)
-      {m : ℕ} (empty : m ≡ j) (handed : AllSpread c M F size n m j u D v E) where
-    s : AllSpread c M F size n j j u D v E
-    s = subst (λ (x : ℕ). AllSpread c M F size n x j u D v E) empty handed
-
+  -- the rows are cleared
+  module _ {t u : List ℕ} (stop : j ≤ n) (a : Before c M F size n j t) (b : ClearedTo c M n j size t u) where
     bare-all : (k : ℕ) → k < j → Bare c M n j size k u
     bare-all k h = record { wide = h; rows = λ y i w r. b .rows y k i w r h }
 
@@ -270,6 +266,27 @@ module _ (c M F : List ℕ) (size n j : ℕ) where
           ])
         ]
 
+    cleared-least : (k l : ℕ) → k < l → l < j → LeastOn c M F size n u k l
+    cleared-least k l h h' = least-kept c M F size n t u k l (omega arith) (λ y x z d e g. b .same y x z e (omega arith) (λ w. omega arith)) (a .least k l h h')
+
+    -- no rule is wanted at the end
+    pub before-unwanted : {C : List ℕ} → Listed c M size j C → getD C 512 0 ≡ 0 → Before c M F size n (j + 1) u
+    before-unwanted l e = record {
+      tables = subst (Tables c M F size n) (sym (b .long)) (a .tables);
+      empties = a .empties;
+      sound = cleared-sound;
+      least = λ k m h h'. elim (ℕ-discrete m j) as (λ _. LeastOn c M F size n u k m) [
+        | yes d ↦ (λ p v lp r w o s. absurd (omega (arith, e, l .all p lp (subst (Wanted M (homeOf c p)) d w) .1)))
+        | no d ↦ cleared-least k m h (omega arith)
+      ];
+    }
+
+  -- the flags are taken back, too, and the empty stretch has handed on
+  module _ {t u v B C D E : List ℕ} (stop : j ≤ n) (a : Before c M F size n j t) (b : ClearedTo c M n j size t u) (l : Rows c M size j F C) (f : Untouched j C B) (d : Unnoted j size B D)
+      {m : ℕ} (empty : m ≡ j) (handed : AllSpread c M F size n m j u D v E) where
+    s : AllSpread c M F size n j j u D v E
+    s = subst (λ (x : ℕ). AllSpread c M F size n x j u D v E) empty handed
+
     pub from-start : From c M F size n j j v E
     from-start = record {
       tables = subst (Tables c M F size n) (sym (s .spread .fell .long ∙ b .long)) (a .tables);
@@ -277,13 +294,13 @@ module _ (c M F : List ℕ) (size n j : ℕ) where
       rows = rows-kept (a .tables .shape) (s .spread .long ∙ d .long ∙ f .long) (λ z h. s .spread .before z h ∙ d .before z (omega arith) ∙ f .before z h) l;
       full = s .spread .full (λ i w h z. omega (arith, d .full, f .none-full));
       low = s .spread .low (λ y i h h' h''. absurd (omega (arith, d .from y h)));
-      sound = s .spread .fell .sound cleared-sound;
+      sound = s .spread .fell .sound (cleared-sound stop a b);
       before = λ k m h h'. least-kept c M F size n t v k m (omega arith)
           (λ y x z d e g. s .spread .fell .same y x z e (omega arith) (λ w. omega (arith, w .1)) ∙ b .same y x z e (omega arith) (λ w. omega arith)) (a .least k m h h');
       least = λ k h h'. absurd (omega arith);
       on = λ p m h h' h''. let e : j ≡ m = omega arith in subst (λ (z : ℕ). HandedOn c M F size n z j v p) e (s .on p h);
       bare = λ k h h' z. let w = s .spread .still k h z in
-          record { wide = h; rows = λ y i g r. w .1 y ∙ bare-all k h .rows y i g r };
+          record { wide = h; rows = λ y i g r. w .1 y ∙ bare-all stop a b k h .rows y i g r };
     }
 
   -- one stretch more

@@ -1,8 +1,9 @@
 // The quick engine: fills the part of the main table that derivations of the whole record can use, one end after the other, the stretches of
 // an end from the shortest on. Each is settled before it hands on to longer ones.
 ghost use mathlib.Core.Bool.{false};
+ghost use mathlib.Core.List.{List};
 ghost use mathlib.Core.Path.{_≡_};
-ghost use Prim.Native.Nat.{_+_, _*_, _<_, _≤_};
+ghost use Prim.Native.Nat.{ℕ, _+_, _*_, _<_, _≤_};
 ghost use lib.ListN.{length};
 ghost use Rattle.chart.specs.Heights.{stretches};
 ghost use Rattle.sparse.specs.Cells.{Shape, Tables};
@@ -134,7 +135,7 @@ fn forget(column: &mut [u32], size: usize, j: usize)
     }
 }
 
-// The empty stretch s hands on.
+// The dots are listed, and their rows cleared: the empty stretch s hands on.
 fn begin_column(
     code: &[u32],
     marks: &[u8],
@@ -143,11 +144,11 @@ fn begin_column(
     column: &mut [u32],
     s: Stretch,
 )
-    requires { ⌜ Before (now code) (now marks) (now notes) (s .size) (s .n .0) (s .j .0) (now main) × (s .i .0 ≡ s .j .0) × (s .j .0 ≤ s .n .0) × (length (now column) ≡ 3789)
-        × UnitsTo (now code) (now notes) (s .size) (now column) ⌝ }
+    requires { ⌜ ((t : List ℕ) × Before (now code) (now marks) (now notes) (s .size) (s .n .0) (s .j .0) t
+        × ClearedTo (now code) (now marks) (s .n .0) (s .j .0) (s .size) t (now main)) × (s .i .0 ≡ s .j .0) × (s .j .0 ≤ s .n .0)
+        × Listed (now code) (now marks) (s .size) (s .j .0) (now column) × UnitsTo (now code) (now notes) (s .size) (now column) ⌝ }
     ensures { λ _. ⌜ From (now (code .entry)) (now (marks .entry)) (now (notes .entry)) (s .size) (s .n .0) (s .j .0) (s .j .0) (now (main .exit)) (now (column .exit)) ⌝ }
 {
-    list_column(code, marks, notes, main, column, s);
     list_rows(code, marks, notes, column, s);
     untouch(column, s.j.0);
     forget(column, s.size, s.j.0);
@@ -176,7 +177,7 @@ fn finish(
     spread(code, marks, main, column, s);
 }
 
-// All stretches that end at j: s is the empty one.
+// All stretches that end at j, unless no rule is wanted there: s is the empty one.
 fn fill_column(
     code: &[u32],
     marks: &[u8],
@@ -191,6 +192,10 @@ fn fill_column(
     ensures { λ _. ⌜ Before (now (code .entry)) (now (marks .entry)) (now (notes .entry)) (s .size) (s .n .0) (s .j .0 + 1) (now (main .exit)) × (length (now (column .exit)) ≡ 3789)
         × UnitsTo (now (code .entry)) (now (notes .entry)) (s .size) (now (column .exit)) × Queued (s .size) (now (queue .exit)) × (countOf (now (queue .exit)) ≡ 0) ⌝ }
 {
+    list_column(code, marks, notes, main, column, s);
+    if column[LISTED] == 0 {
+        return;
+    }
     begin_column(code, marks, notes, main, column, s);
     let n = s.n;
     let j = s.j;

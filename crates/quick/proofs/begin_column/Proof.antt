@@ -1,30 +1,14 @@
-use borrow.Author.Needs.{needs}
 use mathlib.Core.Path.{sym, subst, _∙_}
 use native.Mathlib.Omega.{arith}
 use Rattle.sparse.specs.Cells.{Tables}
-use Rattle.sparse.proofs.Column.{listed-kept, units-kept}
+use Rattle.sparse.proofs.Column.{listed-kept}
 use Rattle.quick.proofs.Columns.{from-start}
+use borrow.Author.Needs.{needs}
 use Rattle.quick.proofs.begin_column.Statement.{statement}
 use Rattle.quick.proofs.begin_column.Tie as tie
 
-list-column-requires : tie.Need-list-column-requires
-list-column-requires c κs = search needs
-
 list-rows-requires : tie.Need-list-rows-requires
-list-rows-requires c κs =
-    let at-list-column = c .before .before .before .before .before in
-    let start = at-list-column .before .before .before .before .before .before .before .before in
-    let a = start .args in
-    let g = start .pre in
-    let t = g .0 .tables in
-    let l = at-list-column .list-column .ensures in (
-      t .shape,
-      t .marks-long,
-      t .noted .long,
-      omega (arith, g .2, t .short),
-      l .0,
-      units-kept (a .code .now) (a .notes .now) (a .s .size) (a .column .now) (at-list-column .list-column .last .1 .1 .1 .1 .0) (t .shape) (λ z h h'. l .2 z (omega arith)) (g .4),
-    )
+list-rows-requires c κs = search needs
 
 untouch-requires : tie.Need-untouch-requires
 untouch-requires c κs = search needs
@@ -37,16 +21,13 @@ spread-empty-requires c κs =
     let at-forget = c .before .before .before .before in
     let at-untouch = at-forget .before .before .before .before in
     let at-list-rows = at-untouch .before .before .before .before in
-    let at-list-column = at-list-rows .before .before .before .before .before .before in
-    let start = at-list-column .before .before .before .before .before .before .before .before in
+    let start = at-list-rows .before .before .before .before .before .before .before in
     let a = start .args in
     let g = start .pre in
-    let l = at-list-column .list-column .ensures in
-    let r = at-list-rows .list-rows .ensures in
     let u = at-untouch .untouch .ensures in
     let d = at-forget .forget .ensures in (
-      subst (Tables (a .code .now) (a .marks .now) (a .notes .now) (a .s .size) (a .s .n .0)) (sym (l .1 .long)) (g .0 .tables),
-      listed-kept (d .long ∙ u .long) (λ z h. d .before z (omega arith) ∙ u .before z (omega arith)) (r .listed),
+      subst (Tables (a .code .now) (a .marks .now) (a .notes .now) (a .s .size) (a .s .n .0)) (sym (g .0 .2 .long)) (g .0 .1 .tables),
+      listed-kept (d .long ∙ u .long) (λ z h. d .before z (omega arith) ∙ u .before z (omega arith)) (at-list-rows .list-rows .ensures .listed),
       omega (arith, g .1),
       g .2,
       λ y i h h' h''. absurd (omega (arith, d .from y h, g .1)),
@@ -65,17 +46,15 @@ returns c =
     let at-forget = at-spread-empty .before .before .before .before .before in
     let at-untouch = at-forget .before .before .before .before in
     let at-list-rows = at-untouch .before .before .before .before in
-    let at-list-column = at-list-rows .before .before .before .before .before .before in
-    let start = at-list-column .before .before .before .before .before .before .before .before in
+    let start = at-list-rows .before .before .before .before .before .before .before in
     let g = start .pre in
-    let l = at-list-column .list-column .ensures in
-    from-start _ _ _ _ _ _ (g .2) (g .0) (l .1) (at-list-rows .list-rows .ensures) (at-untouch .untouch .ensures) (at-forget .forget .ensures) (g .1) (at-spread-empty .spread-empty .ensures)
+    from-start _ _ _ _ _ _ (g .2) (g .0 .1) (g .0 .2) (at-list-rows .list-rows .ensures) (at-untouch .untouch .ensures) (at-forget .forget .ensures) (g .1)
+    (at-spread-empty .spread-empty .ensures)
 
 pub begin-column-spec : {M : Type 1} → statement M
 begin-column-spec =
     tie.close
     (tie.spec
-    list-column-requires
     list-rows-requires
     untouch-requires
     forget-requires
