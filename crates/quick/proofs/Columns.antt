@@ -27,9 +27,11 @@ use Rattle.sparse.specs.Cells.{isLast, ruleOf, restOf, Shape, Tables}
 use Rattle.sparse.specs.Steps.{Flagged, towardOf, Sound, LeastOn, Empties, Fell, HandedOn, Given, Listed}
 use Rattle.sparse.proofs.Rows.{in-table}
 use Rattle.sparse.proofs.Falls.{rule-same, rest-same, RestBy, by-last, by-row, rule-by, rest-by, fell-widen}
-use Rattle.spread.specs.Spread.{lowFrom, Low as LowNotes, AllSpread}
-use Rattle.spread.proofs.Handing.{on-kept, listed-kept, low-kept}
-use Rattle.quick.specs.Quick.{Row, of-rule, of-dot, Emptied, Untouched, Unnoted, ListedTo, ClearedTo, DotCleared, Bare, Before, From, Filled}
+use Rattle.spread.specs.Spread.{AllSpread}
+use Rattle.sparse.specs.Column.{Rows}
+use Rattle.sparse.proofs.Column.{rows-kept}
+use Rattle.spread.proofs.Handing.{on-kept, low-kept}
+use Rattle.quick.specs.Quick.{Row, of-rule, of-dot, Emptied, Untouched, Unnoted, AfterDots, ListedTo, ClearedTo, DotCleared, Bare, Before, From, Filled}
 
 -- a stretch keeps what it has where the cells of its parts stay
 module _ (c M F : List ℕ) (size n : ℕ) (t u : List ℕ) where
@@ -164,37 +166,9 @@ module _ (n x j : ℕ) (t : List ℕ) where
         (λ w. let s = cell-inj n y k m x i j h h' (omega arith) stop w in o (s .same-p, s .same-j)) ∙ a .other y k m h h' o;
   })
 
--- one flag more is 0
-pub untouched-none : (C : List ℕ) → Untouched 0 C C
-untouched-none C = record { long = refl; before = λ z h. refl; flags = λ i h. absurd (omega arith) }
-
-pub untouched-next : (i : ℕ) (C D : List ℕ) → 513 + i < length D → Untouched i C D → Untouched (i + 1) C (set D (513 + i) 0)
-untouched-next i C D room a = record {
-  long = length-set D (513 + i) 0 ∙ a .long;
-  before = λ z h. getD-set-other D (513 + i) z 0 0 (λ o. omega arith) ∙ a .before z h;
-  flags = λ k h. elim (ℕ-discrete k i) as (λ _. getD (set D (513 + i) 0) (513 + k) 0 ≡ 0) [
-    | yes e ↦ ap (λ (w : ℕ). getD (set D (513 + i) 0) (513 + w) 0) e ∙ getD-set-same D (513 + i) 0 0 room
-    | no e ↦ getD-set-other D (513 + i) (513 + k) 0 0 (λ o. e (omega arith)) ∙ a .flags k (omega arith)
-  ];
-}
-
--- one row more has no note
-pub unnoted-none : (j : ℕ) (C : List ℕ) → Unnoted j 0 C C
-unnoted-none j C = record { long = refl; before = λ z h. refl; from = λ y h. absurd (omega arith) }
-
-pub unnoted-next : (j x : ℕ) (C D : List ℕ) → 1226 + x < length D → Unnoted j x C D → Unnoted j (x + 1) C (set D (1226 + x) j)
-unnoted-next j x C D room a = record {
-  long = length-set D (1226 + x) j ∙ a .long;
-  before = λ z h. getD-set-other D (1226 + x) z j 0 (λ o. omega arith) ∙ a .before z h;
-  from = λ y h. elim (ℕ-discrete y x) as (λ _. lowFrom (set D (1226 + x) j) y ≡ j) [
-    | yes e ↦ ap (lowFrom (set D (1226 + x) j)) e ∙ getD-set-same D (1226 + x) j 0 room
-    | no e ↦ getD-set-other D (1226 + x) (1226 + y) j 0 (λ o. e (omega arith)) ∙ a .from y (omega arith)
-  ];
-}
-
 module _ (c M : List ℕ) (n j : ℕ) where
   -- one dot more is listed
-  pub listed-none : (C : List ℕ) → length C ≡ 1738 → ListedTo c M n j 0 (set C 512 0)
+  pub listed-none : (C : List ℕ) → length C ≡ 3789 → ListedTo c M n j 0 (set C 512 0)
   listed-none C e =
       let z = getD-set-same C 512 0 0 (omega arith) in
       record {
@@ -250,6 +224,9 @@ module _ (c M : List ℕ) (n j : ℕ) where
       count = omega (arith, count-is, a .count);
     }
 
+    pub after-added : AfterDots C D
+    after-added z h = getD-set-other (set C q x) 512 z (q + 1) 0 (λ e. omega arith) ∙ getD-set-other C q z x 0 (λ e. omega (arith, a .count))
+
   -- one row more is cleared
   pub cleared-none : (t : List ℕ) → ClearedTo c M n j 0 t t
   cleared-none t = record { long = refl; same = λ y k l h h' o. refl; rows = λ y i h. absurd (omega arith) }
@@ -272,12 +249,8 @@ module _ (c M : List ℕ) (n j : ℕ) where
 
 -- one stretch after the other
 module _ (c M F : List ℕ) (size n j : ℕ) where
-  -- the rows are cleared, the flags too, and the empty stretch has handed on
-  module _ {t u v B C D E : List ℕ} (stop : j ≤ n) (a : Before c M F size n j t) (b : ClearedTo c M n j size t u) (l : Listed c M size j C) (f : Untouched j C B) (d : Unnoted j size B D)
-      {m : ℕ} (empty : m ≡ j) (handed : AllSpread c M F size n m j u D v E) where
-    s : AllSpread c M F size n j j u D v E
-    s = subst (λ (x : ℕ). AllSpread c M F size n x j u D v E) empty handed
-
+  -- the rows are cleared
+  module _ {t u : List ℕ} (stop : j ≤ n) (a : Before c M F size n j t) (b : ClearedTo c M n j size t u) where
     bare-all : (k : ℕ) → k < j → Bare c M n j size k u
     bare-all k h = record { wide = h; rows = λ y i w r. b .rows y k i w r h }
 
@@ -293,19 +266,41 @@ module _ (c M F : List ℕ) (size n j : ℕ) where
           ])
         ]
 
+    cleared-least : (k l : ℕ) → k < l → l < j → LeastOn c M F size n u k l
+    cleared-least k l h h' = least-kept c M F size n t u k l (omega arith) (λ y x z d e g. b .same y x z e (omega arith) (λ w. omega arith)) (a .least k l h h')
+
+    -- no rule is wanted at the end
+    pub before-unwanted : {C : List ℕ} → Listed c M size j C → getD C 512 0 ≡ 0 → Before c M F size n (j + 1) u
+    before-unwanted l e = record {
+      tables = subst (Tables c M F size n) (sym (b .long)) (a .tables);
+      empties = a .empties;
+      sound = cleared-sound;
+      least = λ k m h h'. elim (ℕ-discrete m j) as (λ _. LeastOn c M F size n u k m) [
+        | yes d ↦ (λ p v lp r w o s. absurd (omega (arith, e, l .all p lp (subst (Wanted M (homeOf c p)) d w) .1)))
+        | no d ↦ cleared-least k m h (omega arith)
+      ];
+    }
+
+  -- the flags are taken back, too, and the empty stretch has handed on
+  module _ {t u v B C D E : List ℕ} (stop : j ≤ n) (a : Before c M F size n j t) (b : ClearedTo c M n j size t u) (l : Rows c M size j F C) (f : Untouched j C B) (d : Unnoted j size B D)
+      {m : ℕ} (empty : m ≡ j) (handed : AllSpread c M F size n m j u D v E) where
+    s : AllSpread c M F size n j j u D v E
+    s = subst (λ (x : ℕ). AllSpread c M F size n x j u D v E) empty handed
+
     pub from-start : From c M F size n j j v E
     from-start = record {
       tables = subst (Tables c M F size n) (sym (s .spread .fell .long ∙ b .long)) (a .tables);
       stop = stop;
-      listed = listed-kept (s .spread .long ∙ d .long ∙ f .long) (λ z h. s .spread .before z h ∙ d .before z (omega arith) ∙ f .before z h) l;
+      rows = rows-kept (a .tables .shape) (s .spread .long ∙ d .long ∙ f .long) (λ z h. s .spread .before z h ∙ d .before z (omega arith) ∙ f .before z h) l;
+      full = s .spread .full (λ i w h z. omega (arith, d .full, f .none-full));
       low = s .spread .low (λ y i h h' h''. absurd (omega (arith, d .from y h)));
-      sound = s .spread .fell .sound cleared-sound;
+      sound = s .spread .fell .sound (cleared-sound stop a b);
       before = λ k m h h'. least-kept c M F size n t v k m (omega arith)
           (λ y x z d e g. s .spread .fell .same y x z e (omega arith) (λ w. omega (arith, w .1)) ∙ b .same y x z e (omega arith) (λ w. omega arith)) (a .least k m h h');
       least = λ k h h'. absurd (omega arith);
       on = λ p m h h' h''. let e : j ≡ m = omega arith in subst (λ (z : ℕ). HandedOn c M F size n z j v p) e (s .on p h);
       bare = λ k h h' z. let w = s .spread .still k h z in
-          record { wide = h; rows = λ y i g r. w .1 y ∙ bare-all k h .rows y i g r };
+          record { wide = h; rows = λ y i g r. w .1 y ∙ bare-all stop a b k h .rows y i g r };
     }
 
   -- one stretch more
@@ -313,13 +308,14 @@ module _ (c M F : List ℕ) (size n j : ℕ) where
     given : Given c M F size n h j t
     given p m lp l l' = a .on p m lp (omega arith) l'
 
-    pub from-bare : getD C (513 + h) 0 ≡ 0 → From c M F size n j h t C
+    pub from-bare : getD C (2563 + h) 0 ≡ 0 → From c M F size n j h t C
     from-bare z =
         let b = a .bare h (omega arith) wide z in
         record {
           tables = a .tables;
           stop = a .stop;
-          listed = a .listed;
+          rows = a .rows;
+          full = a .full;
           sound = a .sound;
           before = a .before;
           least = λ k l l'. elim (ℕ-discrete h k) as (λ _. LeastOn c M F size n t k j) [
@@ -344,7 +340,8 @@ module _ (c M F : List ℕ) (size n j : ℕ) where
       from-next = record {
         tables = subst (Tables c M F size n) (sym (s .spread .fell .long ∙ f .long)) (a .tables);
         stop = a .stop;
-        listed = listed-kept (s .spread .long) (s .spread .before) (a .listed);
+        rows = rows-kept (a .tables .shape) (s .spread .long) (s .spread .before) (a .rows);
+        full = s .spread .full (a .full);
         low = s .spread .low (low-kept c M F size n h j t u C C (f .le) (λ y l. (refl, refl)) (λ y i l l' l''. a .low y i l l' (omega arith)));
         sound = s .spread .fell .sound (f .sound (a .sound));
         before = λ k m l l'. least-kept c M F size n t v k m (omega arith) (λ y x z d e i. away y x z e (omega (arith, a .stop)) (λ _ w. omega arith)) (a .before k m l l');

@@ -11,7 +11,8 @@ use Rattle.heights.specs.Table.{cellOf}
 use Rattle.reach.specs.Flags.{Wanted, homeOf}
 use Rattle.sparse.specs.Cells.{isLast, Tables}
 use Rattle.sparse.specs.Steps.{Sound, LeastOn, Empties, HandedOn, Listed}
-use Rattle.spread.specs.Spread.{lowFrom, Low}
+use Rattle.sparse.specs.Column.{Rows}
+use Rattle.spread.specs.Spread.{lowFrom, Low, Full}
 
 -- the row x is of a rule, or of a dot that is neither first, nor an end, nor before a last symbol
 pub data Row (c : List ℕ) (x : ℕ) : Type 0 where
@@ -24,17 +25,23 @@ pub record Emptied (n x j i : ℕ) (t t' : List ℕ) : Type 0 where
   pub bare : (k : ℕ) → k < i → cellOf n t' x k j ≡ none
   pub other : (y k l : ℕ) → k ≤ l → l ≤ n → ((y ≡ x) × (l ≡ j) → ⊥) → cellOf n t' y k l ≡ cellOf n t y k l
 
--- no start before j is flagged
+-- no start before j is flagged, nor is it noted that any are
 pub record Untouched (j : ℕ) (C C' : List ℕ) : Type 0 where
   pub long : length C' ≡ length C
-  pub before : (z : ℕ) → z < 513 → getD C' z 0 ≡ getD C z 0
-  pub flags : (i : ℕ) → i < j → getD C' (513 + i) 0 ≡ 0
+  pub before : (z : ℕ) → z < 2563 → getD C' z 0 ≡ getD C z 0
+  pub flags : (i : ℕ) → i < j → getD C' (2563 + i) 0 ≡ 0
+  pub none-full : getD C' 3788 0 ≡ 0
 
 -- of the rows before x nothing is noted
 pub record Unnoted (j x : ℕ) (C C' : List ℕ) : Type 0 where
   pub long : length C' ≡ length C
-  pub before : (z : ℕ) → z < 1226 → getD C' z 0 ≡ getD C z 0
+  pub before : (z : ℕ) → z < 3276 → getD C' z 0 ≡ getD C z 0
   pub from : (y : ℕ) → y < x → lowFrom C' y ≡ j
+  pub full : getD C' 3788 0 ≡ getD C 3788 0
+
+-- what stands after the list of dots is as it was
+abbrev pub AfterDots : List ℕ → List ℕ → Type 0
+AfterDots C C' = (z : ℕ) → 512 < z → getD C' z 0 ≡ getD C z 0
 
 module _ (c M : List ℕ) (n j : ℕ) where
   -- the dots before x are listed, if their rule is wanted
@@ -71,12 +78,13 @@ module _ (c M F : List ℕ) (size n j : ℕ) where
   pub record From (i : ℕ) (t C : List ℕ) : Type 0 where
     pub tables : Tables c M F size n (length t)
     pub stop : j ≤ n
-    pub listed : Listed c M size j C
+    pub rows : Rows c M size j F C
+    pub full : Full C
     pub sound : Sound c M F size n (j + 1) t
     pub before : (k l : ℕ) → k < l → l < j → LeastOn c M F size n t k l
     pub least : (k : ℕ) → i ≤ k → k < j → LeastOn c M F size n t k j
     pub on : (p m : ℕ) → p < size → i ≤ m → m ≤ j → HandedOn c M F size n m j t p
-    pub bare : (k : ℕ) → k < i → k < j → getD C (513 + k) 0 ≡ 0 → Bare c M n j size k t
+    pub bare : (k : ℕ) → k < i → k < j → getD C (2563 + k) 0 ≡ 0 → Bare c M n j size k t
     pub low : Low size n i j t C
 
 -- heights of stretches that are not empty are those of derivations, and the least of them

@@ -1,23 +1,28 @@
 // The quick engine: fills the part of the main table that derivations of the whole record can use, one end after the other, the stretches of
 // an end from the shortest on. Each is settled before it hands on to longer ones.
 ghost use mathlib.Core.Bool.{false};
+ghost use mathlib.Core.List.{List};
 ghost use mathlib.Core.Path.{_≡_};
-ghost use Prim.Native.Nat.{_+_, _*_, _<_, _≤_};
+ghost use Prim.Native.Nat.{ℕ, _+_, _*_, _<_, _≤_};
 ghost use lib.ListN.{length};
 ghost use Rattle.chart.specs.Heights.{stretches};
 ghost use Rattle.sparse.specs.Cells.{Shape, Tables};
 ghost use Rattle.sparse.specs.Steps.{Empties, Listed};
+ghost use Rattle.sparse.specs.Column.{UnitsTo};
 ghost use Rattle.queue.specs.Queue.{countOf, Queued};
-ghost use Rattle.quick.specs.Quick.{Row, Emptied, Untouched, Unnoted, ListedTo, ClearedTo, DotCleared, Before, From, Filled};
+ghost use Rattle.quick.specs.Quick.{Row, Emptied, Untouched, Unnoted, AfterDots, ListedTo, ClearedTo, DotCleared, Before, From, Filled};
 use chart::AT_END;
 use chart::CODE_COLUMNS;
 use chart::CODE_GOES;
 use chart::CODE_OWNER;
 use chart::NONE;
 use chart::cell;
+use listing::list_rows;
+use listing::note_units;
 use queue::QUEUE;
 use settle::settle;
 use sparse::COLUMN;
+use sparse::FULL;
 use sparse::HOMES;
 use sparse::LISTED;
 use sparse::LOW_FROM;
@@ -26,6 +31,7 @@ use sparse::TOUCHED;
 use sparse::is_last;
 use sparse::wanted;
 use spread::spread;
+use spread::spread_empty;
 use text::CharPlace;
 
 // Whether x has a row: the end that names a rule; a dot that is neither first, nor an end, nor before a last symbol.
@@ -68,7 +74,8 @@ fn list_dot(
     requires { ⌜ Tables (now code) (now marks) (now notes) (s .size) (s .n .0) (length (now main)) × (s .j .0 ≤ s .n .0) × (x < s .size)
         × ListedTo (now code) (now marks) (s .n .0) (s .j .0) x (now column) ⌝ }
     ensures { λ _. ⌜ ListedTo (now (code .entry)) (now (marks .entry)) (s .n .0) (s .j .0) (x + 1) (now (column .exit))
-        × DotCleared (now (code .entry)) (now (marks .entry)) (s .n .0) (s .j .0) x (now (main .entry)) (now (main .exit)) ⌝ }
+        × DotCleared (now (code .entry)) (now (marks .entry)) (s .n .0) (s .j .0) x (now (main .entry)) (now (main .exit))
+        × AfterDots (now (column .entry)) (now (column .exit)) ⌝ }
 {
     if !wanted(marks, text::wide(notes[HOMES + x]), s.j) {
         return;
@@ -90,9 +97,10 @@ fn list_column(
     column: &mut [u32],
     s: Stretch,
 )
-    requires { ⌜ Tables (now code) (now marks) (now notes) (s .size) (s .n .0) (length (now main)) × (s .j .0 ≤ s .n .0) × (length (now column) ≡ 1738) ⌝ }
+    requires { ⌜ Tables (now code) (now marks) (now notes) (s .size) (s .n .0) (length (now main)) × (s .j .0 ≤ s .n .0) × (length (now column) ≡ 3789) ⌝ }
     ensures { λ _. ⌜ Listed (now (code .entry)) (now (marks .entry)) (s .size) (s .j .0) (now (column .exit))
-        × ClearedTo (now (code .entry)) (now (marks .entry)) (s .n .0) (s .j .0) (s .size) (now (main .entry)) (now (main .exit)) ⌝ }
+        × ClearedTo (now (code .entry)) (now (marks .entry)) (s .n .0) (s .j .0) (s .size) (now (main .entry)) (now (main .exit))
+        × AfterDots (now (column .entry)) (now (column .exit)) ⌝ }
 {
     column[LISTED] = 0;
     let mut x = 0;
@@ -104,9 +112,10 @@ fn list_column(
 
 // No start is touched.
 fn untouch(column: &mut [u32], j: usize)
-    requires { ⌜ 513 + j ≤ length (now column) ⌝ }
+    requires { ⌜ (length (now column) ≡ 3789) × (j ≤ 200) ⌝ }
     ensures { λ _. ⌜ Untouched j (now (column .entry)) (now (column .exit)) ⌝ }
 {
+    column[FULL] = 0;
     let mut i = 0;
     while i < j {
         column[TOUCHED + i] = 0;
@@ -116,7 +125,7 @@ fn untouch(column: &mut [u32], j: usize)
 
 // Of no row is it known that its cells are low.
 fn forget(column: &mut [u32], size: usize, j: usize)
-    requires { ⌜ (length (now column) ≡ 1738) × (size ≤ 512) × (j ≤ 200) ⌝ }
+    requires { ⌜ (length (now column) ≡ 3789) × (size ≤ 512) × (j ≤ 200) ⌝ }
     ensures { λ _. ⌜ Unnoted j size (now (column .entry)) (now (column .exit)) ⌝ }
 {
     let mut y = 0;
@@ -126,7 +135,7 @@ fn forget(column: &mut [u32], size: usize, j: usize)
     }
 }
 
-// The empty stretch s hands on.
+// The dots are listed, and their rows cleared: the empty stretch s hands on.
 fn begin_column(
     code: &[u32],
     marks: &[u8],
@@ -135,13 +144,15 @@ fn begin_column(
     column: &mut [u32],
     s: Stretch,
 )
-    requires { ⌜ Before (now code) (now marks) (now notes) (s .size) (s .n .0) (s .j .0) (now main) × (s .i .0 ≡ s .j .0) × (s .j .0 ≤ s .n .0) × (length (now column) ≡ 1738) ⌝ }
+    requires { ⌜ ((t : List ℕ) × Before (now code) (now marks) (now notes) (s .size) (s .n .0) (s .j .0) t
+        × ClearedTo (now code) (now marks) (s .n .0) (s .j .0) (s .size) t (now main)) × (s .i .0 ≡ s .j .0) × (s .j .0 ≤ s .n .0)
+        × Listed (now code) (now marks) (s .size) (s .j .0) (now column) × UnitsTo (now code) (now notes) (s .size) (now column) ⌝ }
     ensures { λ _. ⌜ From (now (code .entry)) (now (marks .entry)) (now (notes .entry)) (s .size) (s .n .0) (s .j .0) (s .j .0) (now (main .exit)) (now (column .exit)) ⌝ }
 {
-    list_column(code, marks, notes, main, column, s);
+    list_rows(code, marks, notes, column, s);
     untouch(column, s.j.0);
     forget(column, s.size, s.j.0);
-    spread(code, marks, notes, main, column, s);
+    spread_empty(code, marks, notes, main, column, s);
 }
 
 // Settles and spreads the stretch, if it was touched.
@@ -163,10 +174,10 @@ fn finish(
         return;
     }
     settle(code, marks, notes, main, queue, column, s);
-    spread(code, marks, notes, main, column, s);
+    spread(code, marks, main, column, s);
 }
 
-// All stretches that end at j: s is the empty one.
+// All stretches that end at j, unless no rule is wanted there: s is the empty one.
 fn fill_column(
     code: &[u32],
     marks: &[u8],
@@ -177,10 +188,14 @@ fn fill_column(
     s: Stretch,
 )
     requires { ⌜ Before (now code) (now marks) (now notes) (s .size) (s .n .0) (s .j .0) (now main) × (s .i .0 ≡ s .j .0) × (s .j .0 ≤ s .n .0)
-        × (length (now column) ≡ 1738) × Queued (s .size) (now queue) × (countOf (now queue) ≡ 0) ⌝ }
-    ensures { λ _. ⌜ Before (now (code .entry)) (now (marks .entry)) (now (notes .entry)) (s .size) (s .n .0) (s .j .0 + 1) (now (main .exit)) × (length (now (column .exit)) ≡ 1738)
-        × Queued (s .size) (now (queue .exit)) × (countOf (now (queue .exit)) ≡ 0) ⌝ }
+        × (length (now column) ≡ 3789) × UnitsTo (now code) (now notes) (s .size) (now column) × Queued (s .size) (now queue) × (countOf (now queue) ≡ 0) ⌝ }
+    ensures { λ _. ⌜ Before (now (code .entry)) (now (marks .entry)) (now (notes .entry)) (s .size) (s .n .0) (s .j .0 + 1) (now (main .exit)) × (length (now (column .exit)) ≡ 3789)
+        × UnitsTo (now (code .entry)) (now (notes .entry)) (s .size) (now (column .exit)) × Queued (s .size) (now (queue .exit)) × (countOf (now (queue .exit)) ≡ 0) ⌝ }
 {
+    list_column(code, marks, notes, main, column, s);
+    if column[LISTED] == 0 {
+        return;
+    }
     begin_column(code, marks, notes, main, column, s);
     let n = s.n;
     let j = s.j;
@@ -204,6 +219,7 @@ pub fn fill(code: &[u32], marks: &[u8], notes: &[u32], size: usize, n: CharPlace
 {
     let mut queue = [0u32; QUEUE];
     let mut column = [0u32; COLUMN];
+    note_units(code, notes, &mut column, size);
     let mut j = CharPlace(0);
     while j.0 <= n.0 {
         let s = Stretch {

@@ -14,13 +14,15 @@ use Rattle.chart.specs.Code.{nextKind, goesAt, ruleAt, ownerAt}
 use Rattle.chart.specs.Heights.{none}
 use Rattle.heights.specs.Table.{cellOf, upOf}
 use Rattle.heights.specs.Filling.{total, Only}
-use Rattle.heights.proofs.Values.{up-most}
+use Rattle.heights.proofs.Values.{up-none, up-most}
 use Rattle.heights.specs.Part.{Offers, by-end, by-terminal, by-split}
 use Rattle.reach.specs.Flags.{dotAt, endAt, Reached, Fits, Wanted, homeOf}
 use Rattle.reach.proofs.Closed.{home-next}
-use Rattle.sparse.specs.Cells.{isLast, ruleOf, wideRest, restOf, Shape}
-use Rattle.sparse.specs.Steps.{towardOf, Fell, On, overOf, Given, LeastOn, Listed}
-use Rattle.sparse.proofs.Rows.{last-is, rule-none, rule-empty, rest-end, rest-empty, over-terminal, over-symbol}
+use Rattle.sparse.specs.Cells.{isLast, emptyIn, emptyRest, ruleOf, wideRest, restOf, Shape}
+use Rattle.sparse.specs.Steps.{towardOf, Fell, On, overOf, Given, LeastOn}
+use Rattle.sparse.specs.Column.{Vanishes, WakesBy, Wakes, Rows}
+use Rattle.sparse.proofs.Rows.{last-is, empty-end, rule-cell, rule-none, rule-empty, rest-end, rest-empty, rest-away, rest-row}
+use Rattle.sparse.proofs.Rows.{Over, by-terminal as over-t, by-symbol as over-s, over-some, over-terminal, over-symbol}
 use Rattle.sparse.proofs.Falls.{fell-refl, fell-join}
 use Rattle.sparse.proofs.Toward.{fell-toward, fell-rule, fell-rest}
 use Rattle.queue.specs.Queue.{Pending, countOf, Waits, Queued, Taken}
@@ -41,10 +43,10 @@ module _ (c M F : List ℕ) (size n i j : ℕ) where
   -- the first k rows of the column are taken account of
   pub record Awake (t₀ Q₀ t Q C : List ℕ) (k : ℕ) : Type 0 where
     pub moved : Moved c M F size n i j t₀ Q₀ t Q
-    pub below : k ≤ getD C 512 0
-    pub right : (l : ℕ) → l < k → (p : ℕ) → p < size → nextKind c p ≡ 2 → ruleAt c p ≡ getD C l 0 → RightDone c M F size n i j t Q p
-    pub last : (l : ℕ) → l < k → (q : ℕ) → q + 1 < size → nextKind c (q + 1) ≡ 2 → ruleAt c (q + 1) ≡ getD C l 0 → LastDone c M F size n i j t Q q
-    pub left : (l : ℕ) → l < k → (q : ℕ) → getD C l 0 ≡ q + 1 → isLast c (q + 1) ≡ false → On c M size q i j → Pends c M F size n i j Q (q + 1) ⊎ LeftHeld c M F size n i j t q
+    pub below : k ≤ getD C 2049 0
+    pub right : (l : ℕ) → l < k → (p : ℕ) → p < size → nextKind c p ≡ 2 → ruleAt c p ≡ getD C (513 + l) 0 → RightDone c M F size n i j t Q p
+    pub last : (l : ℕ) → l < k → (q : ℕ) → q + 1 < size → nextKind c (q + 1) ≡ 2 → ruleAt c (q + 1) ≡ getD C (513 + l) 0 → LastDone c M F size n i j t Q q
+    pub left : (l : ℕ) → l < k → (q : ℕ) → getD C (513 + l) 0 ≡ q + 1 → isLast c (q + 1) ≡ false → On c M size q i j → Pends c M F size n i j Q (q + 1) ⊎ LeftHeld c M F size n i j t q
 
   -- nothing is to be done but for pending rules
   pub record Settling (t₀ t Q : List ℕ) : Type 0 where
@@ -58,19 +60,28 @@ module _ (c M F : List ℕ) (size n i j : ℕ) (shape : Shape c size) (wide : i 
   named : (p x : ℕ) → p < size → nextKind c p ≡ 2 → ruleAt c p ≡ x → (nextKind c x ≡ 0) × (goesAt c x ≡ 0) × (homeOf c x ≡ x)
   named p x h k e = let w = shape .names p h k in let y = shape .owners (goesAt c p) x (w .1) (w .2 ∙ ap (λ (z : ℕ). z + 1) e) in (y .1, y .2, y .3)
 
+  -- the row x is listed
+  module _ (t : List ℕ) (x : ℕ) (w : Wakes c M size j x) where
+    -- a dot's height is its cell
+    pub wake-rest : (nextKind c x ≡ 0 → ⊥) → Reached M x i → restOf c M F n t x i j ≡ cellOf n t x i j
+    wake-rest z u = rest-row c M F n t x i j (λ e. omega arith) z u (w .dot z .1) (w .live)
+
+    rest-idle : (nextKind c x ≡ 0 → ⊥) → cellOf n t x i j ≡ none → restOf c M F n t x i j ≡ none
+    rest-idle z e = elim (decLt 0 (dotAt M x i)) as (λ _. restOf c M F n t x i j ≡ none) [
+      | yes u ↦ wake-rest z (omega arith) ∙ e
+      | no u ↦ rest-away c M F n t x i j (λ e. omega arith) z (λ d. omega arith)
+    ]
+
+    rule-idle : cellOf n t x i j ≡ none → ruleOf c M F n t x i j ≡ none
+    rule-idle e = elim (decLt 1 (endAt M x j)) as (λ _. ruleOf c M F n t x i j ≡ none) [
+      | yes h ↦ rule-cell c M F n t x i j (λ d. omega arith) (omega arith) ∙ e
+      | no h ↦ rule-none c M F n t x i j (λ d. omega arith) (λ d. omega arith)
+    ]
+
   -- one row
   module _ {t Q : List ℕ} (x : ℕ) (y : Queued size Q) where
-    -- an end that names no rule
-    pub wake-end : nextKind c x ≡ 0 → (goesAt c x ≡ 0 → ⊥) → Woken c M F size n i j t Q t Q x
-    wake-end z g = record {
-      moved = moved-refl c M F size n i j shape wide stop y;
-      right = λ p h k e. absurd (g (named p x h k e .1));
-      last = λ q h k e. absurd (g (named (q + 1) x h k e .1));
-      left = λ q e b on. left-of-none c M F size n i j shape wide stop t q (ap (λ (w : ℕ). restOf c M F n t w i j) (sym e) ∙ rest-end c M F n t x i j (λ w. omega arith) z);
-    }
-
     -- a rule without a height
-    pub wake-none : nextKind c x ≡ 0 → ruleOf c M F n t x i j ≡ none → Woken c M F size n i j t Q t Q x
+    wake-none : nextKind c x ≡ 0 → ruleOf c M F n t x i j ≡ none → Woken c M F size n i j t Q t Q x
     wake-none z e₀ = record {
       moved = moved-refl c M F size n i j shape wide stop y;
       right = λ p h k e on. inr (right-of-none c M F size n i j shape wide stop t p (ap (λ (w : ℕ). ruleOf c M F n t w i j) e ∙ e₀));
@@ -104,21 +115,23 @@ module _ (c M F : List ℕ) (size n i j : ℕ) (shape : Shape c size) (wide : i 
         left = l;
       }
 
-      pub wake-first : x < size → (ownerAt c x ≡ 0 → ⊥) → Woken c M F size n i j t Q t Q x
-      wake-first h o = dot (moved-refl c M F size n i j shape wide stop y) (λ q e b on. elim (ℕ-discrete (nextKind c q) 0) as (λ _. LeftHeld c M F size n i j t q) [
-        | yes z ↦ end-left c M F size n i j shape wide stop t q z
-        | no z ↦ absurd (o (ap (ownerAt c) e ∙ shape .inner q (omega arith) z))
-      ])
-
-      pub wake-last : isLast c x ≡ true → Woken c M F size n i j t Q t Q x
-      wake-last b = dot (moved-refl c M F size n i j shape wide stop y) (λ q e b' on. absurd (clash b' b))
-
-      pub wake-empty : restOf c M F n t x i j ≡ none → Woken c M F size n i j t Q t Q x
+      wake-empty : restOf c M F n t x i j ≡ none → Woken c M F size n i j t Q t Q x
       wake-empty z = dot (moved-refl c M F size n i j shape wide stop y)
           (λ q e b on. left-of-none c M F size n i j shape wide stop t q (ap (λ (w : ℕ). restOf c M F n t w i j) (sym e) ∙ z))
 
       pub wake-carried : {t' Q' : List ℕ} → isLast c x ≡ false → LeftCarried c M F size n i j t Q t' Q' x → Woken c M F size n i j t Q t' Q' x
       wake-carried b d = dot (d .moved) (λ q e _ on. ⊎-elim (λ w. absurd (clash b (w .0))) (λ w. w) (d .left q e on))
+
+    -- the row x is listed, and nothing is to be done
+    module _ (w : Wakes c M size j x) where
+      pub wake-away : (nextKind c x ≡ 0 → ⊥) → (Reached M x i → ⊥) → Woken c M F size n i j t Q t Q x
+      wake-away z u = wake-empty z (rest-away c M F n t x i j (λ e. omega arith) z u)
+
+      pub wake-idle : cellOf n t x i j ≡ none → Woken c M F size n i j t Q t Q x
+      wake-idle e = elim (ℕ-discrete (nextKind c x) 0) as (λ _. Woken c M F size n i j t Q t Q x) [
+        | yes z ↦ wake-none z (rule-idle t x w e)
+        | no z ↦ wake-empty z (rest-idle t x w z e)
+      ]
 
   -- all rows
   pub awake-start : {t Q C : List ℕ} → Queued size Q → Awake c M F size n i j t Q t Q C 0
@@ -130,58 +143,83 @@ module _ (c M F : List ℕ) (size n i j : ℕ) (shape : Shape c size) (wide : i 
     left = λ l h. absurd (omega arith);
   }
 
-  pub awake-next : {t₀ Q₀ t Q t' Q' C : List ℕ} (k x : ℕ) → k < getD C 512 0 → x ≡ getD C k 0 → Awake c M F size n i j t₀ Q₀ t Q C k → Woken c M F size n i j t Q t' Q' x
+  pub awake-next : {t₀ Q₀ t Q t' Q' C : List ℕ} (k x : ℕ) → k < getD C 2049 0 → x ≡ getD C (513 + k) 0 → Awake c M F size n i j t₀ Q₀ t Q C k → Woken c M F size n i j t Q t' Q' x
       → Awake c M F size n i j t₀ Q₀ t' Q' C (k + 1)
   awake-next {t' = t'} {Q' = Q'} {C = C} k x below is a b = record {
     moved = moved-join c M F size n i j shape wide stop (a .moved) (b .moved);
     below = omega arith;
     right = λ l h p s z e. elim (ℕ-discrete l k) as (λ _. RightDone c M F size n i j t' Q' p) [
-      | yes d ↦ b .right p s z (e ∙ ap (λ (w : ℕ). getD C w 0) d ∙ sym is)
+      | yes d ↦ b .right p s z (e ∙ ap (λ (w : ℕ). getD C (513 + w) 0) d ∙ sym is)
       | no d ↦ right-stays c M F size n i j shape wide stop (b .moved) p s z (a .right l (omega arith) p s z e)
     ];
     last = λ l h q s z e. elim (ℕ-discrete l k) as (λ _. LastDone c M F size n i j t' Q' q) [
-      | yes d ↦ b .last q s z (e ∙ ap (λ (w : ℕ). getD C w 0) d ∙ sym is)
+      | yes d ↦ b .last q s z (e ∙ ap (λ (w : ℕ). getD C (513 + w) 0) d ∙ sym is)
       | no d ↦ (λ on f. left-stays c M F size n i j shape wide stop (b .moved) q on s (a .last l (omega arith) q s z e on f))
     ];
     left = λ l h q e f on. elim (ℕ-discrete l k) as (λ _. Pends c M F size n i j Q' (q + 1) ⊎ LeftHeld c M F size n i j t' q) [
-      | yes d ↦ (let w : x ≡ q + 1 = is ∙ sym (ap (λ (w : ℕ). getD C w 0) d) ∙ e in inr (b .left q w (ap (isLast c) w ∙ f) on))
+      | yes d ↦ (let w : x ≡ q + 1 = is ∙ sym (ap (λ (w : ℕ). getD C (513 + w) 0) d) ∙ e in inr (b .left q w (ap (isLast c) w ∙ f) on))
       | no d ↦ left-next c M F size n i j shape wide stop (b .moved) q on (a .left l (omega arith) q e f on)
     ];
   }
 
-  module _ {t₀ Q₀ t Q C : List ℕ} (listed : Listed c M size j C) (a : Awake c M F size n i j t₀ Q₀ t Q C (getD C 512 0)) where
+  -- a dot before one that vanishes is offered a height
+  vanishing : (q v w : ℕ) → w < none → Over c M F q i v w → Vanishes c F q
+  vanishing q v w l (over-t k g f is) = inl (k, g)
+  vanishing q v w l (over-s k is) = inr (
+    k,
+    (elim (decLt (emptyIn F (ruleAt c q)) none) as (λ _. emptyIn F (ruleAt c q) < none) [
+      | yes h ↦ h
+      | no h ↦ absurd (omega (arith, up-none (emptyIn F (ruleAt c q)) (omega arith)))
+    ]),
+  )
+
+  module _ {t₀ Q₀ t Q C : List ℕ} (r : Rows c M size j F C) (a : Awake c M F size n i j t₀ Q₀ t Q C (getD C 2049 0)) where
     -- a rule that is not wanted has no height
     unwanted : (e : ℕ) → (Wanted M e j → ⊥) → ruleOf c M F n t e i j ≡ none
     unwanted e w = rule-none c M F n t e i j (λ z. omega arith) w
 
+    -- the rule of a use that may stand last is listed
+    listed-rule : (q : ℕ) → q < size → nextKind c q ≡ 2 → emptyRest c F (q + 1) < none → Wanted M (ruleAt c q) j → WakesBy C (ruleAt c q)
+    listed-rule q h z e w = r .wakes .rule q h z e (subst (λ (x : ℕ). Wanted M x j) (sym (named q (ruleAt c q) h z refl .2)) w)
+
     all-right : (q : ℕ) → RightDone c M F size n i j t Q q
     all-right q on = elim (ℕ-discrete (nextKind c q) 2) as (λ _. Pending Q (ruleAt c q) ⊎ RightHeld c M F size n i j t q) [
       | no z ↦ inr (λ k l. absurd (z k))
-      | yes z ↦ (let w = named q (ruleAt c q) (on .inside) z refl in elim (decLt 1 (endAt M (ruleAt c q) j)) as (λ _. Pending Q (ruleAt c q) ⊎ RightHeld c M F size n i j t q) [
-        | no h ↦ inr (right-of-none c M F size n i j shape wide stop t q (unwanted (ruleAt c q) (λ x. omega arith)))
-        | yes h ↦ (let live : Wanted M (homeOf c (ruleAt c q)) j = subst (λ (x : ℕ). Wanted M x j) (sym (w .2)) (omega arith) in
-            let f = listed .all (ruleAt c q) (shape .names q (on .inside) z .0) live in
-            a .right (f .0) (f .1) q (on .inside) z (sym (f .2)) on)
+      | yes z ↦ (elim (decLt (emptyRest c F (q + 1)) none) as (λ _. Pending Q (ruleAt c q) ⊎ RightHeld c M F size n i j t q) [
+        | no e ↦ inr (λ k l. absurd (omega arith))
+        | yes e ↦ (elim (decLt 1 (endAt M (ruleAt c q) j)) as (λ _. Pending Q (ruleAt c q) ⊎ RightHeld c M F size n i j t q) [
+          | no h ↦ inr (right-of-none c M F size n i j shape wide stop t q (unwanted (ruleAt c q) (λ x. omega arith)))
+          | yes h ↦ (let f = listed-rule q (on .inside) z e (omega arith) in a .right (f .0) (f .1) q (on .inside) z (sym (f .2)) on)
+        ])
       ])
     ]
 
     last-left : (q : ℕ) → On c M size q i j → q + 1 < size → isLast c (q + 1) ≡ true → Pends c M F size n i j Q (q + 1) ⊎ LeftHeld c M F size n i j t q
     last-left q on h b =
-        let k = last-is c (q + 1) b .symbol in
-        let w = named (q + 1) (ruleAt c (q + 1)) h k refl in
+        let k = last-is c (q + 1) b in
         elim (decLt 1 (endAt M (ruleAt c (q + 1)) j)) as (λ _. Pends c M F size n i j Q (q + 1) ⊎ LeftHeld c M F size n i j t q) [
           | no z ↦ inr (last-of-none c M F size n i j shape wide stop t q b (unwanted (ruleAt c (q + 1)) (λ x. omega arith)))
-          | yes z ↦ (let live : Wanted M (homeOf c (ruleAt c (q + 1))) j = subst (λ (x : ℕ). Wanted M x j) (sym (w .2)) (omega arith) in
-              let f = listed .all (ruleAt c (q + 1)) (shape .names (q + 1) h k .0) live in
-              a .last (f .0) (f .1) q h k (sym (f .2)) on b)
+          | yes z ↦ (let f = listed-rule (q + 1) h (k .symbol) (omega (arith, empty-end c (q + 1 + 1) F (k .stop))) (omega arith) in
+              a .last (f .0) (f .1) q h (k .symbol) (sym (f .2)) on b)
         ]
+
+    -- nothing of what follows needs to be looked at unless it vanishes
+    dot-left : (q : ℕ) → On c M size q i j → (nextKind c q ≡ 0 → ⊥) → q + 1 < size → isLast c (q + 1) ≡ false → Pends c M F size n i j Q (q + 1) ⊎ LeftHeld c M F size n i j t q
+    dot-left q on z h b = elim (decLt (overOf c M F q i (restOf c M F n t (q + 1) i j)) none) as (λ _. Pends c M F size n i j Q (q + 1) ⊎ LeftHeld c M F size n i j t q) [
+      | no l ↦ inr (λ k. absurd (omega arith))
+      | yes l ↦ (elim (ℕ-discrete (nextKind c (q + 1)) 0) as (λ _. Pends c M F size n i j Q (q + 1) ⊎ LeftHeld c M F size n i j t q) [
+        | yes e ↦ inr (left-of-none c M F size n i j shape wide stop t q (rest-end c M F n t (q + 1) i j (λ x. omega arith) e))
+        | no e ↦ (let inner = shape .inner q h z in
+            let live = subst (λ (x : ℕ). Wanted M x j) (sym (home-next c q inner)) (on .live) in
+            let v = vanishing q (restOf c M F n t (q + 1) i j) _ l (over-some c M F q i (restOf c M F n t (q + 1) i j) l .1) in
+            let f = r .wakes .dot q h e inner b v live in a .left (f .0) (f .1) q (f .2) b on)
+      ])
+    ]
 
     all-left : (q : ℕ) → On c M size q i j → Pends c M F size n i j Q (q + 1) ⊎ LeftHeld c M F size n i j t q
     all-left q on = elim (ℕ-discrete (nextKind c q) 0) as (λ _. Pends c M F size n i j Q (q + 1) ⊎ LeftHeld c M F size n i j t q) [
       | yes z ↦ inr (end-left c M F size n i j shape wide stop t q z)
-      | no z ↦ (let h = shape .nexts q (on .inside) z in ⊎-elim (last-left q on h)
-          (λ b. let same = home-next c q (shape .inner q h z) in
-          let f = listed .all (q + 1) h (subst (λ (x : ℕ). Wanted M x j) (sym same) (on .live)) in a .left (f .0) (f .1) q (f .2) b on) (look (isLast c (q + 1))))
+      | no z ↦ (let h = shape .nexts q (on .inside) z in ⊎-elim (last-left q on h) (dot-left q on z h) (look (isLast c (q + 1))))
     ]
 
     pub all-woken : AllWoken c M F size n i j t₀ Q₀ t Q

@@ -4,8 +4,9 @@ ghost use mathlib.Core.Path.{_≡_};
 ghost use Prim.Native.Nat.{_<_};
 ghost use lib.ListN.{length};
 ghost use Rattle.chart.specs.Code.{nextKind};
-ghost use Rattle.reach.specs.Flags.{Wanted, homeOf};
-ghost use Rattle.sparse.specs.Steps.{Listed};
+ghost use Rattle.chart.specs.Heights.{none};
+ghost use Rattle.heights.specs.Table.{cellOf};
+ghost use Rattle.sparse.specs.Column.{Wakes, Rows};
 ghost use Rattle.queue.specs.Queue.{countOf};
 ghost use Rattle.settle.specs.Settle.{Ready, Offered, Put, Carried, AtLeft, LeftCarried, Used, Revisited, Woken, AllWoken, Settled};
 use chart::AT_END;
@@ -14,20 +15,21 @@ use chart::CODE_GOES;
 use chart::CODE_OWNER;
 use chart::CODE_RULE;
 use chart::NONE;
+use chart::cell;
 use queue::COUNT;
 use queue::dequeue;
 use queue::enqueue;
 use sparse::HOMES;
-use sparse::LISTED;
 use sparse::Offer;
 use sparse::Stretch;
+use sparse::WAKE_COUNT;
+use sparse::WAKES;
 use sparse::empty_rest;
 use sparse::is_last;
 use sparse::larger;
 use sparse::lower;
 use sparse::over;
 use sparse::reached;
-use sparse::rest_height;
 use sparse::rule_height;
 use sparse::up;
 use sparse::wanted;
@@ -168,45 +170,31 @@ fn revisit(
     }
 }
 
-// The dot x, or the rule that it names, has its height from shorter stretches.
+// The listed row x has its height from shorter stretches: a rule's uses are to be looked at, and the dot before a dot.
 fn wake(
     code: &[u32],
     marks: &[u8],
     notes: &[u32],
     main: &mut [u32],
     queue: &mut [u32],
-    x: usize,
+    x: Offer,
     s: Stretch,
 )
-    requires { ⌜ Ready (now code) (now marks) (now notes) (s .size) (s .n .0) (s .i .0) (s .j .0) (length (now main)) (now queue) × (x < s .size) × Wanted (now marks)
-        (homeOf (now code) x) (s .j .0) ⌝ }
+    requires { ⌜ Ready (now code) (now marks) (now notes) (s .size) (s .n .0) (s .i .0) (s .j .0) (length (now main)) (now queue)
+        × Wakes (now code) (now marks) (s .size) (s .j .0) (x .dot) × (x .height ≡ cellOf (s .n .0) (now main) (x .dot) (s .i .0) (s .j .0)) × (x .height < none) ⌝ }
     ensures { λ _. ⌜ Woken (now (code .entry)) (now (marks .entry)) (now (notes .entry)) (s .size) (s .n .0) (s .i .0) (s .j .0) (now (main .entry)) (now (queue .entry))
-        (now (main .exit)) (now (queue .exit)) x ⌝ }
+        (now (main .exit)) (now (queue .exit)) (x .dot) ⌝ }
 {
-    if code[CODE_COLUMNS * x] == AT_END {
-        if code[CODE_COLUMNS * x + CODE_GOES] != 0 {
-            return;
-        }
-        if rule_height(marks, notes, main, x, s) != NONE {
-            enqueue(queue, s.size, x);
-        }
+    if code[CODE_COLUMNS * x.dot] == AT_END {
+        enqueue(queue, s.size, x.dot);
         return;
     }
-    if code[CODE_COLUMNS * x + CODE_OWNER] != 0 {
-        return;
+    if reached(marks, x.dot, s.i) {
+        carry_left(code, marks, notes, main, queue, x, s);
     }
-    if is_last(code, s.size, x) {
-        return;
-    }
-    let v = rest_height(code, marks, notes, main, x, s);
-    if v == NONE {
-        return;
-    }
-    let o = Offer { dot: x, height: v };
-    carry_left(code, marks, notes, main, queue, o, s);
 }
 
-// All rows of the column.
+// All rows of the column that may lower others on the stretch.
 fn wake_all(
     code: &[u32],
     marks: &[u8],
@@ -216,14 +204,20 @@ fn wake_all(
     column: &[u32],
     s: Stretch,
 )
-    requires { ⌜ Ready (now code) (now marks) (now notes) (s .size) (s .n .0) (s .i .0) (s .j .0) (length (now main)) (now queue) × Listed (now code) (now marks) (s .size) (s .j .0) (now column) ⌝ }
+    requires { ⌜ Ready (now code) (now marks) (now notes) (s .size) (s .n .0) (s .i .0) (s .j .0) (length (now main)) (now queue)
+        × Rows (now code) (now marks) (s .size) (s .j .0) (now notes) (now column) ⌝ }
     ensures { λ _. ⌜ AllWoken (now (code .entry)) (now (marks .entry)) (now (notes .entry)) (s .size) (s .n .0) (s .i .0) (s .j .0) (now (main .entry)) (now (queue .entry))
         (now (main .exit)) (now (queue .exit)) ⌝ }
 {
     let mut k = 0;
-    while k < text::wide(column[LISTED]) {
-        wake(code, marks, notes, main, queue, text::wide(column[k]), s);
+    while k < text::wide(column[WAKE_COUNT]) {
+        let dot = text::wide(column[WAKES + k]);
+        let y = cell(s.n.0, dot, s.i.0, s.j.0);
+        let height = main[y];
         k += 1;
+        if height != NONE {
+            wake(code, marks, notes, main, queue, Offer { dot, height }, s);
+        }
     }
 }
 
@@ -237,8 +231,8 @@ pub fn settle(
     column: &[u32],
     s: Stretch,
 )
-    requires { ⌜ Ready (now code) (now marks) (now notes) (s .size) (s .n .0) (s .i .0) (s .j .0) (length (now main)) (now queue) × Listed (now code) (now marks) (s .size) (s .j .0)
-        (now column) × (countOf (now queue) ≡ 0) ⌝ }
+    requires { ⌜ Ready (now code) (now marks) (now notes) (s .size) (s .n .0) (s .i .0) (s .j .0) (length (now main)) (now queue)
+        × Rows (now code) (now marks) (s .size) (s .j .0) (now notes) (now column) × (countOf (now queue) ≡ 0) ⌝ }
     ensures { λ _. ⌜ Settled (now (code .entry)) (now (marks .entry)) (now (notes .entry)) (s .size) (s .n .0) (s .i .0) (s .j .0) (now (main .entry)) (now (main .exit)) (now (queue .exit)) ⌝ }
 {
     wake_all(code, marks, notes, main, queue, column, s);

@@ -3,3 +3,4 @@ pub mod Falls
 pub mod Toward
 pub mod Coded
 pub mod Empty
+pub mod Column

@@ -89,7 +89,7 @@ Given c M F size n i j t = (p m : ℕ) → p < size → i < m → m ≤ j → Ha
 
 -- the dots of the rules that are wanted at j are listed, with their count; then follow flags of places
 pub record Listed (c M : List ℕ) (size j : ℕ) (C : List ℕ) : Type 0 where
-  pub long : length C ≡ 1738
+  pub long : length C ≡ 3789
   pub count : getD C 512 0 ≤ 512
   pub each : (k : ℕ) → k < getD C 512 0 → (getD C k 0 < size) × Wanted M (homeOf c (getD C k 0)) j
   pub all : (p : ℕ) → p < size → Wanted M (homeOf c p) j → (k : ℕ) × (k < getD C 512 0) × (getD C k 0 ≡ p)

@@ -30,17 +30,33 @@ pub const NOTES: usize = EMPTIES + text::limits::GRAMMAR_SIZE;
 // The flags of all places.
 pub const MARKS: usize = reach::PLACE * (text::limits::RECORD_CHARACTERS + 1);
 
-// The column of a place: the dots of rules that are wanted there, their count, a flag for each place before, and for each row from which
-// start on its cells are low, and how low.
+// The column of a place: the dots of rules that are wanted there, and their count. For stretches that are not empty: the rows that may lower
+// others on the same stretch; the dots that hand on to longer ones, and the row of each; the counts of both. A flag for each rule of which
+// a use may stand last. A flag for each place before; for each row from which start on its cells are low, and how low; and up to which start
+// every flag is set.
 pub const LISTED: usize = text::limits::GRAMMAR_SIZE;
 
-pub const TOUCHED: usize = LISTED + 1;
+pub const WAKES: usize = LISTED + 1;
+
+pub const HANDS: usize = WAKES + text::limits::GRAMMAR_SIZE;
+
+pub const HAND_ROWS: usize = HANDS + text::limits::GRAMMAR_SIZE;
+
+pub const WAKE_COUNT: usize = HAND_ROWS + text::limits::GRAMMAR_SIZE;
+
+pub const HAND_COUNT: usize = WAKE_COUNT + 1;
+
+pub const UNITS: usize = HAND_COUNT + 1;
+
+pub const TOUCHED: usize = UNITS + text::limits::GRAMMAR_SIZE;
 
 pub const LEVELS: usize = TOUCHED + text::limits::RECORD_CHARACTERS + 1;
 
 pub const LOW_FROM: usize = LEVELS + text::limits::GRAMMAR_SIZE;
 
-pub const COLUMN: usize = LOW_FROM + text::limits::GRAMMAR_SIZE;
+pub const FULL: usize = LOW_FROM + text::limits::GRAMMAR_SIZE;
+
+pub const COLUMN: usize = FULL + 1;
 
 const REACHED: u8 = 1;
 

@@ -20,7 +20,7 @@ use Rattle.sparse.specs.Steps.{OffersAt, Fell, On, HandedOn, Listed, Lowered, l
 use Rattle.sparse.proofs.Rows.{in-table, last-symbol}
 use Rattle.sparse.proofs.Falls.{fell-refl, fell-join, fell-widen, fell-set, lowered-cell}
 use Rattle.sparse.proofs.Toward.{target-of, toward-row, fell-toward, fell-rule, fell-rest}
-use Rattle.spread.specs.Spread.{levelAt, lowFrom, Low, Ahead, Better, Touched, Placed, Offering, Merging, Spread, DotSpread}
+use Rattle.spread.specs.Spread.{levelAt, lowFrom, Low, Ahead, Better, Full, AllFlagged, Touching, Touched, Placed, Offering, Merging, Spread, DotSpread}
 
 -- the less of v and what is one more than the larger of a and h
 pub better-less : (a h v m : ℕ) → a ≤ none → v ≤ none → m ≡ max a h → m < v → Better a h v (m + 1)
@@ -41,40 +41,61 @@ better-kept a h v m la lv e l = record {
 }
 
 -- one start more
-pub touched-none : (t : List ℕ) (x : ℕ) (C : List ℕ) → Touched t x 0 C C
-touched-none t x C = record { long = refl; before = λ z h. refl; after = λ z h. refl; at = λ i h. absurd (omega arith) }
+pub touching-none : (t : List ℕ) (x : ℕ) (C : List ℕ) → Touching t x 0 C C
+touching-none t x C = record { long = refl; before = λ z h. refl; after = λ z h. refl; at = λ i h. absurd (omega arith) }
 
-pub touched-next : (t : List ℕ) (x i r : ℕ) (C D : List ℕ) → 513 + i < length D → Touched t x i C D → (r ≡ 0 → (getD D (513 + i) 0 ≡ 0) × (none ≤ getD t (x + i) 0))
-    → Touched t x (i + 1) C (set D (513 + i) r)
-touched-next t x i r C D room a e = record {
-  long = length-set D (513 + i) r ∙ a .long;
-  before = λ z h. getD-set-other D (513 + i) z r 0 (λ o. omega arith) ∙ a .before z h;
-  after = λ z h. getD-set-other D (513 + i) z r 0 (λ o. omega arith) ∙ a .after z (omega arith);
-  at = λ k h z. elim (ℕ-discrete k i) as (λ _. (getD C (513 + k) 0 ≡ 0) × (none ≤ getD t (x + k) 0)) [
-    | yes o ↦ (let y = e (sym (getD-set-same D (513 + i) r 0 room) ∙ ap (λ (w : ℕ). getD (set D (513 + i) r) (513 + w) 0) (sym o) ∙ z) in
-        subst (λ (w : ℕ). (getD C (513 + w) 0 ≡ 0) × (none ≤ getD t (x + w) 0)) (sym o) (sym (a .after (513 + i) (omega arith)) ∙ y .0, y .1))
-    | no o ↦ a .at k (omega arith) (sym (getD-set-other D (513 + i) (513 + k) r 0 (λ w. o (omega arith))) ∙ z)
+pub touching-next : (t : List ℕ) (x i r : ℕ) (C D : List ℕ) → 2563 + i < length D → Touching t x i C D → (r ≡ 0 → (getD D (2563 + i) 0 ≡ 0) × (none ≤ getD t (x + i) 0))
+    → Touching t x (i + 1) C (set D (2563 + i) r)
+touching-next t x i r C D room a e = record {
+  long = length-set D (2563 + i) r ∙ a .long;
+  before = λ z h. getD-set-other D (2563 + i) z r 0 (λ o. omega arith) ∙ a .before z h;
+  after = λ z h. getD-set-other D (2563 + i) z r 0 (λ o. omega arith) ∙ a .after z (omega arith);
+  at = λ k h z. elim (ℕ-discrete k i) as (λ _. (getD C (2563 + k) 0 ≡ 0) × (none ≤ getD t (x + k) 0)) [
+    | yes o ↦ (let y = e (sym (getD-set-same D (2563 + i) r 0 room) ∙ ap (λ (w : ℕ). getD (set D (2563 + i) r) (2563 + w) 0) (sym o) ∙ z) in
+        subst (λ (w : ℕ). (getD C (2563 + w) 0 ≡ 0) × (none ≤ getD t (x + w) 0)) (sym o) (sym (a .after (2563 + i) (omega arith)) ∙ y .0, y .1))
+    | no o ↦ a .at k (omega arith) (sym (getD-set-other D (2563 + i) (2563 + k) r 0 (λ w. o (omega arith))) ∙ z)
   ];
 }
+
+pub all-next : (i r : ℕ) (D : List ℕ) → 2563 + i < length D → AllFlagged i D → (r ≡ 0 → ⊥) → AllFlagged (i + 1) (set D (2563 + i) r)
+all-next i r D room a d k h z = elim (ℕ-discrete k i) as (λ _. ⊥) [
+  | yes o ↦ d (sym (getD-set-same D (2563 + i) r 0 room) ∙ ap (λ (w : ℕ). getD (set D (2563 + i) r) (2563 + w) 0) (sym o) ∙ z)
+  | no o ↦ a k (omega arith) (sym (getD-set-other D (2563 + i) (2563 + k) r 0 (λ w. o (omega arith))) ∙ z)
+]
+
+-- all of the starts are flagged before, or afterwards, or not
+module _ (t : List ℕ) (x k : ℕ) (C : List ℕ) (few : k ≤ 200) (full : Full C) where
+  pub touched-before : k ≤ getD C 3788 0 → Touched t x k C C
+  touched-before l = record { long = refl; before = λ z h. refl; after = λ z h h'. refl; at = λ i h z. absurd (full i (omega arith) (omega arith) z); full = full }
+
+  module _ {D : List ℕ} (a : Touching t x k C D) where
+    pub touched-all : length C ≡ 3789 → AllFlagged k D → Touched t x k C (set D 3788 k)
+    touched-all long all = record {
+      long = length-set D 3788 k ∙ a .long;
+      before = λ z h. getD-set-other D 3788 z k 0 (λ o. omega arith) ∙ a .before z h;
+      after = λ z h h'. getD-set-other D 3788 z k 0 (λ o. omega arith) ∙ a .after z h;
+      at = λ i h z. a .at i h (sym (getD-set-other D 3788 (2563 + i) k 0 (λ o. omega arith)) ∙ z);
+      full = λ i w h z. let l : i < k = omega (arith, getD-set-same D 3788 k 0 (omega (arith, a .long))) in
+          all i l (sym (getD-set-other D 3788 (2563 + i) k 0 (λ o. omega arith)) ∙ z);
+    }
+
+    pub touched-some : (k ≤ getD C 3788 0 → ⊥) → Touched t x k C D
+    touched-some l = record {
+      long = a .long;
+      before = a .before;
+      after = λ z h h'. a .after z h;
+      at = a .at;
+      full = λ i w h z. let e = a .after 3788 (omega arith) in full i w (omega arith) (a .at i (omega (arith, l)) z .0);
+    }
 
 -- a run of cells is in the table
 pub run-in : {c C : List ℕ} {size n m j len p : ℕ} → Placed c size n m j len C p → (y k l x : ℕ) → y < size → k ≤ l → l ≤ n → x ≡ cellAt n y 0 l → x + k ≤ len
 run-in {size = size} {n = n} {len = len} a y k l x h lk ll e =
     omega (arith, in-table size n k l y len (x + k) (a .shape .small) (a .short) (a .room) h lk ll (omega arith))
 
--- the list is before the flags
-pub listed-kept : {c M : List ℕ} {size j : ℕ} {C D : List ℕ} → length D ≡ length C → ((z : ℕ) → z < 513 → getD D z 0 ≡ getD C z 0) → Listed c M size j C → Listed c M size j D
-listed-kept {c} {M} {size} {j} {C} {D} e s l = record {
-  long = e ∙ l .long;
-  count = omega (arith, s 512 (omega arith), l .count);
-  each = λ k h. let w = s k (omega (arith, s 512 (omega arith), l .count)) in
-      subst (λ (x : ℕ). (x < size) × Wanted M (homeOf c x) j) (sym w) (l .each k (omega (arith, s 512 (omega arith))));
-  all = λ p h w. let x = l .all p h w in (x .0, omega (arith, s 512 (omega arith), x .1), s (x .0) (omega (arith, l .count, x .1)) ∙ x .2);
-}
-
 module _ (c M F : List ℕ) (size n m j : ℕ) where
   pub spread-none : (t C : List ℕ) → Spread c M F size n m j t C t C
-  spread-none t C = record { fell = fell-refl c M F size n (j + 1); long = refl; before = λ z h. refl; still = λ i h z. (z, λ y. refl); low = λ l. l }
+  spread-none t C = record { fell = fell-refl c M F size n (j + 1); long = refl; before = λ z h. refl; still = λ i h z. (z, λ y. refl); low = λ l. l; full = λ l. l }
 
   pub spread-join : {t u v C D E : List ℕ} → Spread c M F size n m j t C u D → Spread c M F size n m j u D v E → Spread c M F size n m j t C v E
   spread-join a b = record {
@@ -82,6 +103,7 @@ module _ (c M F : List ℕ) (size n m j : ℕ) where
     long = b .long ∙ a .long;
     before = λ z h. b .before z h ∙ a .before z h;
     low = λ l. b .low (a .low l);
+    full = λ l. b .full (a .full l);
     still = λ i h z. let x = b .still i h z in let y = a .still i h (x .0) in (y .0, λ w. x .1 w ∙ y .1 w);
   }
 
@@ -162,24 +184,33 @@ module _ (c M F : List ℕ) (size n m j : ℕ) where
       ahead : Fell c M F size n (j + 1) (Ahead m j) t lowerRow
       ahead = fell-widen c M F size n (j + 1) (λ k l w. (omega (arith, w .0), w .1)) fell
 
-      terminal-set : DotSpread c M F size n m j t C lowerRow (set C (513 + i) 1) p
+      terminal-set : DotSpread c M F size n m j t C lowerRow (set C (2563 + i) 1) p
       terminal-set = record {
         spread = record {
           fell = ahead;
-          long = length-set C (513 + i) 1;
-          before = λ z h. getD-set-other C (513 + i) z 1 0 (λ o. omega arith);
-          low = low-kept t lowerRow C (set C (513 + i) 1) (ahead .le) (λ y h. (
-            getD-set-other C (513 + i) (1226 + y) 1 0 (λ o. omega (arith, a .placed .order, a .placed .stop, a .placed .short)),
-            getD-set-other C (513 + i) (714 + y) 1 0 (λ o. omega (arith, a .placed .order, a .placed .stop, a .placed .short)),
+          long = length-set C (2563 + i) 1;
+          before = λ z h. getD-set-other C (2563 + i) z 1 0 (λ o. omega arith);
+          low = low-kept t lowerRow C (set C (2563 + i) 1) (ahead .le) (λ y h. (
+            getD-set-other C (2563 + i) (3276 + y) 1 0 (λ o. omega (arith, a .placed .order, a .placed .stop, a .placed .short)),
+            getD-set-other C (2563 + i) (2764 + y) 1 0 (λ o. omega (arith, a .placed .order, a .placed .stop, a .placed .short)),
           ));
-          still = λ q h z. elim (ℕ-discrete q i) as (λ _. (getD C (513 + q) 0 ≡ 0) × ((y : ℕ) → cellOf n lowerRow y q j ≡ cellOf n t y q j)) [
+          full = λ f q w h z. elim (ℕ-discrete q i) as (λ _. ⊥) [
+            | yes e ↦ omega (
+              arith,
+              getD-set-same C (2563 + i) 1 0 (omega (arith, a .placed .column, a .placed .order, a .placed .stop, a .placed .short)),
+              ap (λ (w : ℕ). getD (set C (2563 + i) 1) (2563 + w) 0) e,
+            )
+            | no e ↦ f q w (omega (arith, getD-set-other C (2563 + i) 3788 1 0 (λ o. omega (arith, a .placed .order, a .placed .stop, a .placed .short))))
+                (sym (getD-set-other C (2563 + i) (2563 + q) 1 0 (λ w. e (omega arith))) ∙ z)
+          ];
+          still = λ q h z. elim (ℕ-discrete q i) as (λ _. (getD C (2563 + q) 0 ≡ 0) × ((y : ℕ) → cellOf n lowerRow y q j ≡ cellOf n t y q j)) [
             | yes e ↦ absurd (omega (
               arith,
-              getD-set-same C (513 + i) 1 0 (omega (arith, a .placed .column, a .placed .order, a .placed .stop, a .placed .short)),
-              ap (λ (w : ℕ). getD (set C (513 + i) 1) (513 + w) 0) e,
+              getD-set-same C (2563 + i) 1 0 (omega (arith, a .placed .column, a .placed .order, a .placed .stop, a .placed .short)),
+              ap (λ (w : ℕ). getD (set C (2563 + i) 1) (2563 + w) 0) e,
             ))
             | no e ↦ (
-              sym (getD-set-other C (513 + i) (513 + q) 1 0 (λ w. e (omega arith))) ∙ z,
+              sym (getD-set-other C (2563 + i) (2563 + q) 1 0 (λ w. e (omega arith))) ∙ z,
               λ y. fell .same y q j (omega (arith, a .placed .order)) (a .placed .stop) (λ w. e (w .0)),
             )
           ];
@@ -191,7 +222,7 @@ module _ (c M F : List ℕ) (size n m j : ℕ) where
         ));
       }
 
-    lower-set : {v : List ℕ} → Lowered t (cellAt n (rowOf c p) i j) b true v → DotSpread c M F size n m j t C v (set C (513 + i) 1) p
+    lower-set : {v : List ℕ} → Lowered t (cellAt n (rowOf c p) i j) b true v → DotSpread c M F size n m j t C v (set C (2563 + i) 1) p
     lower-set (lowered l) = terminal-set l
 
     lower-kept : {v : List ℕ} → Lowered t (cellAt n (rowOf c p) i j) b false v → DotSpread c M F size n m j t C v C p
@@ -201,7 +232,7 @@ module _ (c M F : List ℕ) (size n m j : ℕ) where
       at-row : (x : Bool) → r ≡ x → Lowered t (cellAt n (rowOf c p) i j) b x v
       at-row x e = subst (λ (z : ℕ). Lowered t (cellAt n z i j) b x v) row (subst (λ (z : Bool). Lowered t (cellAt n y i j) b z v) e d)
 
-      pub terminal-low : r ≡ true → DotSpread c M F size n m j t C v (set C (513 + i) 1) p
+      pub terminal-low : r ≡ true → DotSpread c M F size n m j t C v (set C (2563 + i) 1) p
       terminal-low e = lower-set (at-row true e)
 
       pub terminal-kept : r ≡ false → DotSpread c M F size n m j t C v C p
@@ -209,22 +240,23 @@ module _ (c M F : List ℕ) (size n m j : ℕ) where
 
   -- the rest of the dot before x
   module _ {len x : ℕ} (tables : Tables c M F size n len) (order : m ≤ j) (stop : j ≤ n) (inside : x < size) where
-    pub placed : (C : List ℕ) → length C ≡ 1738 → Placed c size n m j len C (x - 1)
-    placed C column = record {
+    pub placed : (C : List ℕ) → length C ≡ 3789 → Full C → Placed c size n m j len C (x - 1)
+    placed C column full = record {
       shape = tables .shape;
       short = tables .short;
       room = tables .room;
       order = order;
       stop = stop;
       column = column;
+      full = full;
       inside = omega arith;
     }
 
-    pub offering : {t : List ℕ} {b : ℕ} (C : List ℕ) → length C ≡ 1738 → Low size n m j t C → (x ≡ 0 → ⊥) → b ≡ restOf c M F n t x m j → (b ≡ none → ⊥) → b ≤ none
+    pub offering : {t : List ℕ} {b : ℕ} (C : List ℕ) → length C ≡ 3789 → Full C → Low size n m j t C → (x ≡ 0 → ⊥) → b ≡ restOf c M F n t x m j → (b ≡ none → ⊥) → b ≤ none
         → Offering c M F size n m j len t C (x - 1) b
-    offering {t} C column noted d e s l =
+    offering {t} C column full noted d e s l =
         let z : x - 1 + 1 ≡ x = omega (arith, d) in
-        record { placed = placed C column; is = e ∙ ap (λ (y : ℕ). restOf c M F n t y m j) (sym z); some = omega (arith, s); low = noted }
+        record { placed = placed C column full; is = e ∙ ap (λ (y : ℕ). restOf c M F n t y m j) (sym z); some = omega (arith, s); low = noted }
 
     -- a first dot stands after an end
     pub first-on : {t : List ℕ} → (ownerAt c x ≡ 0 → ⊥) → (p : ℕ) → x ≡ p + 1 → HandedOn c M F size n m j t p
@@ -261,12 +293,12 @@ module _ (c M F : List ℕ) (size n m j : ℕ) where
     astray k o = record { spread = spread-none t C; on = astray-on t p k o }
 
   -- one listed dot more
-  abbrev pub Done : List ℕ → ℕ → List ℕ → Type 0
-  Done C k t = (q : ℕ) → q < k → (p : ℕ) → getD C q 0 ≡ p + 1 → HandedOn c M F size n m j t p
+  abbrev pub Done : (ℕ → ℕ) → ℕ → List ℕ → Type 0
+  Done f k t = (q : ℕ) → q < k → (p : ℕ) → f q ≡ p + 1 → HandedOn c M F size n m j t p
 
-  pub done-next : m ≤ j → j ≤ n → (C : List ℕ) {t u D E : List ℕ} {k x : ℕ} → Spread c M F size n m j t D u E → Done C k t → x ≡ getD C k 0
-      → ((p : ℕ) → x ≡ p + 1 → HandedOn c M F size n m j u p) → Done C (k + 1) u
-  done-next order stop C {u = u} {k = k} a b e h q l p z = elim (ℕ-discrete q k) as (λ _. HandedOn c M F size n m j u p) [
-    | yes d ↦ h p (e ∙ ap (λ (w : ℕ). getD C w 0) (sym d) ∙ z)
+  pub done-next : m ≤ j → j ≤ n → (f : ℕ → ℕ) {t u D E : List ℕ} {k x : ℕ} → Spread c M F size n m j t D u E → Done f k t → x ≡ f k
+      → ((p : ℕ) → x ≡ p + 1 → HandedOn c M F size n m j u p) → Done f (k + 1) u
+  done-next order stop f {u = u} {k = k} a b e h q l p z = elim (ℕ-discrete q k) as (λ _. HandedOn c M F size n m j u p) [
+    | yes d ↦ h p (e ∙ ap f (sym d) ∙ z)
     | no d ↦ on-kept order stop (a .fell) p (b q (omega arith) p z)
   ]

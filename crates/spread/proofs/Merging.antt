@@ -133,13 +133,15 @@ module _ (c M F : List ℕ) (size n m j : ℕ) where
         fell = b .fell;
         long = f .long;
         before = f .before;
-        still = λ i l z. elim (decLt i k) as (λ _. (getD C (513 + i) 0 ≡ 0) × ((y : ℕ) → cellOf n t y i j ≡ cellOf n t₀ y i j)) [
+        still = λ i l z. elim (decLt i k) as (λ _. (getD C (2563 + i) 0 ≡ 0) × ((y : ℕ) → cellOf n t y i j ≡ cellOf n t₀ y i j)) [
           | yes o ↦ (let w = f .at i o z in
               let zx : x + i ≡ cellAt n (ruleAt c p) i m = omega (arith, a .source) in
               (w .0, b .still i l (subst (λ (z : ℕ). none ≤ getD t₀ z 0) zx (w .1))))
-          | no o ↦ (sym (f .after (513 + i) (omega arith)) ∙ z, b .ahead i (omega arith) l)
+          | no o ↦ (sym (f .after (2563 + i) (omega arith) (omega arith)) ∙ z, b .ahead i (omega arith) l)
         ];
-        low = low-kept c M F size n m j t₀ t C D (b .fell .le) (λ y l. (f .after (1226 + y) (omega (arith, a .count)), f .after (714 + y) (omega (arith, a .count))));
+        low = low-kept c M F size n m j t₀ t C D (b .fell .le) (λ y l.
+            (f .after (3276 + y) (omega (arith, a .count)) (omega arith), f .after (2764 + y) (omega (arith, a .count)) (omega arith)));
+        full = λ _. f .full;
       }
 
       handed-on : HandedOn c M F size n m j t p
@@ -156,19 +158,19 @@ module _ (c M F : List ℕ) (size n m j : ℕ) where
       }
 
       -- and how low the row is now is noted
-      module _ {from : ℕ} (long : length D ≡ 1738) (e : LowRun t y k h from) where
+      module _ {from : ℕ} (long : length D ≡ 3789) (e : LowRun t y k h from) where
         abbrev E : List ℕ
-        E = set (set D (1226 + rowOf c p) from) (714 + rowOf c p) h
+        E = set (set D (3276 + rowOf c p) from) (2764 + rowOf c p) h
 
-        aside : (z : ℕ) → (z ≡ 714 + rowOf c p → ⊥) → (z ≡ 1226 + rowOf c p → ⊥) → getD E z 0 ≡ getD D z 0
-        aside z o o' = getD-set-other (set D (1226 + rowOf c p) from) (714 + rowOf c p) z h 0 o ∙ getD-set-other D (1226 + rowOf c p) z from 0 o'
+        aside : (z : ℕ) → (z ≡ 2764 + rowOf c p → ⊥) → (z ≡ 3276 + rowOf c p → ⊥) → getD E z 0 ≡ getD D z 0
+        aside z o o' = getD-set-other (set D (3276 + rowOf c p) from) (2764 + rowOf c p) z h 0 o ∙ getD-set-other D (3276 + rowOf c p) z from 0 o'
 
         level-is : levelAt E (rowOf c p) ≡ h
-        level-is = getD-set-same (set D (1226 + rowOf c p) from) (714 + rowOf c p) h 0 (omega (arith, length-set D (1226 + rowOf c p) from))
+        level-is = getD-set-same (set D (3276 + rowOf c p) from) (2764 + rowOf c p) h 0 (omega (arith, length-set D (3276 + rowOf c p) from))
 
         from-is : lowFrom E (rowOf c p) ≡ from
-        from-is = getD-set-other (set D (1226 + rowOf c p) from) (714 + rowOf c p) (1226 + rowOf c p) h 0 (λ z. omega arith)
-            ∙ getD-set-same D (1226 + rowOf c p) from 0 (omega arith)
+        from-is = getD-set-other (set D (3276 + rowOf c p) from) (2764 + rowOf c p) (3276 + rowOf c p) h 0 (λ z. omega arith)
+            ∙ getD-set-same D (3276 + rowOf c p) from 0 (omega arith)
 
         own : (i : ℕ) → from ≤ i → i < m → cellOf n t (rowOf c p) i j ≤ h + 1
         own i l l' = elim (decLt i k) as (λ _. cellOf n t (rowOf c p) i j ≤ h + 1) [
@@ -181,14 +183,15 @@ module _ (c M F : List ℕ) (size n m j : ℕ) where
         symbol-end = record {
           spread = record {
             fell = b .fell;
-            long = length-set (set D (1226 + rowOf c p) from) (714 + rowOf c p) h ∙ length-set D (1226 + rowOf c p) from ∙ f .long;
+            long = length-set (set D (3276 + rowOf c p) from) (2764 + rowOf c p) h ∙ length-set D (3276 + rowOf c p) from ∙ f .long;
             before = λ z l. aside z (λ o. omega arith) (λ o. omega arith) ∙ f .before z l;
-            still = λ i l z. spread-kept .still i l (sym (aside (513 + i) (λ o. omega arith) (λ o. omega arith)) ∙ z);
+            full = λ _ i w h z. f .full i w (omega (arith, aside 3788 (λ o. omega arith) (λ o. omega arith))) (sym (aside (2563 + i) (λ o. omega arith) (λ o. omega arith)) ∙ z);
+            still = λ i l z. spread-kept .still i l (sym (aside (2563 + i) (λ o. omega arith) (λ o. omega arith)) ∙ z);
             low = λ w q i l l' l''. elim (ℕ-discrete q (rowOf c p)) as (λ _. cellOf n t q i j ≤ levelAt E q + 1) [
               | yes o ↦ subst (λ (z : ℕ). cellOf n t z i j ≤ levelAt E z + 1) (sym o)
                   (omega (arith, level-is, own i (omega (arith, from-is, ap (lowFrom E) o)) l''))
-              | no o ↦ (let u = aside (714 + q) (λ z. o (omega arith)) (λ z. omega arith) in
-                  let v = aside (1226 + q) (λ z. omega arith) (λ z. o (omega arith)) in
+              | no o ↦ (let u = aside (2764 + q) (λ z. o (omega arith)) (λ z. omega arith) in
+                  let v = aside (3276 + q) (λ z. omega arith) (λ z. o (omega arith)) in
                   omega (arith, u, spread-kept .low w q i l (omega (arith, v)) l''))
             ];
           };

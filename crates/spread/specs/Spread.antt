@@ -17,10 +17,10 @@ Ahead m j k l = (k < m) × (l ≡ j)
 
 -- what the column notes of the row y: from a start on, its cells are at most one more than the level
 abbrev pub levelAt : List ℕ → ℕ → ℕ
-levelAt C y = getD C (714 + y) 0
+levelAt C y = getD C (2764 + y) 0
 
 abbrev pub lowFrom : List ℕ → ℕ → ℕ
-lowFrom C y = getD C (1226 + y) 0
+lowFrom C y = getD C (3276 + y) 0
 
 -- the notes hold of the starts before m
 abbrev pub Low : ℕ → ℕ → ℕ → ℕ → List ℕ → List ℕ → Type 0
@@ -42,12 +42,39 @@ pub record Better (a h v r : ℕ) : Type 0 where
   pub idle : none ≤ a → r ≡ v
   pub some : r < v → r < none
 
+-- every start before the noted one is flagged
+abbrev pub Full : List ℕ → Type 0
+Full C = (i : ℕ) → i ≤ recordChars → i < getD C 3788 0 → getD C (2563 + i) 0 ≡ 0 → ⊥
+
+-- all of the first k starts are flagged
+abbrev pub AllFlagged : ℕ → List ℕ → Type 0
+AllFlagged k C = (i : ℕ) → i < k → getD C (2563 + i) 0 ≡ 0 → ⊥
+
 -- the flags of the first k starts, of those that have a height in the cells from x on
+pub record Touching (t : List ℕ) (x k : ℕ) (C C' : List ℕ) : Type 0 where
+  pub long : length C' ≡ length C
+  pub before : (z : ℕ) → z < 2563 → getD C' z 0 ≡ getD C z 0
+  pub after : (z : ℕ) → 2563 + k ≤ z → getD C' z 0 ≡ getD C z 0
+  pub at : (i : ℕ) → i < k → getD C' (2563 + i) 0 ≡ 0 → (getD C (2563 + i) 0 ≡ 0) × (none ≤ getD t (x + i) 0)
+
+-- the same, and up to where all are flagged is noted
 pub record Touched (t : List ℕ) (x k : ℕ) (C C' : List ℕ) : Type 0 where
   pub long : length C' ≡ length C
-  pub before : (z : ℕ) → z < 513 → getD C' z 0 ≡ getD C z 0
-  pub after : (z : ℕ) → 513 + k ≤ z → getD C' z 0 ≡ getD C z 0
-  pub at : (i : ℕ) → i < k → getD C' (513 + i) 0 ≡ 0 → (getD C (513 + i) 0 ≡ 0) × (none ≤ getD t (x + i) 0)
+  pub before : (z : ℕ) → z < 2563 → getD C' z 0 ≡ getD C z 0
+  pub after : (z : ℕ) → 2563 + k ≤ z → z < 3788 → getD C' z 0 ≡ getD C z 0
+  pub full : Full C'
+  pub at : (i : ℕ) → i < k → getD C' (2563 + i) 0 ≡ 0 → (getD C (2563 + i) 0 ≡ 0) × (none ≤ getD t (x + i) 0)
+
+-- a stretch that is not empty, and the column of its end
+pub record Listing (c M : List ℕ) (size n m j len : ℕ) (C : List ℕ) : Type 0 where
+  pub shape : Shape c size
+  pub short : n ≤ recordChars
+  pub marks-long : length M ≡ 308736
+  pub room : size * stretches n ≤ len
+  pub wide : m < j
+  pub stop : j ≤ n
+  pub column : length C ≡ 3789
+  pub full : Full C
 
 -- a dot and a stretch
 pub record Placed (c : List ℕ) (size n m j len : ℕ) (C : List ℕ) (p : ℕ) : Type 0 where
@@ -56,7 +83,8 @@ pub record Placed (c : List ℕ) (size n m j len : ℕ) (C : List ℕ) (p : ℕ)
   pub room : size * stretches n ≤ len
   pub order : m ≤ j
   pub stop : j ≤ n
-  pub column : length C ≡ 1738
+  pub column : length C ≡ 3789
+  pub full : Full C
   pub inside : p < size
 
 module _ (c M F : List ℕ) (size n m j : ℕ) where
@@ -92,9 +120,10 @@ module _ (c M F : List ℕ) (size n m j : ℕ) where
   pub record Spread (t C t' C' : List ℕ) : Type 0 where
     pub fell : Fell c M F size n (j + 1) (Ahead m j) t t'
     pub long : length C' ≡ length C
-    pub before : (z : ℕ) → z < 513 → getD C' z 0 ≡ getD C z 0
-    pub still : (i : ℕ) → i < m → getD C' (513 + i) 0 ≡ 0 → (getD C (513 + i) 0 ≡ 0) × ((y : ℕ) → cellOf n t' y i j ≡ cellOf n t y i j)
+    pub before : (z : ℕ) → z < 2563 → getD C' z 0 ≡ getD C z 0
+    pub still : (i : ℕ) → i < m → getD C' (2563 + i) 0 ≡ 0 → (getD C (2563 + i) 0 ≡ 0) × ((y : ℕ) → cellOf n t' y i j ≡ cellOf n t y i j)
     pub low : Low size n m j t C → Low size n m j t' C'
+    pub full : Full C → Full C'
 
   pub record DotSpread (t C t' C' : List ℕ) (p : ℕ) : Type 0 where
     pub spread : Spread t C t' C'

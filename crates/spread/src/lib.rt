@@ -6,9 +6,13 @@ ghost use lib.ListN.{length};
 ghost use Rattle.chart.specs.Code.{nextKind, ruleAt};
 ghost use Rattle.chart.specs.Heights.{none};
 ghost use Rattle.reach.specs.Flags.{Wanted};
-ghost use Rattle.sparse.specs.Cells.{Tables};
+ghost use Rattle.text.specs.Lists.{pick};
+ghost use Rattle.heights.specs.Table.{cellOf, upOf};
+ghost use Rattle.sparse.specs.Cells.{isLast, Shape, Tables};
 ghost use Rattle.sparse.specs.Steps.{HandedOn, Listed};
-ghost use Rattle.spread.specs.Spread.{Low, High, LowRun, Better, Touched, Placed, Offering, Merging, Merged, DotSpread, Spread, AllSpread};
+ghost use Rattle.sparse.specs.Column.{Hands, HandsOf, Due};
+ghost use Rattle.spread.specs.Spread.{Low, High, LowRun, Better, Full, AllFlagged, Touching, Touched, Listing, Placed, Offering};
+ghost use Rattle.spread.specs.Spread.{Merging, Merged, DotSpread, Spread, AllSpread};
 use chart::AT_SYMBOL;
 use chart::AT_TERMINAL;
 use chart::CODE_COLUMNS;
@@ -17,6 +21,10 @@ use chart::CODE_OWNER;
 use chart::CODE_RULE;
 use chart::NONE;
 use chart::cell;
+use sparse::FULL;
+use sparse::HAND_COUNT;
+use sparse::HAND_ROWS;
+use sparse::HANDS;
 use sparse::LEVELS;
 use sparse::LISTED;
 use sparse::LOW_FROM;
@@ -24,10 +32,13 @@ use sparse::Offer;
 use sparse::Stretch;
 use sparse::TOUCHED;
 use sparse::fits;
+use sparse::is_last;
 use sparse::larger;
 use sparse::lower;
+use sparse::reached;
 use sparse::rest_height;
 use sparse::row;
+use sparse::up;
 use sparse::wanted;
 use text::CharPlace;
 
@@ -115,21 +126,48 @@ fn marked(a: u32, t: u32) -> u32
     t
 }
 
-// The starts that have a height in the cells from x on are touched.
-fn touch(main: &[u32], column: &mut [u32], x: usize, k: usize)
-    requires { ⌜ (x + k ≤ length (now main)) × (513 + k ≤ length (now column)) ⌝ }
-    ensures { λ _. ⌜ Touched (now (main .entry)) x k (now (column .entry)) (now (column .exit)) ⌝ }
+// `all`, and 0 where t is 0.
+fn both(t: u32, all: u32) -> u32
+    ensures { λ r. ⌜ ((r ≡ 0 → ⊥) → (t ≡ 0 → ⊥) × (all ≡ 0 → ⊥)) ⌝ }
 {
+    if t == 0 {
+        return 0;
+    }
+    all
+}
+
+// The starts that have a height in the cells from x on are touched; 0 unless all of them are.
+fn touch_each(main: &[u32], column: &mut [u32], x: usize, k: usize) -> u32
+    requires { ⌜ (x + k ≤ length (now main)) × (2563 + k ≤ length (now column)) ⌝ }
+    ensures { λ r. ⌜ Touching (now (main .entry)) x k (now (column .entry)) (now (column .exit)) × ((r ≡ 0 → ⊥) → AllFlagged k (now (column .exit))) ⌝ }
+{
+    let mut all = 1;
     let mut i = 0;
     while i < k {
-        column[TOUCHED + i] = marked(main[x + i], column[TOUCHED + i]);
+        let t = marked(main[x + i], column[TOUCHED + i]);
+        column[TOUCHED + i] = t;
+        all = both(t, all);
         i += 1;
+    }
+    all
+}
+
+// The same, unless it is known that all are touched.
+fn touch(main: &[u32], column: &mut [u32], x: usize, k: usize)
+    requires { ⌜ (x + k ≤ length (now main)) × (k ≤ 200) × (length (now column) ≡ 3789) × Full (now column) ⌝ }
+    ensures { λ _. ⌜ Touched (now (main .entry)) x k (now (column .entry)) (now (column .exit)) ⌝ }
+{
+    if k <= text::wide(column[FULL]) {
+        return;
+    }
+    if touch_each(main, column, x, k) != 0 {
+        column[FULL] = k as u32;
     }
 }
 
 // The starts before m of the row y that may gain by a rest of the height h + 1: all before the one that is returned.
 fn high(column: &[u32], y: usize, m: usize, h: u32) -> usize
-    requires { ⌜ (length (now column) ≡ 1738) × (y < 512) ⌝ }
+    requires { ⌜ (length (now column) ≡ 3789) × (y < 512) ⌝ }
     ensures { λ r. ⌜ High (now (column .entry)) y m h r ⌝ }
 {
     if h < column[LEVELS + y] {
@@ -180,6 +218,31 @@ fn spread_symbol(code: &[u32], main: &mut [u32], column: &mut [u32], o: Offer, s
     column[LEVELS + y] = h;
 }
 
+// By what stands after the dot, a terminal or a symbol.
+fn hand_on(code: &[u32], marks: &[u8], main: &mut [u32], column: &mut [u32], o: Offer, s: Stretch)
+    requires { ⌜ Placed (now code) (s .size) (s .n .0) (s .i .0) (s .j .0) (length (now main)) (now column) (o .dot) × (length (now marks) ≡ 308736) × (o .height < none) ⌝ }
+    ensures { λ _. ⌜ ((F : List ℕ)
+        → Offering (now (code .entry)) (now (marks .entry)) F (s .size) (s .n .0) (s .i .0) (s .j .0) (length (now (main .entry))) (now (main .entry)) (now (column .entry)) (o .dot) (o .height)
+        → DotSpread (now (code .entry)) (now (marks .entry)) F (s .size) (s .n .0) (s .i .0) (s .j .0) (now (main .entry)) (now (column .entry))
+        (now (main .exit)) (now (column .exit)) (o .dot)) ⌝ }
+{
+    let kind = code[CODE_COLUMNS * o.dot];
+    if kind == AT_TERMINAL {
+        spread_terminal(code, marks, main, column, o, s);
+        return;
+    }
+    if kind != AT_SYMBOL {
+        return;
+    }
+    if s.i.0 == s.j.0 {
+        return;
+    }
+    let rule = text::wide(code[CODE_COLUMNS * o.dot + CODE_RULE]);
+    if wanted(marks, rule, s.i) {
+        spread_symbol(code, main, column, o, s);
+    }
+}
+
 // By the symbol before x.
 fn spread_dot(
     code: &[u32],
@@ -190,8 +253,8 @@ fn spread_dot(
     x: usize,
     s: Stretch,
 )
-    requires { ⌜ Tables (now code) (now marks) (now notes) (s .size) (s .n .0) (length (now main)) × (length (now column) ≡ 1738) × (x < s .size) × (s .i .0 ≤ s .j .0)
-        × (s .j .0 ≤ s .n .0) × Low (s .size) (s .n .0) (s .i .0) (s .j .0) (now main) (now column) ⌝ }
+    requires { ⌜ Tables (now code) (now marks) (now notes) (s .size) (s .n .0) (length (now main)) × (length (now column) ≡ 3789) × (x < s .size) × (s .i .0 ≤ s .j .0)
+        × (s .j .0 ≤ s .n .0) × Low (s .size) (s .n .0) (s .i .0) (s .j .0) (now main) (now column) × Full (now column) ⌝ }
     ensures { λ _. ⌜ Spread (now (code .entry)) (now (marks .entry)) (now (notes .entry)) (s .size) (s .n .0) (s .i .0) (s .j .0) (now (main .entry)) (now (column .entry))
         (now (main .exit)) (now (column .exit)) × ((p : ℕ) → x ≡ p + 1
         → HandedOn (now (code .entry)) (now (marks .entry)) (now (notes .entry)) (s .size) (s .n .0) (s .i .0) (s .j .0) (now (main .exit)) p) ⌝ }
@@ -210,25 +273,11 @@ fn spread_dot(
         dot: x - 1,
         height: b,
     };
-    let kind = code[CODE_COLUMNS * (x - 1)];
-    if kind == AT_TERMINAL {
-        spread_terminal(code, marks, main, column, o, s);
-        return;
-    }
-    if kind != AT_SYMBOL {
-        return;
-    }
-    if s.i.0 == s.j.0 {
-        return;
-    }
-    let rule = text::wide(code[CODE_COLUMNS * (x - 1) + CODE_RULE]);
-    if wanted(marks, rule, s.i) {
-        spread_symbol(code, main, column, o, s);
-    }
+    hand_on(code, marks, main, column, o, s);
 }
 
-// All dots of the column.
-pub fn spread(
+// What an empty stretch hands on, by all dots of the column.
+pub fn spread_empty(
     code: &[u32],
     marks: &[u8],
     notes: &[u32],
@@ -237,7 +286,7 @@ pub fn spread(
     s: Stretch,
 )
     requires { ⌜ Tables (now code) (now marks) (now notes) (s .size) (s .n .0) (length (now main)) × Listed (now code) (now marks) (s .size) (s .j .0) (now column)
-        × (s .i .0 ≤ s .j .0) × (s .j .0 ≤ s .n .0) × Low (s .size) (s .n .0) (s .i .0) (s .j .0) (now main) (now column) ⌝ }
+        × (s .i .0 ≤ s .j .0) × (s .j .0 ≤ s .n .0) × Low (s .size) (s .n .0) (s .i .0) (s .j .0) (now main) (now column) × Full (now column) ⌝ }
     ensures { λ _. ⌜ AllSpread (now (code .entry)) (now (marks .entry)) (now (notes .entry)) (s .size) (s .n .0) (s .i .0) (s .j .0) (now (main .entry)) (now (column .entry))
         (now (main .exit)) (now (column .exit)) ⌝ }
 {
@@ -246,5 +295,69 @@ pub fn spread(
         let x = text::wide(column[k]);
         spread_dot(code, marks, notes, main, column, x, s);
         k += 1;
+    }
+}
+
+// The height of what stands after the dot, by that of its row.
+fn height_by(code: &[u32], size: usize, x: Offer) -> u32
+    requires { ⌜ Shape (now code) size × (x .dot < size) ⌝ }
+    ensures { λ r. ⌜ r ≡ pick (isLast (now (code .entry)) (x .dot)) (upOf (x .height)) (x .height) ⌝ }
+{
+    if is_last(code, size, x.dot) {
+        return up(x.height);
+    }
+    x.height
+}
+
+// By the symbol before a listed dot whose row has the height.
+fn spread_row(
+    code: &[u32],
+    marks: &[u8],
+    main: &mut [u32],
+    column: &mut [u32],
+    x: Offer,
+    s: Stretch,
+)
+    requires { ⌜ Listing (now code) (now marks) (s .size) (s .n .0) (s .i .0) (s .j .0) (length (now main)) (now column)
+        × Low (s .size) (s .n .0) (s .i .0) (s .j .0) (now main) (now column)
+        × ((y : ℕ) × Hands (now code) (now marks) (s .size) (s .j .0) (x .dot) y × (x .height ≡ cellOf (s .n .0) (now main) y (s .i .0) (s .j .0))) ⌝ }
+    ensures { λ _. ⌜ ((F : List ℕ)
+        → Spread (now (code .entry)) (now (marks .entry)) F (s .size) (s .n .0) (s .i .0) (s .j .0) (now (main .entry)) (now (column .entry))
+        (now (main .exit)) (now (column .exit)) × ((p : ℕ) → x .dot ≡ p + 1
+        → HandedOn (now (code .entry)) (now (marks .entry)) F (s .size) (s .n .0) (s .i .0) (s .j .0) (now (main .exit)) p)) ⌝ }
+{
+    if !reached(marks, x.dot, s.i) {
+        return;
+    }
+    let height = height_by(code, s.size, x);
+    if height == NONE {
+        return;
+    }
+    let o = Offer {
+        dot: x.dot - 1,
+        height,
+    };
+    hand_on(code, marks, main, column, o, s);
+}
+
+// What another stretch hands on, by all dots of the column whose row has a height.
+pub fn spread(code: &[u32], marks: &[u8], main: &mut [u32], column: &mut [u32], s: Stretch)
+    requires { ⌜ Listing (now code) (now marks) (s .size) (s .n .0) (s .i .0) (s .j .0) (length (now main)) (now column)
+        × Low (s .size) (s .n .0) (s .i .0) (s .j .0) (now main) (now column)
+        × HandsOf (now code) (now marks) (s .size) (s .j .0) (Due (now code) (now marks) (s .size) (s .j .0)) (now column) ⌝ }
+    ensures { λ _. ⌜ ((F : List ℕ)
+        → AllSpread (now (code .entry)) (now (marks .entry)) F (s .size) (s .n .0) (s .i .0) (s .j .0) (now (main .entry)) (now (column .entry))
+        (now (main .exit)) (now (column .exit))) ⌝ }
+{
+    let mut k = 0;
+    while k < text::wide(column[HAND_COUNT]) {
+        let row = text::wide(column[HAND_ROWS + k]);
+        let dot = text::wide(column[HANDS + k]);
+        let y = cell(s.n.0, row, s.i.0, s.j.0);
+        let height = main[y];
+        k += 1;
+        if height != NONE {
+            spread_row(code, marks, main, column, Offer { dot, height }, s);
+        }
     }
 }

@@ -1,8 +1,9 @@
 use mathlib.Core.Path.{_≡_, refl, subst, _∙_}
 use Prim.Native.Nat.{ℕ, _+_, _-_, _≤_}
 use native.Mathlib.Omega.{arith}
-use lib.ListN.{length}
+use lib.ListN.{length, length-replicate}
 use Rattle.queue.specs.Queue.{countOf, Queued}
+use Rattle.sparse.specs.Column.{UnitsTo}
 use Rattle.quick.specs.Quick.{Before}
 use Rattle.quick.proofs.Columns.{before-none, filled}
 use Rattle.quick.proofs.Started.{no-count, no-queue}
@@ -13,18 +14,33 @@ use Rattle.quick.proofs.fill.Tie as tie
 abbrev Inv-loop : tie.InvT-loop
 Inv-loop code marks notes size n main₀ queue₀ column₀ j₀ main queue column j =
     (j .0 ≤ n .0 + 1) × (length main ≡ length main₀) × Before code marks notes size (n .0) (j .0) main
-    × (length column ≡ 1738) × Queued size queue × (countOf queue ≡ 0)
+    × (length column ≡ 3789) × UnitsTo code notes size column × Queued size queue × (countOf queue ≡ 0)
 
 abbrev μ-loop : tie.MeasureT-loop
 μ-loop code marks notes size n main₀ queue₀ column₀ j₀ main queue column j = n .0 + 1 - j .0
 
+slice-aggregate-note-units : tie.Need-slice-aggregate-note-units Inv-loop μ-loop
+slice-aggregate-note-units c = search needs
+
+note-units-requires : tie.Need-note-units-requires Inv-loop μ-loop
+note-units-requires c κs =
+    let start = c .before .before .before .before .before in
+    let g = start .pre in (g .0 .shape, g .0 .noted .long, length-replicate {A = ℕ} 3789 0)
+
 loop-holds : tie.Need-loop-holds Inv-loop μ-loop
 loop-holds c =
-    let start = c .before .before .before .before in
-    let start = start in
+    let at-note-units = c .before in
+    let start = at-note-units .before .before .before .before .before .before in
     let a = start .args in
-    let g = start .pre in
-    (omega arith, refl, before-none _ _ _ _ _ (a .main .now) (g .0) (g .1), refl, no-queue (a .size) (g .0 .shape .small), no-count)
+    let g = start .pre in (
+      omega arith,
+      refl,
+      before-none _ _ _ _ _ (a .main .now) (g .0) (g .1),
+      at-note-units .note-units .kept .1 .1 .0 ∙ length-replicate {A = ℕ} 3789 0,
+      at-note-units .note-units .ensures,
+      no-queue (a .size) (g .0 .shape .small),
+      no-count,
+    )
 
 slice-aggregate-fill-column : tie.Need-slice-aggregate-fill-column Inv-loop μ-loop
 slice-aggregate-fill-column c = search needs
@@ -37,13 +53,10 @@ fill-column-requires c κs =
     let at-if1 = c .before .before .before in
     let at-loop = at-if1 .before .before .before in
     let l = at-loop .loop in
-    (l .inv .2, refl, omega (arith, at-if1 .if1 .taken), l .inv .3, l .inv .4, l .inv .5)
+    (l .inv .2, refl, omega (arith, at-if1 .if1 .taken), l .inv .3, l .inv .4, l .inv .5, l .inv .6)
 
-add-t19 : tie.Need-add-t19 Inv-loop μ-loop
-add-t19 c =
-    let at-if1 = c .before .before .before .before .before .before .before .before .before in
-    let start = at-if1 .before .before .before .before .before .before .before .before in
-    omega (arith, at-if1 .if1 .taken, start .pre .0 .short)
+add-t22 : tie.Need-add-t22 Inv-loop μ-loop
+add-t22 c = search needs
 
 loop-less : tie.Need-loop-less Inv-loop μ-loop
 loop-less c =
@@ -56,7 +69,7 @@ loop-again c =
     let at-if1 = at-fill-column .before .before .before .before in
     let at-loop = at-if1 .before .before .before in
     let d = at-fill-column .fill-column .ensures in
-    (omega (arith, at-if1 .if1 .taken), at-fill-column .fill-column .kept .1 .1 .1 .0 ∙ at-loop .loop .inv .1, d .0, d .1, d .2, d .3)
+    (omega (arith, at-if1 .if1 .taken), at-fill-column .fill-column .kept .1 .1 .1 .0 ∙ at-loop .loop .inv .1, d .0, d .1, d .2, d .3, d .4)
 
 same-length : tie.Need-same-length Inv-loop μ-loop
 same-length c =
@@ -66,7 +79,7 @@ same-length c =
 returns : tie.Need-returns Inv-loop μ-loop
 returns c =
     let at-loop = c .before .before .before in
-    let start = at-loop .before .before .before .before .before in
+    let start = at-loop .before .before .before .before .before .before .before .before in
     let a = start .args in
     let l = at-loop .loop in
     let e : l .j .0 ≡ a .n .0 + 1 = omega (arith, l .inv .0, c .if1 .left) in
@@ -79,11 +92,13 @@ fill-spec =
     (tie.spec
     Inv-loop
     μ-loop
+    slice-aggregate-note-units
+    note-units-requires
     loop-holds
     slice-aggregate-fill-column
     slice-aggregate-fill-column-2
     fill-column-requires
-    add-t19
+    add-t22
     loop-less
     loop-again
     same-length

@@ -1,6 +1,5 @@
-use mathlib.Core.Path.{refl, sym, subst}
+use mathlib.Core.Path.{refl}
 use native.Mathlib.Omega.{arith}
-use Rattle.sparse.specs.Cells.{Tables}
 use Rattle.spread.proofs.Handing.{low-kept}
 use Rattle.quick.proofs.Columns.{from-bare, from-next}
 use borrow.Author.Needs.{needs}
@@ -31,13 +30,23 @@ spread-requires c κs =
     let at-settle = c .before .before .before .before .before .before in
     let start = at-settle .before .before .before .before .before .before .before .before .before .before .before .before .before in
     let a = start .args in
-    let g = start .pre in (
-      subst (Tables (a .code .now) (a .marks .now) (a .notes .now) (a .s .size) (a .s .n .0)) (sym (at-settle .settle .ensures .fell .long)) (g .0 .tables),
-      g .0 .listed,
-      omega (arith, g .1),
-      g .0 .stop,
-      low-kept (a .code .now) (a .marks .now) (a .notes .now) (a .s .size) (a .s .n .0) (a .s .i .0) (a .s .j .0) (a .main .now) (at-settle .settle .last .1 .1 .1 .0) (a .column .now) (a .column .now)
-          (at-settle .settle .ensures .fell .le) (λ y l. (refl, refl)) (λ y i l l' l''. g .0 .low y i l l' (omega arith)),
+    let g = start .pre in
+    let t = g .0 .tables in
+    let d = at-settle .settle .ensures in (
+      record {
+        shape = t .shape;
+        short = t .short;
+        marks-long = t .marks-long;
+        room = omega (arith, t .room, d .fell .long);
+        wide = g .1;
+        stop = g .0 .stop;
+        column = g .0 .rows .listed .long;
+        full = g .0 .full;
+      },
+      low-kept (a .code .now) (a .marks .now) (a .notes .now) (a .s .size) (a .s .n .0) (a .s .i .0) (a .s .j .0) (a .main .now) (at-settle .settle .last .1 .1 .1 .0) (a .column .now)
+          (a .column .now)
+          (d .fell .le) (λ y l. (refl, refl)) (λ y i l l' l''. g .0 .low y i l l' (omega arith)),
+      g .0 .rows .hands,
     )
 
 same-length : tie.Need-same-length
@@ -57,8 +66,7 @@ returns-2 c =
     let a = start .args in
     let g = start .pre in
     let d = at-settle .settle .ensures in (
-      from-next _ _ _ _ _ _ (a .s .i .0) (g .1) (g .0)
-          (d .fell) (d .least) (at-spread .spread .ensures),
+      from-next _ _ _ _ _ _ (a .s .i .0) (g .1) (g .0) (d .fell) (d .least) (at-spread .spread .ensures (a .notes .now)),
       d .queued,
       d .empty,
     )

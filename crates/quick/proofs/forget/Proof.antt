@@ -2,7 +2,7 @@ use mathlib.Core.Path.{subst}
 use Prim.Native.Nat.{ℕ, _-_, _≤_}
 use native.Mathlib.Omega.{arith}
 use Rattle.quick.specs.Quick.{Unnoted}
-use Rattle.quick.proofs.Columns.{unnoted-none, unnoted-next}
+use Rattle.quick.proofs.Flags.{unnoted-none, unnoted-next}
 use Rattle.quick.proofs.forget.Statement.{statement}
 use Rattle.quick.proofs.forget.Tie as tie
 
@@ -50,7 +50,7 @@ loop-again c =
     let start = at-loop .before in (
       omega (arith, c .loop-test .taken),
       unnoted-next (start .args .j) (at-loop .loop .y) (start .args .column .now) (at-loop .loop .column)
-          (omega (arith, c .loop-test .taken, start .pre .0, start .pre .1, at-loop .loop .inv .1 .long)) (at-loop .loop .inv .1),
+          (omega (arith, c .loop-test .taken, start .pre .0, start .pre .1, at-loop .loop .inv .1 .long)) (omega (arith, c .loop-test .taken, start .pre .1)) (at-loop .loop .inv .1),
     )
 
 same-length : tie.Need-same-length Inv-loop μ-loop

@@ -1,9 +1,10 @@
-use mathlib.Core.Path.{_≡_, sym, subst, _∙_}
+use mathlib.Core.Path.{_≡_, refl, sym, subst, _∙_}
 use Prim.Native.Nat.{ℕ, _-_, _≤_}
 use native.Mathlib.Omega.{arith}
 use lib.ListN.{length}
+use lib.Seq.{getD-set-other}
 use Rattle.sparse.specs.Steps.{Listed}
-use Rattle.quick.specs.Quick.{ListedTo, ClearedTo}
+use Rattle.quick.specs.Quick.{AfterDots, ListedTo, ClearedTo}
 use Rattle.quick.proofs.Columns.{listed-none, cleared-none, cleared-next}
 use borrow.Author.Needs.{needs}
 use Rattle.quick.proofs.list_column.Statement.{statement}
@@ -12,6 +13,7 @@ use Rattle.quick.proofs.list_column.Tie as tie
 abbrev Inv-loop : tie.InvT-loop
 Inv-loop code marks notes main₀ column₀ s x₀ main column x =
     (x ≤ s .size) × ListedTo code marks (s .n .0) (s .j .0) x column × ClearedTo code marks (s .n .0) (s .j .0) x main₀ main
+    × AfterDots column₀ column
 
 abbrev μ-loop : tie.MeasureT-loop
 μ-loop code marks notes main₀ column₀ s x₀ main column x = s .size - x
@@ -28,6 +30,7 @@ loop-holds c =
       omega arith,
       listed-none _ _ _ _ (a .column .now) (start .pre .2),
       cleared-none _ _ _ _ (a .main .now),
+      λ z h. refl,
     )
 
 list-dot-requires : tie.Need-list-dot-requires Inv-loop μ-loop
@@ -55,7 +58,7 @@ loop-again c =
     let start = at-loop .before .before .before .before .before .before in
     let l = at-loop .loop in
     let d = at-list-dot .list-dot .ensures in
-    (omega (arith, at-if1 .if1 .taken), d .0, cleared-next _ _ _ _ (start .pre .1) (l .inv .2) (d .1))
+    (omega (arith, at-if1 .if1 .taken), d .0, cleared-next _ _ _ _ (start .pre .1) (l .inv .2) (d .1), λ z h. d .2 z h ∙ l .inv .3 z h)
 
 same-length : tie.Need-same-length Inv-loop μ-loop
 same-length c =
@@ -77,6 +80,7 @@ returns c =
     let e : l .x ≡ a .s .size = omega (arith, l .inv .0, c .if1 .left) in (
       subst (λ (x : ℕ). Listed (a .code .now) (a .marks .now) x (a .s .j .0) (l .column)) e (l .inv .1 .listed),
       subst (λ (x : ℕ). ClearedTo (a .code .now) (a .marks .now) (a .s .n .0) (a .s .j .0) x (a .main .now) (l .main)) e (l .inv .2),
+      λ z h. l .inv .3 z h ∙ getD-set-other (a .column .now) 512 z 0 0 (λ d. omega arith),
     )
 
 pub list-column-spec : {M : Type 1} → statement M

@@ -1,4 +1,4 @@
-use mathlib.Core.Path.{sym, ap, subst, _∙_}
+use mathlib.Core.Path.{refl, sym, ap, subst, _∙_}
 use Prim.Native.Nat.{ℕ, _+_}
 use native.Mathlib.Omega.{arith}
 use lib.Dec.{leb}
@@ -6,8 +6,8 @@ use lib.ListN.{set}
 use borrow.Author.Tests.{not-true, not-false}
 use Rattle.reach.specs.Flags.{endAt}
 use Rattle.sparse.proofs.Rows.{flagged, unflagged, home-size}
-use Rattle.quick.specs.Quick.{ListedTo}
-use Rattle.quick.proofs.Columns.{listed-skip, listed-add, dot-same, dot-cleared}
+use Rattle.quick.specs.Quick.{AfterDots, ListedTo}
+use Rattle.quick.proofs.Columns.{listed-skip, listed-add, after-added, dot-same, dot-cleared}
 use borrow.Author.Needs.{needs}
 use Rattle.quick.proofs.list_dot.Statement.{statement}
 use Rattle.quick.proofs.list_dot.Tie as tie
@@ -38,7 +38,7 @@ returns c =
     let a = start .args in
     let h = at-wide .wide .ensures ∙ start .pre .0 .noted .homes (a .x) (start .pre .2) in
     let w = unflagged _ _ (c .before .wanted .ensures ∙ ap (λ (z : ℕ). leb 2 (endAt (a .marks .now) z (a .s .j .0))) h) (not-true _ (c .if1 .taken)) in
-    (listed-skip _ _ _ _ w (start .pre .3), dot-same _ _ _ _ (λ y _. w y))
+    (listed-skip _ _ _ _ w (start .pre .3), dot-same _ _ _ _ (λ y _. w y), λ z h. refl)
 
 slice-read-wide : tie.Need-slice-read-wide
 slice-read-wide c = search needs
@@ -90,6 +90,8 @@ returns-2 c =
       subst (λ (q : ℕ). ListedTo (a .code .now) (a .marks .now) (a .s .n .0) (a .s .j .0) (a .x + 1) (set (set (a .column .now) q (a .x)) 512 (q + 1))) (sym (at-wide2 .wide2 .ensures))
           (listed-add _ _ _ _ (omega (arith, start .pre .2, start .pre .0 .shape .small)) w (start .pre .3)),
       dot-cleared _ _ _ _ (at-clear-row .clear-row .ensures),
+      subst (λ (q : ℕ). AfterDots (a .column .now) (set (set (a .column .now) q (a .x)) 512 (q + 1))) (sym (at-wide2 .wide2 .ensures))
+          (after-added _ _ _ _ (omega (arith, start .pre .2, start .pre .0 .shape .small)) w (start .pre .3)),
     )
 
 same-length-3 : tie.Need-same-length-3
@@ -108,6 +110,8 @@ returns-3 c =
       subst (λ (q : ℕ). ListedTo (a .code .now) (a .marks .now) (a .s .n .0) (a .s .j .0) (a .x + 1) (set (set (a .column .now) q (a .x)) 512 (q + 1))) (sym (at-wide2 .wide2 .ensures))
           (listed-add _ _ _ _ (omega (arith, start .pre .2, start .pre .0 .shape .small)) w (start .pre .3)),
       dot-same _ _ _ _ (λ _. c .before .has-row .ensures (c .if2 .left)),
+      subst (λ (q : ℕ). AfterDots (a .column .now) (set (set (a .column .now) q (a .x)) 512 (q + 1))) (sym (at-wide2 .wide2 .ensures))
+          (after-added _ _ _ _ (omega (arith, start .pre .2, start .pre .0 .shape .small)) w (start .pre .3)),
     )
 
 pub list-dot-spec : {M : Type 1} → statement M

@@ -55,7 +55,9 @@ touch-requires c κs =
     let l = o .shape .names (a .o .dot) (o .inside) (start .pre .1) .0 in (
       run-in o (at-wide .wide .result) (at-high .high .result) (a .s .i .0) (at-cell .cell .result)
           (omega (arith, at-wide .wide .ensures)) (at-high .high .ensures .most) (omega (arith, o .order, o .stop)) (at-cell .cell .ensures),
-      omega (arith, at-high .high .ensures .most, o .column, o .order, o .stop, o .short),
+      omega (arith, at-high .high .ensures .most, o .order, o .stop, o .short),
+      o .column,
+      o .full,
     )
 
 merge-requires : tie.Need-merge-requires
@@ -143,7 +145,7 @@ slice-write-column-2 c =
     let at-row = at-touch .before .before .before .before .before .before .before in
     let start = at-row .before .before .before .before .before .before .before .before in
     let o = start .pre .0 in
-    omega (arith, at-row .row .ensures .1, o .shape .small, o .column, at-touch .touch .ensures .long, length-set (at-touch .touch .last .1 .0) (1226 + at-row .row .result) (c .low-run .result))
+    omega (arith, at-row .row .ensures .1, o .shape .small, o .column, at-touch .touch .ensures .long, length-set (at-touch .touch .last .1 .0) (3276 + at-row .row .result) (c .low-run .result))
 
 same-length : tie.Need-same-length
 same-length c = search needs
@@ -170,7 +172,7 @@ returns c =
     let g = merging (a .code .now) M F (a .s .size) (a .s .n .0) (a .s .i .0) (a .s .j .0) o (at-high .high .ensures .most) (start .pre .1) (start .pre .2) w
     (at-wide .wide .ensures) (at-cell .cell .ensures) (at-row .row .ensures .0) (at-cell2 .cell2 .ensures) (at-less-one .less-one .ensures) in
     subst (λ (r : ℕ). DotSpread (a .code .now) M F (a .s .size) (a .s .n .0) (a .s .i .0) (a .s .j .0) (a .main .now) (a .column .now) (at-merge .merge .last .0)
-    (set (set (at-touch .touch .last .1 .0) (1226 + r) (c .low-run .result)) (714 + r) (at-less-one .less-one .result)) (a .o .dot)) (sym e)
+    (set (set (at-touch .touch .last .1 .0) (3276 + r) (c .low-run .result)) (2764 + r) (at-less-one .less-one .result)) (a .o .dot)) (sym e)
     (symbol-end (a .code .now) M F (a .s .size) (a .s .n .0) (a .s .i .0) (a .s .j .0) g (omega (arith, o .placed .order, o .placed .stop, o .placed .short)) (o .placed .shape .small) h (o .low)
     (omega (arith, at-row .row .ensures)) (at-merge .merge .ensures (a .code .now) M F (a .s .size) (a .s .n .0) (a .s .i .0) (a .s .j .0) (a .o .dot) g) (at-touch .touch .ensures)
     (at-touch .touch .ensures .long ∙ o .placed .column) (c .low-run .ensures))

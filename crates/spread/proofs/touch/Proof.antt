@@ -1,127 +1,68 @@
-use mathlib.Core.Path.{subst}
-use Prim.Native.Nat.{ℕ, _-_, _≤_}
 use native.Mathlib.Omega.{arith}
-use Rattle.spread.specs.Spread.{Touched}
-use Rattle.spread.proofs.Handing.{touched-none, touched-next}
+use Rattle.spread.proofs.Handing.{touched-before, touched-all, touched-some}
 use borrow.Author.Needs.{needs}
 use Rattle.spread.proofs.touch.Statement.{statement}
 use Rattle.spread.proofs.touch.Tie as tie
 
-abbrev Inv-loop : tie.InvT-loop
-Inv-loop main column₀ x k i₀ column i = (i ≤ k) × Touched main x i column₀ column
+slice-read-wide : tie.Need-slice-read-wide
+slice-read-wide c = search needs
 
-abbrev μ-loop : tie.MeasureT-loop
-μ-loop main column₀ x k i₀ column i = k - i
+wide-requires : tie.Need-wide-requires
+wide-requires c κs = search needs
 
-loop-holds : tie.Need-loop-holds Inv-loop μ-loop
-loop-holds c =
-    let start = c .before .before in
-    (omega arith, touched-none (start .args .main .now) (start .args .x) (start .args .column .now))
-
-add-marked : tie.Need-add-marked Inv-loop μ-loop
-add-marked c =
-    let start = c .before .before .before .before in
-    omega (arith, c .loop-test .taken, start .pre .0)
-
-mul-marked : tie.Need-mul-marked Inv-loop μ-loop
-mul-marked c =
-    let start = c .before .before .before .before in
-    omega (arith, c .loop-test .taken, start .pre .0)
-
-shared-slice-read-marked : tie.Need-shared-slice-read-marked Inv-loop μ-loop
-shared-slice-read-marked c =
-    let start = c .before .before .before .before .before in
-    omega (arith, c .before .loop-test .taken, start .pre .0)
-
-add-marked-2 : tie.Need-add-marked-2 Inv-loop μ-loop
-add-marked-2 c =
-    let start = c .before .before .before .before .before in
-    omega (arith, c .before .loop-test .taken, start .pre .1)
-
-mul-marked-2 : tie.Need-mul-marked-2 Inv-loop μ-loop
-mul-marked-2 c =
-    let start = c .before .before .before .before .before in
-    omega (arith, c .before .loop-test .taken, start .pre .1)
-
-slice-read-marked : tie.Need-slice-read-marked Inv-loop μ-loop
-slice-read-marked c =
-    let at-loop-test = c .before .before in
-    let at-loop = at-loop-test .before in
-    let start = at-loop .before .before .before in
-    omega (arith, at-loop-test .loop-test .taken, start .pre .1, at-loop .loop .inv .1 .long)
-
-marked-requires : tie.Need-marked-requires Inv-loop μ-loop
-marked-requires c κs = search needs
-
-add-column : tie.Need-add-column Inv-loop μ-loop
-add-column c =
-    let at-loop-test = c .before .before .before in
-    let start = at-loop-test .before .before .before .before in
-    omega (arith, at-loop-test .loop-test .taken, start .pre .1)
-
-mul-column : tie.Need-mul-column Inv-loop μ-loop
-mul-column c =
-    let at-loop-test = c .before .before .before in
-    let start = at-loop-test .before .before .before .before in
-    omega (arith, at-loop-test .loop-test .taken, start .pre .1)
-
-slice-write-column : tie.Need-slice-write-column Inv-loop μ-loop
-slice-write-column c =
-    let at-loop-test = c .before .before .before in
-    let at-loop = at-loop-test .before in
-    let start = at-loop .before .before .before in
-    omega (arith, at-loop-test .loop-test .taken, start .pre .1, at-loop .loop .inv .1 .long)
-
-add-i : tie.Need-add-i Inv-loop μ-loop
-add-i c = search needs
-
-loop-less : tie.Need-loop-less Inv-loop μ-loop
-loop-less c =
-    let at-loop-test = c .before .before .before in
-    omega (arith, at-loop-test .loop-test .taken)
-
-loop-again : tie.Need-loop-again Inv-loop μ-loop
-loop-again c =
-    let at-loop-test = c .before .before .before in
-    let at-loop = at-loop-test .before in
-    let start = at-loop .before .before .before in
-    let l = at-loop .loop in
-    let a = start .args in (
-      omega (arith, at-loop-test .loop-test .taken),
-      touched-next (a .main .now) (a .x) (l .i) (c .marked .result) (a .column .now) (l .column)
-          (omega (arith, at-loop-test .loop-test .taken, start .pre .1, l .inv .1 .long)) (l .inv .1) (c .marked .ensures),
-    )
-
-same-length : tie.Need-same-length Inv-loop μ-loop
-same-length c = c .before .loop .inv .1 .long
-
-returns : tie.Need-returns Inv-loop μ-loop
+returns : tie.Need-returns
 returns c =
-    let at-loop = c .before in
-    let start = at-loop .before .before .before in
-    let l = at-loop .loop in
+    let at-wide = c .before in
+    let start = at-wide .before .before .before .before in
     let a = start .args in
-    subst (λ (i : ℕ). Touched (a .main .now) (a .x) i (a .column .now) (l .column)) (omega (arith, l .inv .0, c .loop-test .left)) (l .inv .1)
+    let p = start .pre in
+    touched-before (a .main .now) (a .x) (a .k) (a .column .now) (p .1) (p .3) (omega (arith, c .if1 .taken, at-wide .wide .ensures))
+
+touch-each-requires : tie.Need-touch-each-requires
+touch-each-requires c κs = search needs
+
+cast-column : tie.Need-cast-column
+cast-column c = search needs
+
+slice-write-column : tie.Need-slice-write-column
+slice-write-column c = search needs
+
+same-length : tie.Need-same-length
+same-length c = search needs
+
+returns-2 : tie.Need-returns-2
+returns-2 c =
+    let at-touch-each = c .before .before .before in
+    let start = at-touch-each .before .before .before .before .before .before .before in
+    let a = start .args in
+    let p = start .pre in
+    let d = at-touch-each .touch-each .ensures in
+    touched-all (a .main .now) (a .x) (a .k) (a .column .now) (p .1) (p .3) (d .0) (p .2) (d .1 (c .if2 .taken))
+
+same-length-2 : tie.Need-same-length-2
+same-length-2 c = search needs
+
+returns-3 : tie.Need-returns-3
+returns-3 c =
+    let at-touch-each = c .before .before .before in
+    let at-if1 = at-touch-each .before .before in
+    let at-wide = at-if1 .before in
+    let start = at-wide .before .before .before .before in
+    let a = start .args in
+    let p = start .pre in
+    touched-some (a .main .now) (a .x) (a .k) (a .column .now) (p .1) (p .3) (at-touch-each .touch-each .ensures .0) (λ l. omega (arith, at-if1 .if1 .left, at-wide .wide .ensures))
 
 pub touch-spec : {M : Type 1} → statement M
 touch-spec =
     tie.close
     (tie.spec
-    Inv-loop
-    μ-loop
-    loop-holds
-    add-marked
-    mul-marked
-    shared-slice-read-marked
-    add-marked-2
-    mul-marked-2
-    slice-read-marked
-    marked-requires
-    add-column
-    mul-column
+    slice-read-wide
+    wide-requires
+    returns
+    touch-each-requires
+    cast-column
     slice-write-column
-    add-i
-    loop-less
-    loop-again
     same-length
-    returns)
+    returns-2
+    same-length-2
+    returns-3)
