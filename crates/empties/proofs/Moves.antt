@@ -13,7 +13,7 @@ use Rattle.chart.specs.Heights.{none}
 use Rattle.heights.specs.Filling.{total}
 use Rattle.heights.proofs.Lowering.{sum-set}
 use Rattle.sparse.specs.Cells.{emptyIn, rowOf, Shape}
-use Rattle.empties.specs.Empty.{offerOf, Done, Derived, Moved, Cleared, Found}
+use Rattle.empties.specs.Empty.{offerOf, Done, Derived, Moved, Eased, Cleared, Found}
 use Rattle.empties.proofs.Derived.{lower-derived, clear-derived, all-empties}
 
 -- nothing changed
@@ -128,3 +128,33 @@ swept-end {c} z w m e =
       below = λ x h. y .below x h ∙ z .below x h;
       empties = all-empties (y .derived) (λ p h. subst (Done c p) (sym (m .same e)) (m .holds e p h));
     }
+
+-- along a chain of rules
+pub eased-none : (c : List ℕ) (size : ℕ) (F : List ℕ) → Eased c size F F
+eased-none c size F = record { long = refl; below = λ x h. refl; derived = λ d. d; most = omega arith }
+
+not-above : {c : List ℕ} {size : ℕ} {P : List ℕ → Type 0} {F G : List ℕ} (r : Bool) → Moved c size P F r G → total G ≤ total F
+not-above true b = omega (arith, b .fell refl)
+not-above false b = let y = ap total (b .same refl) in omega arith
+
+pub moved-not : {c : List ℕ} {size : ℕ} {P : List ℕ → Type 0} {F G : List ℕ} {r : Bool} → r ≡ false → Moved c size P F r G → Moved c size P F false G
+moved-not {c} {size} {P} {F} {G} e a = subst (λ (b : Bool). Moved c size P F b G) e a
+
+module _ {c : List ℕ} {size : ℕ} {P : List ℕ → Type 0} {F G H : List ℕ} where
+  pub eased-next : (r : Bool) → Eased c size F G → Moved c size P G r H → Eased c size F H
+  eased-next r a b = record {
+    long = b .long ∙ a .long;
+    below = λ x h. b .below x h ∙ a .below x h;
+    derived = λ d. b .derived (a .derived d);
+    most = omega (arith, not-above r b, a .most);
+  }
+
+  pub moved-on : {r : Bool} → r ≡ true → Moved c size P F r G → Eased c size G H → Moved c size P F true H
+  moved-on e a b = record {
+    long = b .long ∙ a .long;
+    below = λ x h. b .below x h ∙ a .below x h;
+    derived = λ d. b .derived (a .derived d);
+    fell = λ _. omega (arith, b .most, a .fell e);
+    same = λ z. absurd (clash z refl);
+    holds = λ z. absurd (clash z refl);
+  }

@@ -56,6 +56,13 @@ pub record Moved (c : List ℕ) (size : ℕ) (P : List ℕ → Type 0) (F : List
   pub same : r ≡ false → F' ≡ F
   pub holds : r ≡ false → P F
 
+-- heights fell, or none did
+pub record Eased (c : List ℕ) (size : ℕ) (F F' : List ℕ) : Type 0 where
+  pub long : length F' ≡ length F
+  pub below : (x : ℕ) → x < 1536 → getD F' x 0 ≡ getD F x 0
+  pub derived : Derived c size F → Derived c size F'
+  pub most : total F' ≤ total F
+
 -- no dot has a height
 pub record Cleared (size : ℕ) (F F' : List ℕ) : Type 0 where
   pub long : length F' ≡ length F

@@ -5,7 +5,7 @@ ghost use lib.ListN.{length, getD};
 ghost use Rattle.reach.specs.Lists.{HomesFrom};
 ghost use Rattle.sparse.specs.Cells.{Shape, Noted};
 ghost use Rattle.sparse.specs.Steps.{Empties};
-ghost use Rattle.empties.specs.Empty.{offerOf, Done, Moved, Cleared, Found};
+ghost use Rattle.empties.specs.Empty.{offerOf, Done, Moved, Eased, Cleared, Found};
 use chart::AT_END;
 use chart::AT_SYMBOL;
 use chart::AT_TERMINAL;
@@ -14,6 +14,7 @@ use chart::CODE_GOES;
 use chart::CODE_OWNER;
 use chart::CODE_RULE;
 use chart::NONE;
+use chart::USE_COLUMNS;
 use chart::list_uses;
 use sparse::EMPTIES;
 use sparse::HOMES;
@@ -71,6 +72,49 @@ fn lower(code: &[u32], notes: &mut [u32], size: usize, p: usize) -> bool
     false
 }
 
+// One more than the last use of the rule of which an alternative begins at p; 0 where none begins, or the rule has no use.
+fn next_use(code: &[u32], notes: &[u32], size: usize, p: usize) -> usize
+    requires { ⌜ Shape (now code) size × (length (now notes) ≡ 2048) × (p < size) ⌝ }
+    ensures { λ r. ⌜ r ≤ size ⌝ }
+{
+    let owner = text::wide(code[CODE_COLUMNS * p + CODE_OWNER]);
+    if owner == 0 {
+        return 0;
+    }
+    let u = text::wide(notes[USE_COLUMNS * (owner - 1)]);
+    if size < u {
+        return 0;
+    }
+    u
+}
+
+// The dot p has fallen: the last use of its rule is looked at, and so on while heights fall. A chain of rules takes one sweep, in whatever
+// order its rules stand.
+fn follow(code: &[u32], notes: &mut [u32], size: usize, p: usize)
+    requires { ⌜ Shape (now code) size × (length (now notes) ≡ 2048) × (p < size) ⌝ }
+    ensures { λ _. ⌜ Eased (now (code .entry)) size (now (notes .entry)) (now (notes .exit)) ⌝ }
+{
+    let mut x = next_use(code, notes, size, p);
+    while 0 < x {
+        if !lower(code, notes, size, x - 1) {
+            return;
+        }
+        x = next_use(code, notes, size, x - 1);
+    }
+}
+
+// Lowers the height of p, and what follows from it along a chain of rules; tells whether that of p fell.
+fn lower_on(code: &[u32], notes: &mut [u32], size: usize, p: usize) -> bool
+    requires { ⌜ Shape (now code) size × (length (now notes) ≡ 2048) × (p < size) ⌝ }
+    ensures { λ r. ⌜ Moved (now (code .entry)) size (Done (now (code .entry)) p) (now (notes .entry)) r (now (notes .exit)) ⌝ }
+{
+    if !lower(code, notes, size, p) {
+        return false;
+    }
+    follow(code, notes, size, p);
+    true
+}
+
 // Lowers the heights of all dots, the last first; tells whether one fell.
 fn sweep(code: &[u32], notes: &mut [u32], size: usize) -> bool
     requires { ⌜ Shape (now code) size × (length (now notes) ≡ 2048) ⌝ }
@@ -80,7 +124,7 @@ fn sweep(code: &[u32], notes: &mut [u32], size: usize) -> bool
     let mut p = size;
     while 0 < p {
         p -= 1;
-        let here = lower(code, notes, size, p);
+        let here = lower_on(code, notes, size, p);
         fell = text::either(fell, here);
     }
     fell

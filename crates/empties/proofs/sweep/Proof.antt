@@ -21,8 +21,8 @@ loop-holds c =
 sub-p : tie.Need-sub-p Inv-loop μ-loop
 sub-p c = omega (arith, c .loop-test .taken)
 
-lower-requires : tie.Need-lower-requires Inv-loop μ-loop
-lower-requires c κs =
+lower-on-requires : tie.Need-lower-on-requires Inv-loop μ-loop
+lower-on-requires c κs =
     let at-loop = c .before .before in
     let start = at-loop .before .before .before in
     (start .pre .0, at-loop .loop .inv .1 .long ∙ start .pre .1, omega (arith, at-loop .loop .inv .0, c .before .loop-test .taken))
@@ -35,12 +35,12 @@ loop-less c = omega (arith, c .before .before .before .before .before .loop-test
 
 loop-again : tie.Need-loop-again Inv-loop μ-loop
 loop-again c =
-    let at-lower = c .before .before .before in
-    let at-loop = at-lower .before .before .before in
+    let at-lower-on = c .before .before .before in
+    let at-loop = at-lower-on .before .before .before in
     let start = at-loop .before .before .before in
     let a = start .args in
     let d = from-next (a .code .now) (a .size) (at-loop .loop .p) (a .notes .now) in
-    let m = after (From (a .code .now) (a .size) (at-loop .loop .p - 1)) d _ _ (at-loop .loop .inv .1) (at-lower .lower .ensures) (c .either .ensures) in
+    let m = after (From (a .code .now) (a .size) (at-loop .loop .p - 1)) d _ _ (at-loop .loop .inv .1) (at-lower-on .lower-on .ensures) (c .either .ensures) in
     (omega (arith, at-loop .loop .inv .0), m)
 
 same-length : tie.Need-same-length Inv-loop μ-loop
@@ -59,7 +59,7 @@ sweep-spec =
     μ-loop
     loop-holds
     sub-p
-    lower-requires
+    lower-on-requires
     either-requires
     loop-less
     loop-again
