@@ -8,13 +8,11 @@ use dynamic_errors::Verdict;
 use markup::StateWords;
 use text::limits;
 use text::refusals;
+use writer::Plan;
 use writer::Written;
 
 // Two numbers are noted of each entry of a left parse.
 const NOTES: usize = 2 * limits::READING_NUMBERS;
-
-// Tokens stand in the first cells of the table: names have no more.
-const NAME_TOKENS: usize = 12288;
 
 // The count of the XML's bytes, or the refusal.
 pub enum Converted {
@@ -37,7 +35,7 @@ fn why(judged: Verdict) -> u32
     }
 }
 
-// 17 to 23, of a left parse whose entries are noted. The names seen are local: 49,152 bytes.
+// 17 to 23, of a left parse whose entries are noted.
 pub fn conclude(
     table: &[u32],
     root: usize,
@@ -51,12 +49,14 @@ pub fn conclude(
     ensures { λ a. ⌜ ((g : Grammar) (t : Row) → Parsing (now (table .entry)) root (now (parse .entry)) (now («record» .entry)) g t
         → Concludes g (now («record» .entry)) t (due .ambiguous) (due .mismatch) (now (out .entry)) (now (out .exit)) a) ⌝ }
 {
-    let mut seen = [0u32; NAME_TOKENS];
-    let judged = dynamic_errors::first_error(table, root, parse, record, scratch, &mut seen);
+    let review = dynamic_errors::first_error(table, root, parse, record, scratch);
+    let judged = review.verdict;
     let Verdict::Allowed = judged else {
         return Converted::Refused(why(judged));
     };
-    let written = writer::write_xml(table, root, parse, record, due, scratch, out);
+    let extent = review.extent;
+    let plan = Plan { due, extent };
+    let written = writer::write_xml(table, root, parse, record, plan, scratch, out);
     let Written::Xml(n) = written else {
         return Converted::Refused(refusals::RESULT_TOO_LONG);
     };
