@@ -64,10 +64,13 @@ some-verdict DeletedRoot h e = omega arith
 some-verdict AttributeXmlns h e = omega arith
 
 module _ {T : List ℕ} {root : ℕ} {P : List ℕ} {r : Text} where
-  pub room : {S : List ℕ} → Ready T root P r → length S ≡ 8192 → Room T P S
-  room w l = record { table = omega (arith, w .table); list = omega (arith, w .few); scratch = omega (arith, w .few) }
+  pub room : {S : List ℕ} → Ready T root P r → 2 * length P ≤ length S → Room T P S
+  room w l = record { table = omega (arith, w .table); list = omega (arith, w .few); scratch = l }
 
-  pub annotated : {S : List ℕ} → Ready T root P r → length S ≡ 8192 → ((g : Grammar) (q : Text) (t : Row) → Parsed T root P g q t → Noted S 0 t) → Annotated T root P r S
+  pub parsed-some : Ready T root P r → (g : Grammar) × (q : Text) × (t : Row) × Parsed T root P g q t
+  parsed-some w = (w .g, r, w .t, w .parsing .parsed)
+
+  pub annotated : {S : List ℕ} → Ready T root P r → 2 * length P ≤ length S → ((g : Grammar) (q : Text) (t : Row) → Parsed T root P g q t → Noted S 0 t) → Annotated T root P r S
   annotated w l n = record { room = room w l; g = w .g; t = w .t; parsing = w .parsing; noted = n }
 
   job-of : {g : Grammar} {t : Row} {S : List ℕ} → Parsing T root P r g t → Noted S 0 t → Job T root P r S g t

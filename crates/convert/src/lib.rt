@@ -1,5 +1,7 @@
 // A left parse as XML: what forbids it, and then its bytes.
 ghost use mathlib.Core.Path.{_≡_};
+ghost use Prim.Native.Nat.{_*_, _≤_};
+ghost use lib.ListN.{length};
 ghost use Rattle.tree.specs.Tree.{Grammar};
 ghost use Rattle.derive.specs.Derive.{Row};
 ghost use Rattle.dynamic_errors.specs.Judgment.{verdictNumber};
@@ -13,6 +15,10 @@ use writer::Written;
 
 // Two numbers are noted of each entry of a left parse.
 const NOTES: usize = 2 * limits::READING_NUMBERS;
+
+const FEW_NUMBERS: usize = 512;
+
+const FEW_NOTES: usize = 2 * FEW_NUMBERS;
 
 // The count of the XML's bytes, or the refusal.
 pub enum Converted {
@@ -63,7 +69,25 @@ pub fn conclude(
     Converted::Xml(n)
 }
 
-// The same of a reading. The numbers noted of the entries are local: 65,536 bytes.
+// The same of a reading, with room for two numbers of each entry.
+fn convert_with(
+    table: &[u32],
+    root: usize,
+    parse: &[u32],
+    record: &[u32],
+    due: StateWords,
+    scratch: &mut [u64],
+    out: &mut [u8],
+) -> Converted
+    requires { ⌜ Ready (now table) root (now parse) (now «record») × (2 * length (now parse) ≤ length (now scratch)) ⌝ }
+    ensures { λ a. ⌜ ((g : Grammar) (t : Row) → Parsing (now (table .entry)) root (now (parse .entry)) (now («record» .entry)) g t
+        → Concludes g (now («record» .entry)) t (due .ambiguous) (due .mismatch) (now (out .entry)) (now (out .exit)) a) ⌝ }
+{
+    left_parse::note(table, root, parse, scratch);
+    conclude(table, root, parse, record, due, scratch, out)
+}
+
+// The same. The numbers noted of the entries are local: 65,536 bytes, but 8,192 if the entries are few.
 pub fn convert(
     table: &[u32],
     root: usize,
@@ -77,11 +101,14 @@ pub fn convert(
     ensures { λ a. ⌜ ((g : Grammar) (t : Row) → Parsing (now (table .entry)) root (now (parse .entry)) (now («record» .entry)) g t
         → Concludes g (now («record» .entry)) t ambiguous mismatch (now (out .entry)) (now (out .exit)) a) ⌝ }
 {
-    let mut scratch = [0u64; NOTES];
-    left_parse::note(table, root, parse, &mut scratch);
     let due = StateWords {
         ambiguous,
         mismatch,
     };
-    conclude(table, root, parse, record, due, &mut scratch, out)
+    if parse.len() <= FEW_NUMBERS {
+        let mut few = [0u64; FEW_NOTES];
+        return convert_with(table, root, parse, record, due, &mut few, out);
+    }
+    let mut notes = [0u64; NOTES];
+    convert_with(table, root, parse, record, due, &mut notes, out)
 }
