@@ -17,7 +17,9 @@ use Rattle.left_parse.specs.Noted.{Noted, Parsed, Room}
 use Rattle.writer.specs.declared.Written as writer
 use Rattle.writer.specs.declared.Written.the-variants as written
 use Rattle.writer.specs.Whole.{Job, Some, Writable, writtenNumber, writtenCount, Answered}
+use Rattle.extent.specs.Extent.{Covers}
 use Rattle.dynamic_errors.specs.declared.Verdict.{Verdict}
+use Rattle.dynamic_errors.specs.declared.Review.{Review}
 use Rattle.dynamic_errors.specs.Judgment.{topmost, judgmentOf, verdictNumber, Judged}
 use denote.Enum.Declared.{tagOf}
 use types.Run.{OneOf}
@@ -62,10 +64,13 @@ some-verdict DeletedRoot h e = omega arith
 some-verdict AttributeXmlns h e = omega arith
 
 module _ {T : List ℕ} {root : ℕ} {P : List ℕ} {r : Text} where
-  pub room : {S : List ℕ} → Ready T root P r → length S ≡ 8192 → Room T P S
-  room w l = record { table = omega (arith, w .table); list = omega (arith, w .few); scratch = omega (arith, w .few) }
+  pub room : {S : List ℕ} → Ready T root P r → 2 * length P ≤ length S → Room T P S
+  room w l = record { table = omega (arith, w .table); list = omega (arith, w .few); scratch = l }
 
-  pub annotated : {S : List ℕ} → Ready T root P r → length S ≡ 8192 → ((g : Grammar) (q : Text) (t : Row) → Parsed T root P g q t → Noted S 0 t) → Annotated T root P r S
+  pub parsed-some : Ready T root P r → (g : Grammar) × (q : Text) × (t : Row) × Parsed T root P g q t
+  parsed-some w = (w .g, r, w .t, w .parsing .parsed)
+
+  pub annotated : {S : List ℕ} → Ready T root P r → 2 * length P ≤ length S → ((g : Grammar) (q : Text) (t : Row) → Parsed T root P g q t → Noted S 0 t) → Annotated T root P r S
   annotated w l n = record { room = room w l; g = w .g; t = w .t; parsing = w .parsing; noted = n }
 
   job-of : {g : Grammar} {t : Row} {S : List ℕ} → Parsing T root P r g t → Noted S 0 t → Job T root P r S g t
@@ -78,7 +83,7 @@ module _ {T : List ℕ} {root : ℕ} {P : List ℕ} {r : Text} where
     pub some-job : Annotated T root P r S → Some T root P r S
     some-job w = record { g = w .g; t = w .t; job = its-job (w .parsing) }
 
-    module _ {S′ : List ℕ} {v : Verdict} (j : Judged T root P r S S′ v) where
+    module _ {S′ : List ℕ} {v : Review} (j : Judged T root P r S S′ v) where
       later-job : {g : Grammar} {t : Row} → Parsing T root P r g t → Job T root P r S′ g t
       later-job {g} {t} p = subst (λ (x : List ℕ). Job T root P r x g t) (sym (j .kept)) (its-job p)
 
@@ -88,7 +93,7 @@ module _ {T : List ℕ} {root : ℕ} {P : List ℕ} {r : Text} where
       pub some-later : Annotated T root P r S → Some T root P r S′
       some-later w = record { g = w .g; t = w .t; job = later-job (w .parsing) }
 
-      module _ (g : Grammar) (t : Row) (a m : Bool) (old : List ℕ) (n : ℕ) (p : Parsing T root P r g t) (e : n ≡ verdictNumber v) where
+      module _ (g : Grammar) (t : Row) (a m : Bool) (old : List ℕ) (n : ℕ) (p : Parsing T root P r g t) (e : n ≡ verdictNumber (v .verdict)) where
         number : n ≡ judgmentOf g r t
         number = e ∙ j .is g t (its-job p)
 
@@ -96,12 +101,12 @@ module _ {T : List ℕ} {root : ℕ} {P : List ℕ} {r : Text} where
         forbidden z = record { written = λ q. absurd (z q); not-written = λ _. record { why = inl (number, z); buffer = refl }; told = rw (ne-eqb n 0 z) }
 
         module _ (z : n ≡ 0) (new : List ℕ) (x : writer.Written)
-            (w : Job T root P r S′ g t → Writable g r t → Answered (bytes a m (document g r t)) old new x) where
+            (w : Job T root P r S′ g t → Writable g r t → Covers (v .extent) (document g r t) → Answered (bytes a m (document g r t)) old new x) where
           allowed : judgmentOf g r t ≡ 0
           allowed = sym number ∙ z
 
           answered : Answered (bytes a m (document g r t)) old new x
-          answered = w (later-job p) (writable g r t allowed)
+          answered = w (later-job p) (writable g r t allowed) (j .covers g t (its-job p))
 
           pub concluded : (k : ℕ) → x ≡ written.Xml k → Concludes g r t a m old new (Xml k)
           concluded k q = ⊎-elim

@@ -1,4 +1,4 @@
--- A whole text, from two scans: UTF-8 first, then the alphabet.
+-- A whole text, from two scans, UTF-8 first, then the alphabet; or from one, where all is of the alphabet.
 use mathlib.Core.Path.{_≡_, refl, sym, ap, subst, _∙_}
 use mathlib.Core.Bool.{Bool, true, false}
 use mathlib.Core.Logic.{⊎-elim}
@@ -137,6 +137,36 @@ module _ {bs : List ℕ} {from : ℕ} {old mid new : List ℕ} {k : Decoding} {r
             let e : ds ≡ w .chars ++ p .after = utf8-unique (drop from bs) ds (x .chars) u text ∙ p .is in
             w .stored ∙ rw (x .stored, p .is, e) (over-again (w .chars) (p .after) old);
       }
+
+-- characters stored before more of them
+over-more : (b d : Text) (old : List ℕ) → over (b ++ d) (over b old) ≡ over (b ++ d) old
+over-more [] d old = ap (over d) (sym (over-nil old))
+over-more (c ∷ b) d [] = refl
+over-more (c ∷ b) d (o ∷ old) = ap (_∷_ c) (over-more b d old)
+
+-- one scan for the alphabet: it reads all, or another stage begins anew
+module _ {bs : List ℕ} {from : ℕ} {old mid : List ℕ} {k : Decoding} (w : Scans known bs from old k mid) where
+  pub at-once : (n : CharPlace) → k ≡ Of n → Decodes bs from old k mid
+  at-once n q = go (w .stopped) q
+    where
+      go : {d : Decoding} → Stopped known (length (w .chars)) (w .place) (drop (w .place) bs) d → d ≡ Of n → Decodes bs from old d mid
+      go (at-end e l) f =
+          let u = to-end w l in
+          record {
+            answer = of (w .chars) u (passing (w .fits)) e;
+            stored = λ ds v. w .stored ∙ ap (λ (t : Text). over t old) (utf8-unique (drop from bs) (w .chars) ds u v);
+          }
+      go (at-cut e l q) f = absurd (let z : _≡_ {A = ℕ} 0 1 = cc in omega arith)
+      go (at-bad e l q) f = absurd (let z : _≡_ {A = ℕ} 0 1 = cc in omega arith)
+      go (at-unfit e q m) f = absurd (let z : _≡_ {A = ℕ} 0 1 = cc in omega arith)
+
+  pub anew : {new : List ℕ} {r : Decoding} → Decodes bs from mid r new → Decodes bs from old r new
+  anew D = record {
+    answer = D .answer;
+    stored = λ cs u.
+        let p = past (w .chars) cs (drop (w .place) bs) (scalars (w .fits)) (u .scalars) (sym (w .spelt) ∙ u .spelt) in
+        D .stored cs u ∙ rw (w .stored, p .is) (over-more (w .chars) (p .after) old);
+  }
 
 -- a text has one answer
 same-char : (p q : CharPlace) → p .0 ≡ q .0 → p ≡ q

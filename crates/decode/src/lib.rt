@@ -106,7 +106,7 @@ fn scan(bytes: &[u8], from: BytePlace, pattern: Pattern, out: &mut [u32]) -> Dec
 }
 
 // UTF-8 is judged over the whole text, then the alphabet.
-fn decode_from(bytes: &[u8], from: BytePlace, out: &mut [u32]) -> Decoding
+fn decode_in_turn(bytes: &[u8], from: BytePlace, out: &mut [u32]) -> Decoding
     requires { ⌜ from .0 ≤ length (now bytes) ⌝ }
     ensures { λ r. ⌜ Decodes (now (bytes .entry)) (from .0) (now (out .entry)) r (now (out .exit)) ⌝ }
 {
@@ -115,6 +115,18 @@ fn decode_from(bytes: &[u8], from: BytePlace, out: &mut [u32]) -> Decoding
         return whole;
     };
     scan(bytes, from, Pattern::Alphabet, out)
+}
+
+// The same, by one scan where all is of the alphabet.
+fn decode_from(bytes: &[u8], from: BytePlace, out: &mut [u32]) -> Decoding
+    requires { ⌜ from .0 ≤ length (now bytes) ⌝ }
+    ensures { λ r. ⌜ Decodes (now (bytes .entry)) (from .0) (now (out .entry)) r (now (out .exit)) ⌝ }
+{
+    let known = scan(bytes, from, Pattern::Alphabet, out);
+    let Decoding::Of(_) = known else {
+        return decode_in_turn(bytes, from, out);
+    };
+    known
 }
 
 // The characters of a text, stored as far as out has room, all counted.

@@ -10,9 +10,10 @@ use Prim.Native.Nat.{ℕ}
 use Rattle.cursor.specs.Ahead.{Ahead, SomeRow}
 use Rattle.cursor.specs.declared.Cursor.{Cursor}
 use Rattle.xml_shape.specs.Names.{repeated}
-use Rattle.xml_shape.proofs.Folds.{judged}
 use Rattle.xml_names.specs.declared.Faults.{Faults}
 use Rattle.xml_names.proofs.Folds.{Owed, told}
+use Rattle.extent.specs.declared.Extent.{Extent}
+use Rattle.extent.proofs.Folds.{Spans, spans-end}
 use Rattle.dynamic_errors.specs.Within.{RowFound}
 use Rattle.dynamic_errors.specs.declared.Findings.{Findings}
 
@@ -61,8 +62,8 @@ module _ {found : Bool} {r : Text} {k₀ : Rest} where
   pub hunt-text : (t : Text) (k : Rest) → Hunt found r k₀ (before (text t) k) → Hunt found r k₀ k
   hunt-text t k = over (twice-before (text t) k ∙ ap (λ (b : Bool). b || twiceOf k) (twice-text t))
 
-  pub hunt-attribute : (n v : Text) (k : Rest) → Hunt found r k₀ (before (attr n v none) k) → Hunt found r k₀ (within n (text v) k)
-  hunt-attribute n v k = over (twice-before (attr n v none) k ∙ ap (λ (b : Bool). b || twiceOf k) (twice-attribute n v ∙ sym (twice-text v)))
+  pub hunt-attribute : (n v : Text) (k : Rest) → Hunt found r k₀ (before (attr n v none) k) → Hunt found r k₀ k
+  hunt-attribute n v k = over (twice-before (attr n v none) k ∙ ap (λ (b : Bool). b || twiceOf k) (twice-attribute n v))
 
   pub hunt-close : (n : Text) (k : Rest) → Hunt found r k₀ (within n none k) → Hunt found r k₀ k
   hunt-close n k = over (ap (λ (b : Bool). b || twiceOf k) twice-nothing)
@@ -81,14 +82,14 @@ pub hunt-end : {found : Bool} {r : Text} {x : Xml} → Hunt found r (row x) (row
 hunt-end {found} O = sym (or-false found) ∙ sym (ap (λ (b : Bool). found || b) twice-nothing) ∙ O .owes
 
 -- both that are looked for, for the record rec
-pub record Search (rec : Text) (twice : Bool) (faults : Faults) (r : Text) (k₀ k : Rest) : Type 0 where
-  pub hunt : Hunt twice r k₀ k
+pub record Search (rec : Text) (faults : Faults) (extent : Extent) (r : Text) (k₀ k : Rest) : Type 0 where
   pub owed : Owed rec faults r k₀ k
+  pub spans : Spans extent r k₀ k
 
 pub found : {T P : List ℕ} {r : Text} {S S′ : List ℕ} {c : Cursor} (f : Findings) → SomeRow T P r S c
-    → ((r′ : Text) (S₀ : List ℕ) (k₀ : Rest) → Ahead T P r′ S₀ S c k₀ → (S′ ≡ S₀) × Search r (f .twice) (f .faults) r′ k₀ (row none))
+    → ((r′ : Text) (S₀ : List ℕ) (k₀ : Rest) → Ahead T P r′ S₀ S c k₀ → (S′ ≡ S₀) × Search r (f .faults) (f .extent) r′ k₀ (row none))
     → RowFound T P r S S′ c f
-found {r = r} f D h = record {
-  twice = judged twice (r, D) (λ r S₀ x A. let m = h r S₀ (row x) A in (m .0, hunt-end (m .1 .hunt)));
+found {S = S} f D h = record {
   told = told (f .faults) D (λ r S₀ k A. let m = h r S₀ k A in (m .0, m .1 .owed));
+  covers = λ r x A. spans-end (h r S (row x) A .1 .spans);
 }

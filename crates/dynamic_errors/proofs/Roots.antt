@@ -3,7 +3,8 @@ use mathlib.Core.Path.{_≡_, refl, sym, ap, ap₂, _∙_}
 use mathlib.Core.Bool.{Bool, true, false, not, _||_}
 use mathlib.Core.List.{List, [], _∷_}
 use mathlib.Core.Logic.{⊎-elim}
-use Prim.Native.Nat.{ℕ, _+_}
+use Prim.Native.Nat.{ℕ, _+_, _*_, _≤_, _<_}
+use native.Mathlib.Omega.{arith}
 use lib.Dec.{eqb}
 use lib.ListN.{getD}
 use borrow.Author.Tests.{eq-eqb, eqb-true, eqb-false}
@@ -28,12 +29,16 @@ use Rattle.xml_shape.specs.Names.{repeated}
 use Rattle.dynamic_errors.specs.declared.Findings.{Findings}
 use Rattle.dynamic_errors.specs.declared.Verdict.{Verdict}
 use Rattle.dynamic_errors.specs.declared.Verdict.the-variants.{Allowed, RepeatedAttribute, NotXmlName, NotXmlCharacter, AttributeRoot, DeletedRoot, AttributeXmlns}
-use Rattle.dynamic_errors.specs.Within.{RowFound}
-use Rattle.dynamic_errors.specs.Judgment.{topmost, judgment, judgmentOf, around, withinRoot, misnamedIn, notOneIn, verdictNumber, RowJudged, Judged}
+use Rattle.extent.specs.Extent.{tag, mostOf, attributesOf, Covers, Grown}
+use Rattle.extent.specs.declared.Extent.{Extent}
+use Rattle.extent.proofs.Sizes.{not-twice, no-names}
+use Rattle.dynamic_errors.specs.declared.Review.{Review}
+use Rattle.dynamic_errors.specs.Within.{RowFound, Attributed}
+use Rattle.dynamic_errors.specs.Judgment.{topmost, judgment, judgmentOf, around, twiceIn, misnamedIn, notOneIn, verdictNumber, RowJudged, Judged}
 
 -- each judgment of the document, from that of the row: 17
 module _ (n : Text) (x : Xml) where
-  twice-around : (b : Bool) → withinRoot b x (twice x) ≡ twice (around b n x)
+  twice-around : (b : Bool) → twiceIn b x ≡ twice (around b n x)
   unfolding twice
   twice-around true = refl
   twice-around false = sym (or-false (repeated x || twice x))
@@ -65,38 +70,68 @@ module _ (n : Text) (x : Xml) where
 -- a row is judged in parts
 module _ {T P S : List ℕ} {h : Cursor} {d : Bool} where
   -- a deleted root: the row is all
-  pub twice-deleted : d ≡ true → (b : Bool) → Judges (λ x. withinRoot d x b) T P S S h b
-  twice-deleted e b = record { kept = refl; is = λ r x A. ap (λ (c : Bool). withinRoot c x b) (sym e) }
+  pub twice-deleted : d ≡ true → {S′ : List ℕ} {b : Bool} → Judges twice T P S S′ h b → Judges (twiceIn d) T P S S′ h b
+  twice-deleted e J = record { kept = J .kept; is = λ r x A. J .is r x A ∙ ap (λ (c : Bool). twiceIn c x) (sym e) }
 
   -- the same for one element
   pub not-one-deleted : d ≡ true → {S′ : List ℕ} {b : Bool} → Judges notOne T P S S′ h b → Judges (notOneIn d) T P S S′ h b
   not-one-deleted e J = record { kept = J .kept; is = λ r x A. J .is r x A ∙ ap (λ (c : Bool). notOneIn c x) (sym e) }
 
   -- an element: its own attributes are compared too
-  pub twice-element : d ≡ false → {S′ : List ℕ} {a c : Bool} (b : Bool) → Judges repeated T P S S′ h a → c ≡ (a || b) → Judges (λ x. withinRoot d x b) T P S S′ h c
-  twice-element e b K f = record { kept = K .kept; is = λ r x A. f ∙ ap (λ (a : Bool). a || b) (K .is r x A) ∙ ap (λ (c : Bool). withinRoot c x b) (sym e) }
+  pub twice-element : d ≡ false → {S₁ S₂ : List ℕ} {a b c : Bool} → Judges twice T P S S₁ h b → Judges repeated T P S₁ S₂ h a → c ≡ (a || b)
+      → Judges (twiceIn d) T P S S₂ h c
+  twice-element e {b = b} J K f = record {
+    kept = K .kept ∙ J .kept;
+    is = λ r x A. f ∙ ap₂ _||_ (K .is r x (rw (J .kept) A)) (J .is r x A) ∙ ap (λ (c : Bool). twiceIn c x) (sym e);
+  }
 
   -- an element is one
   pub not-one-element : d ≡ false → Judges (notOneIn d) T P S S h false
   not-one-element e = record { kept = refl; is = λ r x A. ap (λ (c : Bool). notOneIn c x) (sym e) }
 
+-- without attributes there is none twice
+pub twice-bare : {T P S : List ℕ} {h : Cursor} {a : Bool} (d : Bool) → Attributed T P S h a → a ≡ false → Judges (twiceIn d) T P S S h false
+twice-bare d U e = record { kept = refl; is = λ r x A. sym (none d x (U .bare e r x A)) }
+  where
+    none : (d : Bool) (x : Xml) → attributesOf x ≡ 0 → twiceIn d x ≡ false
+    none true x z = not-twice x z
+    none false x z = rw (no-names x z, not-twice x z)
+
 -- a row stands as before
 pub standing-again : {T P : List ℕ} {r : Text} {S S′ : List ℕ} {h : Cursor} → S′ ≡ S → SomeRow T P r S h → SomeRow T P r S′ h
 standing-again e D = rw e D
+
+-- what is found says whether there may be attributes
+pub attributed-later : {T P : List ℕ} {r : Text} {S S′ : List ℕ} {c : Cursor} {f : Findings} → RowFound T P r S S′ c f → Attributed T P S′ c (f .extent .attributed)
+attributed-later {T} {P} {c = c} F = record { bare = λ e r x A. F .covers r x (rw (F .told .kept) at A) .bare e }
 
 -- equal tests have equal numbers
 same-line : {t t′ m m′ u u′ b b′ n n′ : Bool} (a : Bool) → t ≡ t′ → m ≡ m′ → u ≡ u′ → b ≡ b′ → n ≡ n′
     → topmost t m u a b n ≡ topmost t′ m′ u′ a b′ n′
 same-line a e f g h i = rw (e, f, g, h, i)
 
+-- what the XML of a root takes, by that of its row
+around-covers : {e q : Extent} (n : Text) {x : Xml} (d : Bool) → Covers e x → Grown e q (tag n) → q .attributed ≡ e .attributed → Covers q (around d n x)
+around-covers n true C G a = record { most = λ l. omega (arith, G .is l, C .most (omega (arith, G .is l))); bare = λ f. C .bare (sym a ∙ f) }
+around-covers n false C G a = record {
+  most = λ l. omega (arith, G .is l, C .most (omega (arith, G .is l)));
+  bare = λ f. omega (arith, C .bare (sym a ∙ f));
+}
+
 -- the judgments of a row make that of the root
-pub row-judged : {T P : List ℕ} {r : Text} {S S₁ S₂ S₃ : List ℕ} {head mark : ℕ} {h : Cursor} {d t m b : Bool} {f : Findings} {v : Verdict}
-    → mark ≡ getD T head 0 → d ≡ eqb mark 23 → RowFound T P r S S₁ h f → Judges (λ x. withinRoot d x (f .twice)) T P S₁ S₂ h t
+pub row-judged : {T P : List ℕ} {r : Text} {S S₁ S₂ S₃ : List ℕ} {head mark : ℕ} {h : Cursor} {d t m b : Bool} {f : Findings} {w : Review}
+    → mark ≡ getD T head 0 → d ≡ eqb mark 23 → RowFound T P r S S₁ h f → Judges (twiceIn d) T P S₁ S₂ h t
     → ((k : ℕ) (n : Text) → Named T head k n → m ≡ misnamedIn d n (f .faults .misnamed)) → Judges (notOneIn d) T P S₂ S₃ h b
-    → verdictNumber v ≡ topmost t m (f .faults .unwritable) (eqb mark 22) b (f .faults .namespaced) → RowJudged T P r S S₃ head h v
-row-judged {T} {P} {r} {S} {S₁} {S₂} {S₃} {head} {mark} {h} {d} {t} {m} {b} {f} {v} me de F J M K e = record { kept = K .kept ∙ J .kept ∙ F .told .kept; is = go }
+    → verdictNumber (w .verdict) ≡ topmost t m (f .faults .unwritable) (eqb mark 22) b (f .faults .namespaced)
+    → ((k : ℕ) (n : Text) → Named T head k n → Grown (f .extent) (w .extent) (tag n)) × (w .extent .attributed ≡ f .extent .attributed)
+    → RowJudged T P r S S₃ head h w
+row-judged {T} {P} {r} {S} {S₁} {S₂} {S₃} {head} {mark} {h} {d} {t} {m} {b} {f} {w} me de F J M K e G = record {
+  kept = K .kept ∙ J .kept ∙ F .told .kept;
+  is = go;
+  covers = λ k n N x A. around-covers n (eqb k 23) (F .covers r x A) (G .0 k n N) (G .1);
+}
   where
-    go : (k : ℕ) (n : Text) → Named T head k n → (x : Xml) → AtRow T P r S h x → verdictNumber v ≡ judgment (eqb k 22) (around (eqb k 23) n x)
+    go : (k : ℕ) (n : Text) → Named T head k n → (x : Xml) → AtRow T P r S h x → verdictNumber (w .verdict) ≡ judgment (eqb k 22) (around (eqb k 23) n x)
     go k n N x A =
         let A₁ : AtRow T P r S₁ h x = rw (F .told .kept) A in
         let A₂ : AtRow T P r S₂ h x = rw (J .kept) A₁ in
@@ -104,7 +139,7 @@ row-judged {T} {P} {r} {S} {S₁} {S₂} {S₃} {head} {mark} {h} {d} {t} {m} {b
         e
         ∙ same-line
         (eqb mark 22)
-        (J .is r x A₁ ∙ ap (withinRoot d x) (F .twice .is r x A) ∙ twice-around n x d)
+        (J .is r x A₁ ∙ twice-around n x d)
         (M k n N ∙ ap (misnamedIn d n) (D .misnamed) ∙ misnamed-around n x d)
         (D .unwritable ∙ unwritable-around n x d)
         (K .is r x A₂ ∙ not-one-around n x d)
@@ -154,14 +189,21 @@ pub root-standing : {T : List ℕ} {x : ℕ} {P : List ℕ} {r : Text} {S : List
     → a ≡ getD P 0 0 → Found T x a item → c ≡ rootAt item → SomeRow T P r S c
 root-standing {P = P} {item = item} room J e F ce = row-again ce refl (root-row (rooted room (J .job) item (found-first P e F)))
 
--- the verdict on the root is that on the derivation
-pub root-judged : {T : List ℕ} {x : ℕ} {P : List ℕ} {r : Text} {S S′ : List ℕ} {head a item : ℕ} {c : Cursor} {v : Verdict}
-    → Room T P S → Headed T head → a ≡ getD P 0 0 → Found T x a item → c ≡ rootAt item → RowJudged T P r S S′ head c v → Judged T x P r S S′ v
-root-judged {T} {x} {P} {r} {S} {S′} {head} {a} {item} {c} {v} room H ae F ce J = record { kept = J .kept; is = go }
+-- the review of the root is that of the derivation
+pub root-judged : {T : List ℕ} {x : ℕ} {P : List ℕ} {r : Text} {S S′ : List ℕ} {head a item : ℕ} {c : Cursor} {w : Review}
+    → Room T P S → Headed T head → a ≡ getD P 0 0 → Found T x a item → c ≡ rootAt item → RowJudged T P r S S′ head c w → Judged T x P r S S′ w
+root-judged {T} {x} {P} {r} {S} {S′} {head} {a} {item} {c} {w} room H ae F ce J = record { kept = J .kept; is = is; covers = covers }
   where
-    go : (g : Grammar) (t : Row) → Job T x P r S g t → verdictNumber v ≡ judgmentOf g r t
-    go g t job =
-        let R = rooted room job item (found-first P ae F) in
-        let n = g .root .name in
-        J .is (20 + markNumber (g .root .mark)) n (H .named g (job .tokens)) (R .inner) (rw ce (R .stands))
+    stands : {g : Grammar} {t : Row} → Job T x P r S g t → Rooted T P r S item g t
+    stands job = rooted room job item (found-first P ae F)
+
+    is : (g : Grammar) (t : Row) → Job T x P r S g t → verdictNumber (w .verdict) ≡ judgmentOf g r t
+    is g t job =
+        let R = stands job in
+        J .is (20 + markNumber (g .root .mark)) (g .root .name) (H .named g (job .tokens)) (R .inner) (rw ce (R .stands))
         ∙ ap₂ judgment (attribute-number (g .root .mark) ∙ ap isAttribute (sym (root-mark g))) (sym (document-around R))
+
+    covers : (g : Grammar) (t : Row) → Job T x P r S g t → Covers (w .extent) (document g r t)
+    covers g t job =
+        let R = stands job in
+        rw (document-around R) (J .covers (20 + markNumber (g .root .mark)) (g .root .name) (H .named g (job .tokens)) (R .inner) (rw ce (R .stands)))

@@ -14,6 +14,8 @@ use Rattle.cursor.specs.declared.Cursor.{Cursor}
 use Rattle.left_parse.specs.Steps.{Named}
 use Rattle.writer.specs.Whole.{Job}
 use Rattle.xml_shape.specs.Names.{repeated}
+use Rattle.extent.specs.Extent.{Covers}
+use Rattle.dynamic_errors.specs.declared.Review.{Review}
 use Rattle.dynamic_errors.specs.declared.Verdict.{Verdict}
 use Rattle.dynamic_errors.specs.declared.Verdict.the-variants.{Allowed, RepeatedAttribute, NotXmlName, NotXmlCharacter, AttributeRoot, DeletedRoot, AttributeXmlns}
 
@@ -43,9 +45,9 @@ verdictNumber AttributeXmlns = 22
 abbrev pub around : Bool → Text → Xml → Xml
 around deleted n x = pick deleted x (elem n x none)
 
--- 17 of it, by what stands in the root, and whether that has an attribute twice
-abbrev pub withinRoot : Bool → Xml → Bool → Bool
-withinRoot deleted x within = pick deleted within (repeated x || within)
+-- 17 of it, by what stands in the root
+abbrev pub twiceIn : Bool → Xml → Bool
+twiceIn deleted x = pick deleted (twice x) (repeated x || twice x)
 
 -- 18 of it, from whether what stands in the root is misnamed
 abbrev pub misnamedIn : Bool → Text → Bool → Bool
@@ -55,12 +57,14 @@ misnamedIn deleted n found = pick deleted found (not (xmlName n) || found)
 abbrev pub notOneIn : Bool → Xml → Bool
 notOneIn deleted x = pick deleted (notOne x) false
 
--- v is the verdict on the row at c, in a root whose token stands at `head` and has the number k (22: @, 23: deleted)
-pub record RowJudged (T P : List ℕ) (r : Text) (S S' : List ℕ) (head : ℕ) (c : Cursor) (v : Verdict) : Type 0 where
+-- w is the review of the row at c, in a root whose token stands at `head` and has the number k (22: @, 23: deleted)
+pub record RowJudged (T P : List ℕ) (r : Text) (S S' : List ℕ) (head : ℕ) (c : Cursor) (w : Review) : Type 0 where
   pub kept : S' ≡ S
-  pub is : (k : ℕ) (n : Text) → Named T head k n → (x : Xml) → AtRow T P r S c x → verdictNumber v ≡ judgment (eqb k 22) (around (eqb k 23) n x)
+  pub is : (k : ℕ) (n : Text) → Named T head k n → (x : Xml) → AtRow T P r S c x → verdictNumber (w .verdict) ≡ judgment (eqb k 22) (around (eqb k 23) n x)
+  pub covers : (k : ℕ) (n : Text) → Named T head k n → (x : Xml) → AtRow T P r S c x → Covers (w .extent) (around (eqb k 23) n x)
 
--- v is the verdict on the derivation that the list names, and nothing is noted otherwise than before
-pub record Judged (T : List ℕ) (root : ℕ) (P : List ℕ) (r : Text) (S S' : List ℕ) (v : Verdict) : Type 0 where
+-- w is the review of the derivation that the list names, and nothing is noted otherwise than before
+pub record Judged (T : List ℕ) (root : ℕ) (P : List ℕ) (r : Text) (S S' : List ℕ) (w : Review) : Type 0 where
   pub kept : S' ≡ S
-  pub is : (g : Grammar) (t : Row) → Job T root P r S g t → verdictNumber v ≡ judgmentOf g r t
+  pub is : (g : Grammar) (t : Row) → Job T root P r S g t → verdictNumber (w .verdict) ≡ judgmentOf g r t
+  pub covers : (g : Grammar) (t : Row) → Job T root P r S g t → Covers (w .extent) (document g r t)

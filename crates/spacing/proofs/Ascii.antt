@@ -1,9 +1,9 @@
 -- What comparisons tell of the characters of ASCII, each computed once over all of them.
 use mathlib.Core.Bool.{Bool, true, false, not, _&&_, _||_}
-use mathlib.Core.Path.{_≡_, refl, sym, subst}
+use mathlib.Core.Path.{_≡_, refl, sym, ap, subst}
 use Prim.Native.Nat.{ℕ, _<_, _≤_}
 use native.Mathlib.Omega.{arith}
-use lib.Dec.{T, leb}
+use lib.Dec.{T, leb, eqb}
 use borrow.Author.Tests.{leb-true}
 use Rattle.text.specs.Lists.{chars, pick}
 use Rattle.text.proofs.Tests.{T-true}
@@ -36,6 +36,31 @@ not-control c e = not-false (inClass (chars "Cc") c) (at-all (within 0x20 0x7e) 
 pub not-white : (c : ℕ) → leb 0x21 c && leb c 0x7e ≡ true → whitespace c ≡ false
 unfolding within whitespace inClass categoryOf look ranges
 not-white c e = not-false (whitespace c) (at-all (within 0x21 0x7e) (λ c. not (whitespace c)) tt c (omega (arith, within-below 0x21 0x7e c e)) e)
+
+pub space-white : whitespace 0x20 ≡ true
+unfolding whitespace inClass categoryOf look ranges
+space-white = refl
+
+-- without a test by the table
+abbrev bare : ℕ → Bool
+bare c = not (letter c) && not (eqb c 0x5f)
+
+pub not-start : (c : ℕ) → c < 128 → letter c ≡ false → eqb c 0x5f ≡ false → namestart c ≡ false
+unfolding letter capital namestart inClass categoryOf look ranges
+not-start c h e f = not-false (namestart c) (at-all bare (λ c. not (namestart c)) tt c h (both (letter c) (eqb c 0x5f) e f))
+  where
+    both : (a b : Bool) → a ≡ false → b ≡ false → not a && not b ≡ true
+    both true b p q = sym p
+    both false true p q = sym q
+    both false false p q = refl
+
+pub no-digit : (c : ℕ) → c < 128 → leb 0x30 c && leb c 0x39 ≡ false → inClass (chars "Nd") c ≡ false
+unfolding within inClass categoryOf look ranges
+no-digit c h e = not-false (inClass (chars "Nd") c) (at-all (λ c. not (within 0x30 0x39 c)) (λ c. not (inClass (chars "Nd") c)) tt c h (ap not e))
+
+pub no-mark : (c : ℕ) → c < 128 → inClass (chars "Mn") c ≡ false
+unfolding inClass categoryOf look ranges
+no-mark c h = not-false (inClass (chars "Mn") c) (at-all (λ c. true) (λ c. not (inClass (chars "Mn") c)) tt c h refl)
 
 pub digit-follows : (c : ℕ) → leb 0x30 c && leb c 0x39 ≡ true → namefollower c ≡ true
 unfolding within namefollower namestart inClass categoryOf look ranges

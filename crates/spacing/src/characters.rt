@@ -18,8 +18,10 @@ use crate::FULL_STOP;
 use crate::HYPHEN;
 use crate::LINE_FEED;
 use crate::MIDDLE_DOT;
+use crate::PAST_ASCII;
 use crate::SEMICOLON;
 use crate::SINGLE_QUOTE;
+use crate::SPACE;
 use crate::TAB;
 use crate::UNDERSCORE;
 use crate::UNDERTIE;
@@ -71,6 +73,9 @@ pub fn whitespace(c: u32) -> bool
 {
     if text::between(c, 0x21, 0x7e) {
         return false;
+    }
+    if c == SPACE {
+        return true;
     }
     if category::in_class(CLASS_ZS, c) {
         return true;
@@ -196,6 +201,9 @@ pub fn name_start(c: u32) -> bool
     if c == UNDERSCORE {
         return true;
     }
+    if c < PAST_ASCII {
+        return false;
+    }
     category::in_class(CLASS_L, c)
 }
 
@@ -229,6 +237,9 @@ pub fn name_follower(c: u32) -> bool
     }
     if connector(c) {
         return true;
+    }
+    if c < PAST_ASCII {
+        return false;
     }
     if category::in_class(CLASS_ND, c) {
         return true;

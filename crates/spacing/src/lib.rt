@@ -45,6 +45,8 @@ pub const LINE_FEED: u32 = 0xa;
 
 pub const CARRIAGE_RETURN: u32 = 0xd;
 
+pub const SPACE: u32 = 0x20;
+
 pub const DOUBLE_QUOTE: u32 = 0x22;
 
 pub const NUMBER_SIGN: u32 = 0x23;
@@ -90,6 +92,8 @@ pub const VERTICAL_LINE: u32 = 0x7c;
 pub const CLOSE_BRACE: u32 = 0x7d;
 
 pub const TILDE: u32 = 0x7e;
+
+pub const PAST_ASCII: u32 = 0x80;
 
 pub const MIDDLE_DOT: u32 = 0xb7;
 

@@ -13,7 +13,8 @@ use Rattle.text.proofs.Lists.{or-false, any-append}
 use Rattle.category.specs.Category.{letters}
 use Rattle.tokens.specs.Lengths.{formOf}
 use Rattle.tokens.specs.Names.{nameAt}
-use Rattle.static_errors.specs.Parts.{Part, used, headed, code, between, classed, other, partOf, partAt, usedIn, headsIn, endCodes, codesIn, lacking, badCode, badCodes, backward, classless}
+use Rattle.static_errors.specs.Parts.{Part, used, headed, code, between, classed, other, partOf, partAt, usedIn, headsIn, endCodes, codesIn}
+use Rattle.static_errors.specs.Parts.{lacking, badCode, badCodes, backward, classless, faulty}
 
 -- the cases of a part
 pub by-form : (P : Part → Type 0) (s : ℕ) (n : Text) (v w x y : ℕ) → (s ≡ 0 → P (used n)) → (s ≡ 1 → P (headed n)) → (s ≡ 3 → P (code v)) → (s ≡ 4 → P (between v w x y))
@@ -81,6 +82,13 @@ module _ (t : List ℕ) (k s : ℕ) (e : s ≡ formOf (getD t k 0)) where
 
   pub no-code : (rule : ℕ) → (s ≡ 3 → ⊥) → (s ≡ 4 → ⊥) → false ≡ badCodes rule (partAt t k)
   no-code rule f h = rw (not-code f h)
+
+  -- no name, no code
+  pub unused : (s ≡ 0 → ⊥) → (hs : List Text) → lacking hs (partAt t k) ≡ false
+  unused f hs = rw (not-used f)
+
+  pub uncoded : (hs : List Text) (r : Bool) → (s ≡ 3 → ⊥) → (s ≡ 4 → ⊥) → (s ≡ 5 → ⊥) → r ≡ lacking hs (partAt t k) → r ≡ faulty hs (partAt t k)
+  uncoded hs r a b c e = e ∙ sym (rw (← no-code 7 a b, ← no-code 8 a b, ← not-range b, ← not-class c) (or-false (lacking hs (partAt t k))))
 
   pub two-codes : (rule : ℕ) → s ≡ 4
       → any (badCode rule) (endCodes (getD t (k + 1) 0) (getD t (k + 2) 0)) || any (badCode rule) (endCodes (getD t (k + 3) 0) (getD t (k + 4) 0)) ≡ badCodes rule (partAt t k)

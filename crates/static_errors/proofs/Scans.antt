@@ -77,6 +77,36 @@ module _ (t : List ℕ) (end k : ℕ) (rule : ℕ) (hs : List Text) (w : Reached
           (s .later, s .step .next, s .related ∙ rw g));
     })
 
+-- where no token breaks any rule, none breaks each
+pub record Clear (hs : List Text) (ts : List Token) : Type 0 where
+  pub names : any (fails 5 hs) ts ≡ false
+  pub large : any (fails 7 hs) ts ≡ false
+  pub banned : any (fails 8 hs) ts ≡ false
+  pub back : any (fails 9 hs) ts ≡ false
+  pub classes : any (fails 10 hs) ts ≡ false
+
+neither : (a b : Bool) → (a || b) ≡ false → (a ≡ false) × (b ≡ false)
+neither true b h = absurd (let z : _≡_ {A = ℕ} 0 1 = cc in omega arith)
+neither false b h = (refl, h)
+
+pub clear : (hs : List Text) (ts : List Token) → any (fails 0 hs) ts ≡ false → Clear hs ts
+unfolding failing
+clear hs [] h = record { names = refl; large = refl; banned = refl; back = refl; classes = refl }
+clear hs (x ∷ xs) h =
+    let a = neither (fails 0 hs x) (any (fails 0 hs) xs) h in
+    let b = neither (fails 5 hs x) (fails 7 hs x || (fails 8 hs x || (fails 9 hs x || fails 10 hs x))) (a .0) in
+    let c = neither (fails 7 hs x) (fails 8 hs x || (fails 9 hs x || fails 10 hs x)) (b .1) in
+    let d = neither (fails 8 hs x) (fails 9 hs x || fails 10 hs x) (c .1) in
+    let e = neither (fails 9 hs x) (fails 10 hs x) (d .1) in
+    let C = clear hs xs (a .1) in
+    record {
+      names = rw (b .0) (C .names);
+      large = rw (c .0) (C .large);
+      banned = rw (d .0) (C .banned);
+      back = rw (e .0) (C .back);
+      classes = rw (e .1) (C .classes);
+    }
+
 -- the list of heads
 abbrev Heads : List ℕ → List ℕ → ℕ → List Token → List Token → Type 0
 Heads t index n ts us = namesAt t (take n index) ++ headsOf us ≡ headsOf ts

@@ -98,5 +98,14 @@ backward p = elim p [ used n ↦ false | headed n ↦ false | code v ↦ false |
 abbrev pub classless : Part → Bool
 classless p = elim p [ used n ↦ false | headed n ↦ false | code v ↦ false | between f v g w ↦ false | classed k ↦ not (isClass k) | other ↦ false ]
 
+-- any of them, which has the number 0
+abbrev pub faulty : List Text → Part → Bool
+faulty hs p = lacking hs p || (badCodes 7 p || (badCodes 8 p || (backward p || classless p)))
+
 unfoldable pub failing : ℕ → List Text → Part → Bool
-failing rule hs p = pick (eqb rule 5) (lacking hs p) (pick (eqb rule 9) (backward p) (pick (eqb rule 10) (classless p) (badCodes rule p)))
+failing rule hs p =
+    pick (eqb rule 5) (lacking hs p)
+    (pick (eqb rule 9) (backward p)
+    (pick (eqb rule 10) (classless p)
+    (pick (eqb rule 0) (faulty hs p)
+    (badCodes rule p))))

@@ -10,7 +10,7 @@ ghost use Rattle.tree.specs.Tree.{Grammar};
 ghost use Rattle.tree.specs.Tokens.{Token};
 ghost use Rattle.tokens.specs.Lengths.{lengthAt};
 ghost use Rattle.tokens.specs.Names.{nameAt, Named};
-ghost use Rattle.static_errors.specs.Parts.{partAt, lacking, badCode, endCodes, badCodes, backward, classless, failing};
+ghost use Rattle.static_errors.specs.Parts.{partAt, lacking, badCode, endCodes, badCodes, backward, classless, faulty, failing};
 ghost use Rattle.static_errors.specs.Scan.{Tokens, Listing, Looking, Finding, Noting, Noted, Indexing, Indexed, Scanning, namesAt, fails, nameRefusal, codeRefusal, refusalOf};
 ghost use Rattle.static_errors.specs.Held.{Holds, Held, staticOf, ruleNumber};
 ghost use Rattle.plain.specs.Static.{mismatched};
@@ -126,6 +126,32 @@ fn lacks(table: &[u32], k: usize, index: &[u32], n: usize) -> bool
     !found(table, k, index, 0, n)
 }
 
+// Any of these.
+const ANY: u32 = 0;
+
+fn breaks_any(table: &[u32], k: usize, index: &[u32], n: usize) -> bool
+    requires { ⌜ Looking (now table) k (now index) n ⌝ }
+    ensures { λ r. ⌜ r ≡ faulty (namesAt (now (table .entry)) (take n (now (index .entry)))) (partAt (now (table .entry)) k) ⌝ }
+{
+    let f = tokens::form(table[k]);
+    if f == tokens::FORM_BARE {
+        return false;
+    }
+    if f < tokens::FORM_CODE {
+        return lacks(table, k, index, n);
+    }
+    if bad_codes(table, k, refusals::HEX_TOO_LARGE) {
+        return true;
+    }
+    if bad_codes(table, k, refusals::HEX_NO_CHARACTER) {
+        return true;
+    }
+    if runs_back(table, k) {
+        return true;
+    }
+    no_class(table, k)
+}
+
 pub fn breaks(table: &[u32], k: usize, index: &[u32], n: usize, rule: u32) -> bool
     requires { ⌜ Looking (now table) k (now index) n ⌝ }
     ensures { λ r. ⌜ r ≡ failing rule (namesAt (now (table .entry)) (take n (now (index .entry)))) (partAt (now (table .entry)) k) ⌝ }
@@ -138,6 +164,9 @@ pub fn breaks(table: &[u32], k: usize, index: &[u32], n: usize, rule: u32) -> bo
     }
     if rule == refusals::UNKNOWN_CLASS {
         return no_class(table, k);
+    }
+    if rule == ANY {
+        return breaks_any(table, k, index, n);
     }
     bad_codes(table, k, rule)
 }
@@ -226,7 +255,8 @@ fn code_refusal(table: &[u32], end: usize, index: &[u32], n: usize) -> Ruling
     Ruling::Kept
 }
 
-fn refusal(table: &[u32], end: usize, index: &[u32], n: usize) -> Ruling
+// The first rule that is broken, each looked for by itself.
+fn first_refusal(table: &[u32], end: usize, index: &[u32], n: usize) -> Ruling
     requires { ⌜ Scanning (now table) end (now index) n ⌝ }
     ensures { λ r. ⌜ ((ts : List Token) → Tokens (now (table .entry)) end 0 ts → ruleNumber r ≡ refusalOf (namesAt (now (table .entry)) (take n (now (index .entry)))) ts) ⌝ }
 {
@@ -235,6 +265,20 @@ fn refusal(table: &[u32], end: usize, index: &[u32], n: usize) -> Ruling
         return first;
     };
     code_refusal(table, end, index, n)
+}
+
+// The same. Most often no token breaks any rule, which one scan tells.
+fn refusal(table: &[u32], end: usize, index: &[u32], n: usize) -> Ruling
+    requires { ⌜ Scanning (now table) end (now index) n ⌝ }
+    ensures { λ r. ⌜ ((ts : List Token) → Tokens (now (table .entry)) end 0 ts → ruleNumber r ≡ refusalOf (namesAt (now (table .entry)) (take n (now (index .entry)))) ts) ⌝ }
+{
+    if broken(table, end, index, n, ANY) {
+        return first_refusal(table, end, index, n);
+    }
+    if repeated(table, index, n) {
+        return Ruling::RepeatedRule;
+    }
+    Ruling::Kept
 }
 
 // The first of 5 to 10 that applies to the syntax tree in the table.

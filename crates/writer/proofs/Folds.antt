@@ -2,7 +2,7 @@
 use mathlib.Core.Path.{_≡_, refl, sym, ap, _∙_}
 use mathlib.Core.Bool.{Bool, true, false}
 use mathlib.Core.List.{List, [], _∷_, _++_, append-nil, append-assoc}
-use Prim.Native.Nat.{ℕ, _≤_, _<_}
+use Prim.Native.Nat.{ℕ, _+_, _≤_, _<_}
 use native.Mathlib.Omega.{arith}
 use lib.ListN.{length}
 use Rattle.text.specs.Lists.{Text, chars, pick, concatMap}
@@ -16,7 +16,8 @@ use Rattle.markup.proofs.Puts.{puts-none, enc-none, paid}
 use Rattle.cursor.specs.Rest.{Rest, row, within, before}
 use Rattle.cursor.specs.Ahead.{Ahead, AtRow, SomeRow}
 use Rattle.cursor.specs.declared.Cursor.{Cursor}
-use Rattle.writer.specs.Markup.{startOf, turned, Attributed, Came}
+use Rattle.extent.proofs.Folds.{attributesAhead, attributes-before}
+use Rattle.writer.specs.Markup.{startOf, turned, May, Attributed, Came}
 use Rattle.writer.specs.declared.Output.{Output}
 use Rattle.writer.proofs.Laws.{owed, owed-text, owed-attribute, owed-element, owed-closes, owed-over, plain, IsText, is-text}
 use Rattle.writer.proofs.Laws.{plain-text, plain-join, text-join, spells-append, attributes-past, Shape, exposed}
@@ -123,14 +124,19 @@ quoting-end {rec = rec} {S = S} {out′ = out′} {o = o} {q = q} {p = p} D e h 
       });
     }
 
+-- all that is ahead has attributes only where start tags may have some
+record MayAhead (o : Output) (k : Rest) : Type 0 where
+  bare : o .attributed ≡ false → attributesAhead k ≡ 0
+
 -- contents, whatever the two ends are
 pub record Owing (rec : Text) (o₀ o : Output) (out₀ out : List ℕ) (r : Text) (k₀ k : Rest) : Type 0 where
-  pub owes : r ≡ rec → (e f : Text)
+  may : MayAhead o₀ k₀ → MayAhead o k
+  owes : r ≡ rec → MayAhead o₀ k₀ → (e f : Text)
       → puts (o₀ .limit .0) (state (o .pos .0) out) (enc (owed e f (stateOf (o .due)) (o .unclosed) k))
       ≡ puts (o₀ .limit .0) (state (o₀ .pos .0) out₀) (enc (owed e f (stateOf (o₀ .due)) (o₀ .unclosed) k₀))
 
 pub owing-begin : {rec : Text} {o : Output} {out : List ℕ} {r : Text} {k : Rest} → Owing rec o o out out r k k
-owing-begin = record { owes = λ z e f. refl }
+owing-begin = record { may = λ m. m; owes = λ z m e f. refl }
 
 pub same-limit : {l m : BytePlace} {p p′ : ℕ} {out out′ : List ℕ} {t : Text} → l ≡ m → Wrote (l .0) p out p′ out′ t → Wrote (m .0) p out p′ out′ t
 same-limit e w = rw e at w
@@ -141,34 +147,43 @@ room-left {l} {m} e h k = let z : l .0 ≡ m .0 = ap (λ (x : BytePlace). x .0) 
 
 module _ {rec : Text} {o₀ o : Output} {out₀ out : List ℕ} {r : Text} {k₀ : Rest} (l : o .limit ≡ o₀ .limit) where
   owing-on : {k k′ : Rest} {o′ : Output} {out′ : List ℕ} {u : Bool} {d : StateWords} (t : Text) → o′ ≡ turned o (o′ .pos) u d
+      → attributesAhead k′ ≤ attributesAhead k
       → ((e f : Text) → owed e f (stateOf (o .due)) (o .unclosed) k ≡ t ++ owed e f (stateOf d) u k′)
-      → (r ≡ rec → Wrote (o .limit .0) (o .pos .0) out (o′ .pos .0) out′ t)
+      → (r ≡ rec → MayAhead o k → Wrote (o .limit .0) (o .pos .0) out (o′ .pos .0) out′ t)
       → Owing rec o₀ o out₀ out r k₀ k → Owing rec o₀ o′ out₀ out′ r k₀ k′
-  owing-on {k} {k′} {o′} {out′} {u} {d} t is q w O =
+  owing-on {k} {k′} {o′} {out′} {u} {d} t is a q w O =
       let du : o′ .due ≡ d = ap (λ (x : Output). x .due) is in
       let un : o′ .unclosed ≡ u = ap (λ (x : Output). x .unclosed) is in
-      record { owes = λ z e f. rw (du, un) (paid t (owed e f (stateOf d) u k′) (owed e f (stateOf (o .due)) (o .unclosed) k) (O .owes z e f) (q e f) (same-limit l (w z))) }
+      record {
+        may = λ m. record { bare = λ h. omega (arith, O .may m .bare (sym (ap (λ (x : Output). x .attributed) is) ∙ h)) };
+        owes = λ z m e f. rw (du, un) (paid t (owed e f (stateOf d) u k′) (owed e f (stateOf (o .due)) (o .unclosed) k) (O .owes z m e f) (q e f)
+            (same-limit l (w z (O .may m))));
+      }
 
   pub owing-text : (t : Text) (k : Rest) → 0 < length t → {o′ : Output} {out′ : List ℕ} → o′ ≡ turned o (o′ .pos) false (o .due)
       → (r ≡ rec → Wrote (o .limit .0) (o .pos .0) out (o′ .pos .0) out′ (leadOf (o .unclosed) ++ concatMap (escape false) t))
       → Owing rec o₀ o out₀ out r k₀ (before (text t) k) → Owing rec o₀ o′ out₀ out′ r k₀ k
-  owing-text t k h is w = owing-on (leadOf (o .unclosed) ++ concatMap (escape false) t) is (λ e f. owed-text e f (stateOf (o .due)) (o .unclosed) t k h) w
+  owing-text t k h is w = owing-on (leadOf (o .unclosed) ++ concatMap (escape false) t) is (omega (arith, attributes-before (text t) k))
+      (λ e f. owed-text e f (stateOf (o .due)) (o .unclosed) t k h) (λ z m. w z)
 
   pub owing-element : (n : Text) (i : Xml) (k : Rest) {o′ : Output} {out′ : List ℕ} → o′ ≡ turned o (o′ .pos) true noWords
-      → (r ≡ rec → Wrote (o .limit .0) (o .pos .0) out (o′ .pos .0) out′ (leadOf (o .unclosed) ++ startOf n (stateOf (o .due)) i))
+      → (r ≡ rec → May o i → Wrote (o .limit .0) (o .pos .0) out (o′ .pos .0) out′ (leadOf (o .unclosed) ++ startOf n (stateOf (o .due)) i))
       → Owing rec o₀ o out₀ out r k₀ (before (elem n i none) k) → Owing rec o₀ o′ out₀ out′ r k₀ (within n i k)
-  owing-element n i k is w = owing-on (leadOf (o .unclosed) ++ startOf n (stateOf (o .due)) i) is (λ e f. owed-element e f (stateOf (o .due)) (o .unclosed) n i k) w
+  owing-element n i k is w = owing-on (leadOf (o .unclosed) ++ startOf n (stateOf (o .due)) i) is (omega (arith, attributes-before (elem n i none) k))
+      (λ e f. owed-element e f (stateOf (o .due)) (o .unclosed) n i k)
+      (λ z m. w z (record { bare = λ h. omega (arith, m .bare h, attributes-before (elem n i none) k) }))
 
   pub owing-attribute : (n v : Text) (k : Rest) → Owing rec o₀ o out₀ out r k₀ (before (attr n v none) k) → Owing rec o₀ o out₀ out r k₀ k
   owing-attribute n v k O = record {
-    owes = λ z e f. ap (λ (u : Text). puts (o₀ .limit .0) (state (o .pos .0) out) (enc u)) (sym (owed-attribute e f (stateOf (o .due)) (o .unclosed) n v k))
-        ∙ O .owes z e f;
+    may = λ m. record { bare = λ h. omega (arith, O .may m .bare h, attributes-before (attr n v none) k) };
+    owes = λ z m e f. ap (λ (u : Text). puts (o₀ .limit .0) (state (o .pos .0) out) (enc u)) (sym (owed-attribute e f (stateOf (o .due)) (o .unclosed) n v k))
+        ∙ O .owes z m e f;
   }
 
   pub owing-close : (n : Text) (k : Rest) {o′ : Output} {out′ : List ℕ} → o′ ≡ turned o (o′ .pos) false noWords
       → Wrote (o .limit .0) (o .pos .0) out (o′ .pos .0) out′ (endOf (o .unclosed) (chars "/>") (closing n))
       → Owing rec o₀ o out₀ out r k₀ (within n none k) → Owing rec o₀ o′ out₀ out′ r k₀ k
-  owing-close n k is w = owing-on (endOf (o .unclosed) (chars "/>") (closing n)) is (λ e f. owed-closes e f (stateOf (o .due)) (o .unclosed) n k) (λ z. w)
+  owing-close n k is w = owing-on (endOf (o .unclosed) (chars "/>") (closing n)) is (omega arith) (λ e f. owed-closes e f (stateOf (o .due)) (o .unclosed) n k) (λ z m. w)
 
 pub owing-end : {T P : List ℕ} {rec : Text} {S S′ : List ℕ} {out out′ : List ℕ} {o q : Output} {c : Cursor}
     → SomeRow T P rec S c → q .limit ≡ o .limit → ((r : Text) (S₀ : List ℕ) (k₀ : Rest) → Ahead T P r S₀ S c k₀ → (S′ ≡ S₀)
@@ -178,6 +193,6 @@ owing-end {rec = rec} {S = S} {out′ = out′} {o = o} {q = q} D l h =
     record {
       kept = h rec S (row (D .x)) (D .stands) .0;
       limit = l;
-      wrote = λ x A e f. ap (λ (u : Text). puts (o .limit .0) (state (q .pos .0) out′) (enc u)) (sym (owed-over e f (stateOf (q .due)) (q .unclosed)))
-          ∙ h rec S (row x) A .1 .owes refl e f;
+      wrote = λ x A m e f. ap (λ (u : Text). puts (o .limit .0) (state (q .pos .0) out′) (enc u)) (sym (owed-over e f (stateOf (q .due)) (q .unclosed)))
+          ∙ h rec S (row x) A .1 .owes refl (record { bare = m .bare }) e f;
     }

@@ -26,14 +26,22 @@ use Rattle.markup.proofs.Puts.{puts-none, enc-none, and-then, wrote-text, dry, 
 use Rattle.cursor.specs.Ahead.{AtRow, SomeRow, rootAt}
 use Rattle.cursor.specs.declared.Cursor.{Cursor}
 use Rattle.cursor.proofs.Nodes.{ahead-begin}
-use Rattle.writer.specs.Markup.{late, startOf, stated, turned, freshAt, Attributed, Came}
+use Rattle.extent.specs.Extent.{mostOf, attributesOf, Covers, Fits}
+use Rattle.extent.proofs.Sizes.{start-size, state-size, row-size, no-attributes}
+use Rattle.writer.specs.Markup.{late, startOf, stated, turned, freshAt, May, Attributed, Came}
 use Rattle.writer.specs.Whole.{Job, Some, Writable, Documented, Answered}
 use Rattle.writer.specs.declared.Written.{Written}
-use Rattle.writer.specs.declared.Written.the-variants.{Xml as Fits, TooLong}
+use Rattle.writer.specs.declared.Written.the-variants.{Xml as Fits′, TooLong}
+use Rattle.text.specs.declared.BytePlace.{BytePlace}
 use Rattle.writer.specs.declared.Output.{Output}
+use Rattle.writer.specs.declared.Plan.{Plan}
 use Rattle.writer.proofs.Laws.{late-closed, stated-none}
 use Rattle.writer.proofs.Folds.{same-limit}
 use Rattle.writer.proofs.Chars.{ok, enc-ok, element-ok}
+
+-- what stands in an element has attributes only where it may
+may-inside : {o t : Output} {p : BytePlace} {u : Bool} {d : StateWords} {n : Text} {x : Xml} → t ≡ turned o p u d → May o (elem n x none) → May t x
+may-inside is M = record { bare = λ h. omega (arith, M .bare (sym (ap (λ (q : Output). q .attributed) is) ∙ h)) }
 
 -- the root's row
 pub record Rooted (T P : List ℕ) (r : Text) (S : List ℕ) (item : ℕ) (g : Grammar) (t : Row) : Type 0 where
@@ -84,13 +92,13 @@ module _ {T P : List ℕ} {r : Text} {S : List ℕ} {item : ℕ} {g : Grammar} {
   root-row = record { x = R .inner; stands = R .stands }
 
   -- a deleted root: its contents are the document
-  pub wrote-deleted : {S′ out out′ : List ℕ} {o s : Output} → o .unclosed ≡ false → Came T P r S S′ out out′ o (rootAt item) s
+  pub wrote-deleted : {S′ out out′ : List ℕ} {o s : Output} → o .unclosed ≡ false → May o (R .inner) → Came T P r S S′ out out′ o (rootAt item) s
       → Wrote (o .limit .0) (o .pos .0) out (s .pos .0) out′ (stated (stateOf (o .due)) (R .inner))
-  wrote-deleted {S′} {out} {out′} {o} {s} u C =
+  wrote-deleted {S′} {out} {out′} {o} {s} u M C =
       let l = o .limit .0 in
       let x = stated (stateOf (o .due)) (R .inner) in
       let e : late (o .unclosed) x [] [] ≡ x = rw u (append-nil x) in
-      record { is = sym (nothing (s .unclosed)) ∙ C .wrote (R .inner) (R .stands) [] [] ∙ ap (λ (t : Text). puts l (state (o .pos .0) out) (enc t)) e }
+      record { is = sym (nothing (s .unclosed)) ∙ C .wrote (R .inner) (R .stands) M [] [] ∙ ap (λ (t : Text). puts l (state (o .pos .0) out) (enc t)) e }
     where
       nothing : (b : Bool) → puts (o .limit .0) (state (s .pos .0) out′) (enc (endOf b [] [])) ≡ state (s .pos .0) out′
       nothing true = rw enc-none (puts-none (o .limit .0) (state (s .pos .0) out′))
@@ -98,10 +106,11 @@ module _ {T P : List ℕ} {r : Text} {S : List ℕ} {item : ℕ} {g : Grammar} {
 
   -- an element: a start tag, its contents and its end
   pub wrote-element : {S′ S″ out out₁ out₂ out₃ : List ℕ} (o : Output) {t s : Output} {q : ℕ} (n : Text) → S′ ≡ S → t ≡ turned o (t .pos) true noWords
+      → May o (elem n (R .inner) none)
       → Wrote (o .limit .0) (o .pos .0) out (t .pos .0) out₁ (startOf n (stateOf (o .due)) (R .inner))
       → Came T P r S′ S″ out₁ out₂ t (rootAt item) s → Wrote (s .limit .0) (s .pos .0) out₂ q out₃ (endOf (s .unclosed) (chars "/>") (closing n))
       → Wrote (o .limit .0) (o .pos .0) out q out₃ (stated (stateOf (o .due)) (elem n (R .inner) none))
-  wrote-element {out₁ = out₁} {out₃ = out₃} o {t = t} {s = s} {q = q} n k is a C E =
+  wrote-element {out₁ = out₁} {out₃ = out₃} o {t = t} {s = s} {q = q} n k is M a C E =
       let x = R .inner in
       let L = late true (content x) (chars "/>") (closing n) in
       let l : t .limit ≡ o .limit = ap (λ (p : Output). p .limit) is in
@@ -109,7 +118,7 @@ module _ {T P : List ℕ} {r : Text} {S : List ℕ} {item : ℕ} {g : Grammar} {
       (ap (λ (p : Output). p .unclosed) is, ap (λ (p : Output). p .due) is, stated-none x) in
       let w = same-limit (C .limit) E in
       let b : Wrote (t .limit .0) (t .pos .0) out₁ q out₃ L = record {
-        is = w .is ∙ C .wrote x (rw k (R .stands)) (chars "/>") (closing n)
+        is = w .is ∙ C .wrote x (rw k (R .stands)) (may-inside is M) (chars "/>") (closing n)
             ∙ ap (λ (u : Text). puts (t .limit .0) (state (t .pos .0) out₁) (enc u)) e;
       } in
       wrote-text (ap (λ (u : Text). startOf n (stateOf (o .due)) x ++ u) (append-nil L)) (and-then a (same-limit l b))
@@ -141,11 +150,32 @@ document-bytes {g} {r} {t} due W =
     rw (o .2) (element-bytes due (o .0) (o .1) (rw (o .2) at (W .names)) (rw (o .2) at (W .chars)))
 
 -- the bytes that a run from the beginning comes to
-pub documented : {T : List ℕ} {R : ℕ} {P : List ℕ} {r : Text} {S S′ out out′ : List ℕ} {o : Output} {limit : ℕ} {due : StateWords} {q : ℕ} {g : Grammar} {t : Row}
-    → o ≡ freshAt limit due → Documented T R P r S S′ out out′ o q → Job T R P r S g t → Writable g r t
-    → state q out′ ≡ puts limit (state 0 out) (bytes (due .ambiguous) (due .mismatch) (document g r t))
-documented {out = out} {limit = limit} {due = due} {g = g} {t = t} e D J W =
-    let D₀ = rw e at D in D₀ .wrote g t J .is ∙ ap (puts limit (state 0 out)) (document-bytes due W)
+pub documented : {T : List ℕ} {R : ℕ} {P : List ℕ} {r : Text} {S S′ out out′ : List ℕ} {o : Output} {limit : ℕ} {plan : Plan} {q : ℕ} {g : Grammar} {t : Row}
+    → o ≡ freshAt limit plan → Documented T R P r S S′ out out′ o q → Job T R P r S g t → Writable g r t → Covers (plan .extent) (document g r t)
+    → state q out′ ≡ puts limit (state 0 out) (bytes (plan .due .ambiguous) (plan .due .mismatch) (document g r t))
+documented {out = out} {limit = limit} {plan = plan} {g = g} {t = t} e D J W C =
+    let D₀ = rw e at D in D₀ .wrote g t J (record { bare = C .bare }) .is ∙ ap (puts limit (state 0 out)) (document-bytes (plan .due) W)
+
+-- the bytes are at most what is known
+element-fits : (due : StateWords) (n : Text) (i : Xml) → misnamed (elem n i none) ≡ false → unwritable (elem n i none) ≡ false
+    → length (bytes (due .ambiguous) (due .mismatch) (elem n i none)) ≤ mostOf (elem n i none) + 80
+unfolding bytes
+element-fits due n i p q = omega (
+  arith,
+  ap length (enc-ok (chars "<" ++ n ++ stateOf due ++ attributes i ++ closed n (content i)) (element-ok (due .ambiguous) (due .mismatch) n i none p q)),
+  start-size n (stateOf due) (attributes i) (content i),
+  state-size (due .ambiguous) (due .mismatch),
+  row-size i,
+)
+
+pub document-fits : {g : Grammar} {r : Text} {t : Row} {room : ℕ} (plan : Plan) → Writable g r t → Covers (plan .extent) (document g r t)
+    → Fits (plan .extent) room → length (bytes (plan .due .ambiguous) (plan .due .mismatch) (document g r t)) ≤ room
+document-fits {g} {r} {t} plan W C F =
+    let o = one (document g r t) (W .one) in
+    let m = C .most (F .known) in
+    let h : length (bytes (plan .due .ambiguous) (plan .due .mismatch) (document g r t)) ≤ mostOf (document g r t) + 80 = rw (o .2)
+    (element-fits (plan .due) (o .0) (o .1) (rw (o .2) at (W .names)) (rw (o .2) at (W .chars))) in
+    omega (arith, F .enough)
 
 -- measured too long
 pub too-long : (m : ℕ) (o′ o bs : List ℕ) → state m o′ ≡ puts 0 (state 0 o) bs → length o < m → Answered bs o o′ TooLong
@@ -154,19 +184,23 @@ too-long m o′ o bs e h =
     let p : m ≡ min (0 + length bs) (length o + 1) = ap (λ (s : State). s .pos) d in
     record { fits = λ f. absurd (omega arith); long = λ f. (refl, ap (λ (s : State). s .out) d) }
 
+-- known to fit, and written
+pub all-written : (n : ℕ) (o″ o bs : List ℕ) → length bs ≤ length o → state n o″ ≡ puts (length o) (state 0 o) bs → Answered bs o o″ (Fits′ n)
+all-written n o″ o bs h w =
+    let f = w ∙ room 0 (length o) o bs (omega arith) (omega arith) in
+    let z : 0 + length bs ≡ length bs = omega arith in
+    let fn : n ≡ length bs = ap (λ (s : State). s .pos) f ∙ z in
+    let fo : o″ ≡ bs ++ drop (0 + length bs) o = ap (λ (s : State). s .out) f in
+    record { fits = λ k. (refl, fn, fo ∙ rw z); long = λ k. absurd (omega arith) }
+
 -- measured and written
 pub written : (m n : ℕ) (o′ o″ o bs : List ℕ) → state m o′ ≡ puts 0 (state 0 o) bs → m ≤ length o
-    → state n o″ ≡ puts (length o) (state 0 o′) bs → Answered bs o o″ (Fits n)
+    → state n o″ ≡ puts (length o) (state 0 o′) bs → Answered bs o o″ (Fits′ n)
 written m n o′ o″ o bs e h w =
     let d = e ∙ dry 0 o bs (omega arith) in
     let p : m ≡ min (0 + length bs) (length o + 1) = ap (λ (s : State). s .pos) d in
     let q : o′ ≡ o = ap (λ (s : State). s .out) d in
-    let l : length o′ ≡ length o = ap length q in
-    let f = w ∙ room 0 (length o) o′ bs (omega arith) (omega arith) in
-    let z : 0 + length bs ≡ length bs = omega arith in
-    let fn : n ≡ length bs = ap (λ (s : State). s .pos) f ∙ z in
-    let fo : o″ ≡ bs ++ drop (0 + length bs) o′ = ap (λ (s : State). s .out) f in
-    record { fits = λ k. (refl, fn, fo ∙ rw (z, q)); long = λ k. absurd (omega arith) }
+    all-written n o″ o bs (omega arith) (w ∙ ap (λ (b : List ℕ). puts (length o) (state 0 b) bs) q)
 
 -- the notes are as they were
 pub room-again : {T P S S′ : List ℕ} → S′ ≡ S → Room T P S → Room T P S′
@@ -200,6 +234,16 @@ module _ {T P : List ℕ} {r : Text} {S S′ out₁ out₂ : List ℕ} (o : Outp
     where
       parts : (l a n st i : Text) → l ++ (a ++ n ++ st ++ i) ≡ (l ++ (a ++ (n ++ st))) ++ i
       parts l a n st i = simp append-assoc
+
+-- a start tag that has none
+pub started-bare : {out out₁ : List ℕ} {p : ℕ} (o : Output) (n : Text) (x : Xml) → attributesOf x ≡ 0
+    → Wrote (o .limit .0) (o .pos .0) out p out₁ (leadOf (o .unclosed) ++ (chars "<" ++ (n ++ stateOf (o .due))))
+    → Wrote (o .limit .0) (o .pos .0) out p out₁ (leadOf (o .unclosed) ++ startOf n (stateOf (o .due)) x)
+started-bare o n x e w = wrote-text (ap (λ (a : Text). leadOf (o .unclosed) ++ (chars "<" ++ n ++ stateOf (o .due) ++ a)) (no-attributes x e)
+    ∙ parts (leadOf (o .unclosed)) (chars "<") n (stateOf (o .due))) w
+  where
+    parts : (l a n st : Text) → l ++ (a ++ n ++ st ++ []) ≡ l ++ (a ++ (n ++ st))
+    parts l a n st = simp (append-nil, append-assoc)
 
 -- where no start tag was open
 pub unled : {u : Bool} {l p p′ : ℕ} {out out′ : List ℕ} {t : Text} → u ≡ false → Wrote l p out p′ out′ (leadOf u ++ t) → Wrote l p out p′ out′ t

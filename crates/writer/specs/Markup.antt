@@ -13,7 +13,9 @@ use Rattle.cursor.specs.Ahead.{AtNode, AtRow}
 use Rattle.cursor.specs.declared.Cursor.{Cursor}
 use Rattle.markup.specs.declared.StateWords.{StateWords}
 use Rattle.text.specs.declared.BytePlace.{BytePlace}
+use Rattle.extent.specs.Extent.{attributesOf}
 use Rattle.writer.specs.declared.Output.{Output}
+use Rattle.writer.specs.declared.Plan.{Plan}
 
 -- what shuts a start tag late: where nothing came, the one end; else `>`, what came, and the other end
 abbrev pub late : Bool → Text → Text → Text → Text
@@ -34,11 +36,15 @@ stated st (elem n i x) = startOf n st i ++ (late true (content i) (chars "/>") (
 
 -- the output at another place, with a start tag open or not, and another state due
 abbrev pub turned : Output → BytePlace → Bool → StateWords → Output
-turned o p unclosed due = record { limit = o .limit; pos = p; unclosed = unclosed; due = due }
+turned o p unclosed due = record { limit = o .limit; pos = p; unclosed = unclosed; attributed = o .attributed; due = due }
 
 -- at the beginning, with room up to a place
-abbrev pub freshAt : ℕ → StateWords → Output
-freshAt limit due = record { limit = record { 0 = limit }; pos = record { 0 = 0 }; unclosed = false; due = due }
+abbrev pub freshAt : ℕ → Plan → Output
+freshAt limit plan = record { limit = record { 0 = limit }; pos = record { 0 = 0 }; unclosed = false; attributed = plan .extent .attributed; due = plan .due }
+
+-- a row has attributes only where start tags may have some
+pub record May (o : Output) (x : Xml) : Type 0 where
+  pub bare : o .attributed ≡ false → attributesOf x ≡ 0
 
 pub record Attributed (T P : List ℕ) (r : Text) (S S′ out out′ : List ℕ) (o : Output) (c : Cursor) (q : Output) : Type 0 where
   pub kept : S′ ≡ S
@@ -48,13 +54,13 @@ pub record Attributed (T P : List ℕ) (r : Text) (S S′ out out′ : List ℕ)
 pub record Opened (T P : List ℕ) (r : Text) (S S′ out out′ : List ℕ) (o : Output) (c : Cursor) (q : Output) : Type 0 where
   pub kept : S′ ≡ S
   pub is : q ≡ turned o (q .pos) true noWords
-  pub wrote : (S₀ : List ℕ) (n : Text) (x : Xml) (k : Rest) → AtNode T P r S₀ S c n x k
+  pub wrote : (S₀ : List ℕ) (n : Text) (x : Xml) (k : Rest) → AtNode T P r S₀ S c n x k → May o x
       → Wrote (o .limit .0) (o .pos .0) out (q .pos .0) out′ (leadOf (o .unclosed) ++ startOf n (stateOf (o .due)) x)
 
 -- the row was written, but for the end that the place of the walk asks for
 pub record Came (T P : List ℕ) (r : Text) (S S′ out out′ : List ℕ) (o : Output) (c : Cursor) (q : Output) : Type 0 where
   pub kept : S′ ≡ S
   pub limit : q .limit ≡ o .limit
-  pub wrote : (x : Xml) → AtRow T P r S c x → (e f : Text)
+  pub wrote : (x : Xml) → AtRow T P r S c x → May o x → (e f : Text)
       → puts (o .limit .0) (state (q .pos .0) out′) (enc (endOf (q .unclosed) e f)) ≡ puts (o .limit .0) (state (o .pos .0) out)
       (enc (late (o .unclosed) (stated (stateOf (o .due)) x) e f))

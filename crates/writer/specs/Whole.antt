@@ -14,8 +14,10 @@ use Rattle.xml.specs.Bytes.{bytes}
 use Rattle.left_parse.specs.Noted.{Noted, Parsed}
 use Rattle.markup.specs.Out.{Wrote}
 use Rattle.markup.specs.Tags.{stateOf}
-use Rattle.writer.specs.Markup.{stated}
+use Rattle.extent.specs.Extent.{Covers}
+use Rattle.writer.specs.Markup.{stated, May}
 use Rattle.writer.specs.declared.Output.{Output}
+use Rattle.writer.specs.declared.Plan.{Plan}
 use Rattle.writer.specs.declared.Written.{Written}
 use Rattle.writer.specs.declared.Written.the-variants.{Xml, TooLong}
 
@@ -52,4 +54,10 @@ pub record Answered (bs old new : List ℕ) (a : Written) : Type 0 where
 
 pub record Documented (T : List ℕ) (root : ℕ) (P : List ℕ) (r : Text) (S S' out out' : List ℕ) (o : Output) (q : ℕ) : Type 0 where
   pub kept : S' ≡ S
-  pub wrote : (g : Grammar) (t : Row) → Job T root P r S g t → Wrote (o .limit .0) (o .pos .0) out q out' (stated (stateOf (o .due)) (document g r t))
+  pub wrote : (g : Grammar) (t : Row) → Job T root P r S g t → May o (document g r t)
+      → Wrote (o .limit .0) (o .pos .0) out q out' (stated (stateOf (o .due)) (document g r t))
+
+-- the answer to a document, if what was known of it is so
+pub record Wrotes (T : List ℕ) (root : ℕ) (P : List ℕ) (r : Text) (S old new : List ℕ) (p : Plan) (a : Written) : Type 0 where
+  pub answered : (g : Grammar) (t : Row) → Job T root P r S g t → Writable g r t → Covers (p .extent) (document g r t)
+      → Answered (bytes (p .due .ambiguous) (p .due .mismatch) (document g r t)) old new a

@@ -5,33 +5,39 @@ ghost use mathlib.Core.List.{List, _++_};
 ghost use Prim.Native.Nat.{ℕ, _<_, _≤_};
 ghost use lib.ListN.{length};
 ghost use Rattle.text.specs.Lists.{Text, chars, pick, concatMap};
-ghost use Rattle.xml.specs.Bytes.{escape, bytes};
+ghost use Rattle.xml.specs.Bytes.{escape};
 ghost use Rattle.left_parse.specs.Steps.{Named};
 ghost use Rattle.markup.specs.Out.{Wrote};
 ghost use Rattle.markup.specs.Pieces.{Says};
 ghost use Rattle.markup.specs.Tags.{closing, leadOf, endOf, stateOf, noWords};
 ghost use Rattle.items.specs.Items.{kindAt};
 ghost use Rattle.cursor.specs.Ahead.{SomeRow, SomeNode};
-ghost use Rattle.tree.specs.Tree.{Grammar};
-ghost use Rattle.derive.specs.Derive.{Row};
-ghost use Rattle.xml.specs.Document.{document};
+ghost use Rattle.extent.specs.Extent.{Fits};
 ghost use Rattle.left_parse.specs.Noted.{Room};
-ghost use Rattle.writer.specs.Whole.{Job, Writable, Documented, Answered};
+ghost use Rattle.writer.specs.Whole.{Documented, Wrotes};
 ghost use Rattle.writer.specs.Whole.{Some as SomeJob};
 ghost use Rattle.writer.specs.Markup.{turned, freshAt, Attributed, Opened, Came};
 use cursor::Cursor;
 use cursor::Event;
+use extent::Extent;
 use markup::Piece;
 use markup::StateWords;
 use text::BytePlace;
 
-// Where writing stands: where the room ends, the next byte's place, whether a start tag is still open, and the state that the next
-// start tag gets.
+// Where writing stands: where the room ends, the next byte's place, whether a start tag is still open, whether start tags may have
+// attributes, and the state that the next start tag gets.
 pub struct Output {
     pub limit: BytePlace,
     pub pos: BytePlace,
     pub unclosed: bool,
+    pub attributed: bool,
     pub due: StateWords,
+}
+
+// What is written besides the document, and what is known of that.
+pub struct Plan {
+    pub due: StateWords,
+    pub extent: Extent,
 }
 
 // The head of a rule that is marked `-`.
@@ -83,6 +89,7 @@ fn moved(o: Output, pos: BytePlace) -> Output
         limit,
         pos,
         unclosed: o.unclosed,
+        attributed: o.attributed,
         due,
     }
 }
@@ -147,6 +154,7 @@ fn put_start(table: &[u32], out: &mut [u8], o: Output, token: usize) -> Output
         limit,
         pos,
         unclosed: true,
+        attributed: o.attributed,
         due: none,
     }
 }
@@ -166,11 +174,12 @@ fn put_text(table: &[u32], record: &[u32], out: &mut [u8], o: Output, p: Piece) 
         limit,
         pos,
         unclosed: false,
+        attributed: o.attributed,
         due,
     }
 }
 
-// An element's start tag, with the attributes of its row.
+// An element's start tag, with the attributes of its row, if there may be some.
 fn put_open(
     table: &[u32],
     parse: &[u32],
@@ -188,8 +197,11 @@ fn put_open(
     let h = c.at;
     let token = items::token_at(table, h.item);
     let tag = put_start(table, out, o, token);
-    let first = cursor::inside(table, parse, scratch, c);
-    put_attributes(table, parse, record, scratch, out, tag, first)
+    if o.attributed {
+        let first = cursor::inside(table, parse, scratch, c);
+        return put_attributes(table, parse, record, scratch, out, tag, first);
+    }
+    tag
 }
 
 // The end of an element, by its token.
@@ -206,6 +218,7 @@ fn put_close(table: &[u32], out: &mut [u8], o: Output, token: usize) -> Output
         limit,
         pos,
         unclosed: false,
+        attributed: o.attributed,
         due: none,
     }
 }
@@ -284,15 +297,63 @@ pub enum Written {
 }
 
 // At the beginning, with room up to a place.
-fn fresh(limit: usize, due: StateWords) -> Output
-    ensures { λ r. ⌜ r ≡ freshAt limit due ⌝ }
+fn fresh(limit: usize, plan: Plan) -> Output
+    ensures { λ r. ⌜ r ≡ freshAt limit plan ⌝ }
 {
+    let due = plan.due;
+    let extent = plan.extent;
     Output {
         limit: BytePlace(limit),
         pos: BytePlace(0),
         unclosed: false,
+        attributed: extent.attributed,
         due,
     }
+}
+
+// A document of which it is known that it fits.
+fn write_fitting(
+    table: &[u32],
+    root: usize,
+    parse: &[u32],
+    record: &[u32],
+    plan: Plan,
+    scratch: &mut [u64],
+    out: &mut [u8],
+) -> Written
+    requires { ⌜ Fits (plan .extent) (length (now out)) ⌝ }
+    requires { ⌜ Room (now table) (now parse) (now scratch) × SomeJob (now table) root (now parse) (now «record») (now scratch) ⌝ }
+    ensures { λ a. ⌜ Wrotes (now (table .entry)) root (now (parse .entry)) (now («record» .entry)) (now (scratch .entry))
+        (now (out .entry)) (now (out .exit)) plan a ⌝ }
+{
+    let all = fresh(out.len(), plan);
+    let n = put_document(table, root, parse, record, scratch, out, all);
+    Written::Xml(n.0)
+}
+
+// A document that is measured first, so that nothing is stored of one that does not fit.
+fn write_measured(
+    table: &[u32],
+    root: usize,
+    parse: &[u32],
+    record: &[u32],
+    plan: Plan,
+    scratch: &mut [u64],
+    out: &mut [u8],
+) -> Written
+    requires { ⌜ Room (now table) (now parse) (now scratch) × SomeJob (now table) root (now parse) (now «record») (now scratch) ⌝ }
+    ensures { λ a. ⌜ Wrotes (now (table .entry)) root (now (parse .entry)) (now («record» .entry)) (now (scratch .entry))
+        (now (out .entry)) (now (out .exit)) plan a ⌝ }
+{
+    let room = out.len();
+    let dry = fresh(0, plan);
+    let m = put_document(table, root, parse, record, scratch, out, dry);
+    if m.0 > room {
+        return Written::TooLong;
+    }
+    let wet = fresh(room, plan);
+    let n = put_document(table, root, parse, record, scratch, out, wet);
+    Written::Xml(n.0)
 }
 
 pub fn write_xml(
@@ -300,22 +361,17 @@ pub fn write_xml(
     root: usize,
     parse: &[u32],
     record: &[u32],
-    due: StateWords,
+    plan: Plan,
     scratch: &mut [u64],
     out: &mut [u8],
 ) -> Written
     requires { ⌜ Room (now table) (now parse) (now scratch) × SomeJob (now table) root (now parse) (now «record») (now scratch) ⌝ }
-    ensures { λ a. ⌜ ((g : Grammar) (t : Row) → Job (now (table .entry)) root (now (parse .entry)) (now («record» .entry))
-        (now (scratch .entry)) g t → Writable g (now («record» .entry)) t
-        → Answered (bytes (due .ambiguous) (due .mismatch) (document g (now («record» .entry)) t)) (now (out .entry)) (now (out .exit)) a) ⌝ }
+    ensures { λ a. ⌜ Wrotes (now (table .entry)) root (now (parse .entry)) (now («record» .entry)) (now (scratch .entry))
+        (now (out .entry)) (now (out .exit)) plan a ⌝ }
 {
-    let room = out.len();
-    let dry = fresh(0, due);
-    let m = put_document(table, root, parse, record, scratch, out, dry);
-    if m.0 > room {
-        return Written::TooLong;
+    let extent = plan.extent;
+    if extent::fits(extent, out.len()) {
+        return write_fitting(table, root, parse, record, plan, scratch, out);
     }
-    let wet = fresh(room, due);
-    let n = put_document(table, root, parse, record, scratch, out, wet);
-    Written::Xml(n.0)
+    write_measured(table, root, parse, record, plan, scratch, out)
 }

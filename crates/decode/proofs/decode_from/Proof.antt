@@ -9,25 +9,34 @@ scan-requires c κs = search needs
 enum-told : tie.Need-enum-told
 enum-told c = search needs
 
+decode-in-turn-requires : tie.Need-decode-in-turn-requires
+decode-in-turn-requires c κs = search needs
+
 same-length : tie.Need-same-length
 same-length c = search needs
 
 returns : tie.Need-returns
-returns c = law.refused (c .before .before .before .scan .ensures) (c .match .keys2)
-
-scan-requires-2 : tie.Need-scan-requires-2
-scan-requires-2 c κs = search needs
+returns c =
+    let at-decode-in-turn = c .before .before in
+    let at-scan = at-decode-in-turn .before .before .before .before .before in
+    law.anew (at-scan .scan .ensures) (at-decode-in-turn .decode-in-turn .ensures)
 
 same-length-2 : tie.Need-same-length-2
 same-length-2 c = search needs
 
 returns-2 : tie.Need-returns-2
 returns-2 c =
-    let at-enum-told = c .before .before .before .before in
-    let at-scan = at-enum-told .before .before .before .before in
-    law.decoded (at-scan .scan .ensures) _ (at-enum-told .enum-told .given .1) (c .before .before .scan2 .ensures)
+    let at-scan = c .before .before .before .before in
+    law.at-once (at-scan .scan .ensures) _ (c .enum-told .given .1)
 
 pub decode-from-spec : {M : Type 1} → statement M
 decode-from-spec =
     tie.close
-    (tie.spec scan-requires enum-told same-length returns scan-requires-2 same-length-2 returns-2)
+    (tie.spec
+    scan-requires
+    enum-told
+    decode-in-turn-requires
+    same-length
+    returns
+    same-length-2
+    returns-2)

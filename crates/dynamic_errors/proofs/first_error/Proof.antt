@@ -17,31 +17,27 @@ at-root-requires c κs = search needs
 
 judge-row-requires : tie.Need-judge-row-requires
 judge-row-requires c κs =
-    let at-alternative = c .before .before .before in
+    let at-at-root = c .before in
+    let at-alternative = at-at-root .before in
     let at-look = at-alternative .before in
     let at-head-at = at-look .before in
-    let start = at-head-at .before .before .before .before .before .before in (
-      (start .pre .0, at-head-at .head-at .ensures .fits),
-      root-standing (start .pre .1 .0) (start .pre .1 .1) (at-look .look .ensures .0)
-          (at-alternative .alternative .ensures) (c .before .before .at-root .ensures),
+    let start = at-head-at .before .before .before .before .before in (
+      at-head-at .head-at .ensures .fits,
+      root-standing (start .pre .0) (start .pre .1) (at-look .look .ensures .0) (at-alternative .alternative .ensures) (at-at-root .at-root .ensures),
     )
 
 same-length : tie.Need-same-length
 same-length c = search needs
 
-same-length-2 : tie.Need-same-length-2
-same-length-2 c = search needs
-
 returns : tie.Need-returns
 returns c =
-    let at-judge-row = c .before .before .before .before in
-    let at-at-root = at-judge-row .before .before .before in
+    let at-judge-row = c .before .before in
+    let at-at-root = at-judge-row .before .before in
     let at-alternative = at-at-root .before in
     let at-look = at-alternative .before in
     let at-head-at = at-look .before in
-    let start = at-head-at .before .before .before .before .before .before in
-    root-judged (start .pre .1 .0) (at-head-at .head-at .ensures) (at-look .look .ensures .0)
-    (at-alternative .alternative .ensures) (at-at-root .at-root .ensures) (at-judge-row .judge-row .ensures)
+    let start = at-head-at .before .before .before .before .before in
+    root-judged (start .pre .0) (at-head-at .head-at .ensures) (at-look .look .ensures .0) (at-alternative .alternative .ensures) (at-at-root .at-root .ensures) (at-judge-row .judge-row .ensures)
 
 pub first-error-spec : {M : Type 1} → statement M
 first-error-spec =
@@ -53,5 +49,4 @@ first-error-spec =
     at-root-requires
     judge-row-requires
     same-length
-    same-length-2
     returns)

@@ -25,12 +25,33 @@ returns-3 : tie.Need-returns-3
 unfolding failing
 returns-3 c = rw (ne-eqb _ 5 (c .before .before .before .if1 .left), ne-eqb _ 9 (c .before .before .if2 .left), eq-eqb _ 10 (c .before .if3 .taken)) (c .no-class .ensures)
 
-bad-codes-requires : tie.Need-bad-codes-requires
-bad-codes-requires c κs = search needs
+breaks-any-requires : tie.Need-breaks-any-requires
+breaks-any-requires c κs = search needs
 
 returns-4 : tie.Need-returns-4
 unfolding failing
-returns-4 c = rw (ne-eqb _ 5 (c .before .before .before .if1 .left), ne-eqb _ 9 (c .before .before .if2 .left), ne-eqb _ 10 (c .before .if3 .left)) (c .bad-codes .ensures)
+returns-4 c =
+    let at-if3 = c .before .before in
+    rw (
+      ne-eqb _ 5 (at-if3 .before .before .if1 .left),
+      ne-eqb _ 9 (at-if3 .before .if2 .left),
+      ne-eqb _ 10 (at-if3 .if3 .left),
+      eq-eqb _ 0 (c .before .if4 .taken),
+    ) (c .breaks-any .ensures)
+
+bad-codes-requires : tie.Need-bad-codes-requires
+bad-codes-requires c κs = search needs
+
+returns-5 : tie.Need-returns-5
+unfolding failing
+returns-5 c =
+    let at-if3 = c .before .before in
+    rw (
+      ne-eqb _ 5 (at-if3 .before .before .if1 .left),
+      ne-eqb _ 9 (at-if3 .before .if2 .left),
+      ne-eqb _ 10 (at-if3 .if3 .left),
+      ne-eqb _ 0 (c .before .if4 .left),
+    ) (c .bad-codes .ensures)
 
 pub breaks-spec : {M : Type 1} → statement M
 breaks-spec =
@@ -42,5 +63,7 @@ breaks-spec =
     returns-2
     no-class-requires
     returns-3
+    breaks-any-requires
+    returns-4
     bad-codes-requires
-    returns-4)
+    returns-5)

@@ -118,7 +118,7 @@ loop-again-2 c =
       open-enter (Owing _ _ _ _ _) (i .3) (at-next .next .ensures)
           (at-event2 .event2 .given .1) (rw (at-put-open .put-open .ensures .kept) at (c .before .before .enter .ensures))
           (Owing _ _ _ _ _) (λ r k₀ k m n x N S₀ A. owing-element (i .2) n x k (at-put-open .put-open .ensures .is)
-          (λ z. at-put-open .put-open .ensures .wrote S₀ n x k (rw z at A))),
+          (λ z m. at-put-open .put-open .ensures .wrote S₀ n x k (rw z at A) m)),
     )
 
 enum-known-event-3 : tie.Need-enum-known-event-3 Inv-loop μ-loop

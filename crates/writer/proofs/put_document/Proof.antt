@@ -58,12 +58,13 @@ returns c =
     let start = at-head-at .before .before .before .before .before .before in
     record {
       kept = at-put-content .put-content .ensures .kept;
-      wrote = λ g t J.
+      wrote = λ g t J M.
           let R = rooted (start .pre .1 .0) J _ (found-first (now (start .args .parse)) (at-look .look .ensures .0) (at-alternative .alternative .ensures)) in
           let N = at-head-at .head-at .ensures .named g (J .tokens) in
           let e = sym (head-number N) ∙ sym (at-look2 .look2 .ensures .0) ∙ at-if1 .if1 .taken in
-          wrote-text (ap (stated (stateOf (start .args .from .due))) (document-deleted R e))
-          (wrote-deleted R (start .pre .0 .1) (came-at (at-at-root .at-root .ensures) (at-put-content .put-content .ensures)));
+          let d = document-deleted R e in
+          wrote-text (ap (stated (stateOf (start .args .from .due))) d)
+          (wrote-deleted R (start .pre .0 .1) (rw d at M) (came-at (at-at-root .at-root .ensures) (at-put-content .put-content .ensures)));
     }
 
 put-start-requires : tie.Need-put-start-requires
@@ -139,13 +140,13 @@ returns-2 c =
     let A = at-put-attributes .put-attributes .ensures in
     record {
       kept = at-put-content2 .put-content2 .ensures .kept ∙ A .kept;
-      wrote = λ g t J.
+      wrote = λ g t J M.
           let R = rooted (start .pre .1 .0) J _ (found-first (now (start .args .parse)) (at-look .look .ensures .0) (at-alternative .alternative .ensures)) in
           let N = at-head-at .head-at .ensures .named g (J .tokens) in
           let w = started (start .args .from) e (attributed-at r A) (g .root .name) (R .inner) (at-put-start .put-start .ensures .1 _ _ N) (R .stands) in
-          wrote-text (ap (stated (stateOf (start .args .from .due)))
-          (document-element R (λ e. at-if1 .if1 .left (at-look2 .look2 .ensures .0 ∙ head-number N ∙ e))))
-          (wrote-element R (start .args .from) (g .root .name) (A .kept) (started-is (start .args .from) e A) (unled (start .pre .0 .1) w)
+          let d = document-element R (λ e. at-if1 .if1 .left (at-look2 .look2 .ensures .0 ∙ head-number N ∙ e)) in
+          wrote-text (ap (stated (stateOf (start .args .from .due))) d)
+          (wrote-element R (start .args .from) (g .root .name) (A .kept) (started-is (start .args .from) e A) (rw d at M) (unled (start .pre .0 .1) w)
           (came-at r (at-put-content2 .put-content2 .ensures)) (at-put-close .put-close .ensures .1 _ _ N));
     }
 
