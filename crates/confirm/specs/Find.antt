@@ -49,7 +49,7 @@ pub record Confirming (Tb : List ℕ) (R : Text) (c M F : List ℕ) (size n top 
   pub flows : (L : List ℕ) → Firsts Tb c size L → Flows c L M size n
   pub long : n ≡ length R
   pub short : length R ≤ 200
-  pub marks-long : length M ≡ 308736
+  pub marks-long : 1536 * n + 1536 ≤ length M
   pub notes-long : length F ≡ 2048
   pub room : size * stretches n ≤ main
   pub root : Begins M top 0

@@ -1,4 +1,5 @@
 pub mod Cells
 pub mod Reach
 pub mod Laws
+pub mod Terminals
 pub mod Rounds

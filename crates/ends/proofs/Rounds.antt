@@ -14,7 +14,7 @@ use Rattle.reach.specs.Flags.{Begins}
 use Rattle.reach.specs.Work.{Listed, l-here, l-next}
 use Rattle.moves.specs.Moves.{Derived, Move, move-terminal, move-symbol, Stepped}
 use Rattle.ends.specs.Spans.{OnList, Steps, here, by-terminal, by-symbol, Spans}
-use Rattle.ends.specs.Table.{Ground, Sound, Trying, Rest, rest-end, rest-step, Closed, Finished, Tried, Settling, Settled, Redone, Rounded, Closing, Opened, SoundFrom, CompleteFrom}
+use Rattle.ends.specs.Table.{Ground, Sound, Led, Trying, Rest, rest-end, rest-step, Closed, Finished, Tried, Settling, Settled, Redone, Rounded, Closing, Opened, SoundFrom, CompleteFrom}
 use Rattle.ends.specs.Table.{Filled}
 use Rattle.ends.proofs.Reach.{Arrived, arrived}
 use Rattle.ends.proofs.Laws.{neither, settled-start, settled-join, ground-as, moved-steps, finished-sound, sound-none, sound-down, sound-up}
@@ -24,8 +24,8 @@ pub record Leads (c M : List ℕ) (n : ℕ) (t : List ℕ) (e m q p : ℕ) (S : 
   pub by : ((x j : ℕ) → Has S x → Rest c M n t p x j → Derived n t e m j) → (j : ℕ) → Rest c M n t q m j → Derived n t e m j
 
 module _ {c M : List ℕ} {n : ℕ} {t : List ℕ} {e m q : ℕ} where
-  pub leads-start : {S : List ℕ} → Has S m → Leads c M n t e m q q S
-  leads-start h = record { by = λ f j r. f m j h r }
+  pub leads-start : {size p x : ℕ} {S : List ℕ} → Led c M size n m q p x → Has S x → Leads c M n t e m q p S
+  leads-start {x = x} l h = record { by = λ f j r. f x j h (l .rest t j r .1) }
 
   pub leads-step : {p : ℕ} {S S' : List ℕ} → (nextKind c p ≡ 0 → ⊥) → Stepped c M n t p S S' → Leads c M n t e m q p S → Leads c M n t e m q (p + 1) S'
   leads-step {p} {S} {S'} k s l = record { by = λ f. l .by (λ x j h r. go f h r) }
@@ -48,6 +48,13 @@ module _ {c M : List ℕ} {n : ℕ} {t : List ℕ} {e m q : ℕ} where
       go {x} h (rest-end z) = f x h
       go h (rest-step y r) = absurd (none y)
 
+-- an alternative that adds nothing
+tried-still : {c M : List ℕ} {size n m e q : ℕ} {t : List ℕ} → ((j : ℕ) → Rest c M n t q m j → Derived n t e m j) → Tried c M size n m e q t t false
+tried-still f = record { long = refl; kept = λ e x j d. d; grows = grows-start; closed = λ _. f; sound = λ L g o s. s }
+
+pub tried-nowhere : {c M : List ℕ} {size n m e q p x : ℕ} {t : List ℕ} → Led c M size n m q p x → n < x → Tried c M size n m e q t t false
+tried-nowhere {t = t} l h = tried-still (λ j r. absurd (omega (arith, h, l .rest t j r .0)))
+
 -- an alternative that goes no further, and one that comes to its end
 module _ {c M : List ℕ} {size n m e q : ℕ} {t : List ℕ} (pre : Trying c M size n m e q t) where
   reached : {p x : ℕ} → Steps c (pre .lists) M n q m p x → Arrived c M size n e m p x
@@ -55,13 +62,7 @@ module _ {c M : List ℕ} {size n m e q : ℕ} {t : List ℕ} (pre : Trying c M 
 
   pub tried-none : {p : ℕ} {S S' : List ℕ} → ((x : ℕ) → Has S x → Steps c (pre .lists) M n q m p x) → (nextKind c p ≡ 0 → ⊥) → Stepped c M n t p S S' → ((x : ℕ) → x < 256 → Has S' x → ⊥)
       → Leads c M n t e m q p S → Tried c M size n m e q t t false
-  tried-none {p} {S} {S'} f k s none l = record {
-    long = refl;
-    kept = λ e x j d. d;
-    grows = grows-start;
-    closed = λ _. leads-none (λ x h. none x (low x h) h) (leads-step k s l);
-    sound = λ L g o s. s;
-  }
+  tried-none {p} {S} {S'} f k s none l = tried-still (leads-none (λ x h. none x (low x h) h) (leads-step k s l))
     where
       low : (x : ℕ) → Has S' x → x < 256
       low x h = omega (arith, reached (moved-steps (pre .ground) (pre .on) (pre .inside) (pre .listed) (pre .begins) (pre .sound) f x (s .is x h)) .on, pre .ground .short)
@@ -124,28 +125,28 @@ module _ {c L M : List ℕ} {size n m e : ℕ} where
   redone-none s f = record { settled = settled-start s; grows = grows-start; closed = λ z b. absurd (f b) }
 
 module _ {c L M : List ℕ} {size n m : ℕ} where
-  pub rounded-start : {t : List ℕ} → Settling c L M size n m t → Rounded c L M size n m 0 t t false
-  rounded-start s = record { settled = settled-start s; grows = grows-start; closed = λ z e h. absurd (omega (arith, h)) }
+  pub rounded-start : {t : List ℕ} → Settling c L M size n m t → Rounded c L M size n m size t t false
+  rounded-start s = record { settled = settled-start s; grows = grows-start; closed = λ z e l h. absurd (omega (arith, l, h)) }
 
-  pub rounded-next : {e : ℕ} {t t' t'' : List ℕ} (g b : Bool) {g' : Bool} → Rounded c L M size n m e t t' g → Redone c L M size n m e t' t'' b → g' ≡ (g || b)
-      → Rounded c L M size n m (e + 1) t t'' g'
-  rounded-next {e} {t} {t'} {t''} g b v w z = record {
+  pub rounded-next : {e k : ℕ} {t t' t'' : List ℕ} (g b : Bool) {g' : Bool} → Rounded c L M size n m k t t' g → Redone c L M size n m e t' t'' b → k ≡ e + 1 → g' ≡ (g || b)
+      → Rounded c L M size n m e t t'' g'
+  rounded-next {e} {k} {t} {t'} {t''} g b v w s z = record {
     settled = settled-join (v .settled) (w .settled);
     grows = grows-join g b (v .grows) (w .grows) z;
-    closed = λ k i h u. (let n = neither g b z k in go (n .0) (n .1) i h u (decLt i e));
+    closed = λ y i l h u. (let n = neither g b z y in go (n .0) (n .1) i l h u (decLt e i));
   }
     where
-      go : g ≡ false → b ≡ false → (i : ℕ) → i < e + 1 → Begins M i m → Dec (i < e) → Closed c L M n t i m
-      go f k i h u (yes y) = v .closed f i y u
-      go f k i h u (no y) =
-          let at : i ≡ e = omega (arith, h, y) in
+      go : g ≡ false → b ≡ false → (i : ℕ) → e ≤ i → i < size → Begins M i m → Dec (e < i) → Closed c L M n t i m
+      go f x i l h u (yes y) = v .closed f i (omega (arith, s, y)) h u
+      go f x i l h u (no y) =
+          let at : i ≡ e = omega (arith, l, y) in
           subst (λ (x : List ℕ). Closed c L M n x i m) (v .grows .still f)
-          (subst (λ (x : ℕ). Closed c L M n t' x m) (sym at) (w .closed k (subst (λ (x : ℕ). Begins M x m) at u)))
+          (subst (λ (x : ℕ). Closed c L M n t' x m) (sym at) (w .closed x (subst (λ (x : ℕ). Begins M x m) at u)))
 
-  pub closing-end : {t t' t'' : List ℕ} {g : Bool} → g ≡ false → Settled c L M size n m t t' → Rounded c L M size n m size t' t'' g → Closing c L M size n m t t''
+  pub closing-end : {t t' t'' : List ℕ} {g : Bool} → g ≡ false → Settled c L M size n m t t' → Rounded c L M size n m 0 t' t'' g → Closing c L M size n m t t''
   closing-end z v w = record {
     settled = settled-join v (w .settled);
-    closed = λ e h b. subst (λ (x : List ℕ). Closed c L M n x e m) (sym (w .grows .still z)) (w .closed z e h b);
+    closed = λ e h b. subst (λ (x : List ℕ). Closed c L M n x e m) (sym (w .grows .still z)) (w .closed z e (omega arith) h b);
   }
 
 -- what steps derive from a place of rows that are closed, or complete

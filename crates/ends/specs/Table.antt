@@ -12,7 +12,7 @@ use Rattle.reach.specs.Flags.{Begins}
 use Rattle.reach.specs.Work.{Linked}
 use Rattle.sparse.specs.Cells.{Shape}
 use Rattle.moves.specs.Moves.{Derived, Row, Move}
-use Rattle.ends.specs.Spans.{Spans, Flows, OnList}
+use Rattle.ends.specs.Spans.{Steps, Spans, Flows, OnList}
 
 -- what the tables are, for all steps
 pub record Ground (c L M : List ℕ) (size n main : ℕ) : Type 0 where
@@ -20,7 +20,7 @@ pub record Ground (c L M : List ℕ) (size n main : ℕ) : Type 0 where
   pub linked : Linked size L
   pub flows : Flows c L M size n
   pub short : n ≤ 200
-  pub marks-long : length M ≡ 308736
+  pub marks-long : 1536 * n + 1536 ≤ length M
   pub room : size * stretches n ≤ main
 
 -- rows that have been begun: of rules before b at m, and of all after it
@@ -59,6 +59,20 @@ pub record Cleared (n : ℕ) (t t' : List ℕ) (e m : ℕ) : Type 0 where
   pub same : (e' x j : ℕ) → x ≤ n → Derived n t' e' x j → Derived n t e' x j
   pub kept : (e' x j : ℕ) → x ≤ n → m < x → Derived n t e' x j → Derived n t' e' x j
 
+-- terminals are followed from the place m of the dot q
+pub record Leading (c M : List ℕ) (size n m q : ℕ) : Type 0 where
+  pub shape : Shape c size
+  pub short : n ≤ 200
+  pub marks-long : 1536 * n + 1536 ≤ length M
+  pub on : m ≤ n
+  pub inside : q < size
+
+-- they lead to the place x of the dot p, from which all goes on that does from m; to a place past n, if nothing does
+pub record Led (c M : List ℕ) (size n m q p x : ℕ) : Type 0 where
+  pub inside : p < size
+  pub steps : x ≤ n → (L : List ℕ) → Steps c L M n q m p x
+  pub rest : (t : List ℕ) (j : ℕ) → Rest c M n t q m j → (x ≤ n) × Rest c M n t p x j
+
 -- an alternative of the rule e that begins at q is tried at m
 pub record Trying (c M : List ℕ) (size n m e q : ℕ) (t : List ℕ) : Type 0 where
   pub lists : List ℕ
@@ -93,11 +107,11 @@ pub record Redone (c L M : List ℕ) (size n m e : ℕ) (t t' : List ℕ) (r : B
   pub grows : Grows t t' r
   pub closed : r ≡ false → Begins M e m → Closed c L M n t e m
 
--- all rules before b do
-pub record Rounded (c L M : List ℕ) (size n m b : ℕ) (t t' : List ℕ) (r : Bool) : Type 0 where
+-- all rules from a on do
+pub record Rounded (c L M : List ℕ) (size n m a : ℕ) (t t' : List ℕ) (r : Bool) : Type 0 where
   pub settled : Settled c L M size n m t t'
   pub grows : Grows t t' r
-  pub closed : r ≡ false → (e : ℕ) → e < b → Begins M e m → Closed c L M n t e m
+  pub closed : r ≡ false → (e : ℕ) → a ≤ e → e < size → Begins M e m → Closed c L M n t e m
 
 -- nothing is left to do
 pub record Closing (c L M : List ℕ) (size n m : ℕ) (t t' : List ℕ) : Type 0 where
@@ -107,7 +121,7 @@ pub record Closing (c L M : List ℕ) (size n m : ℕ) (t t' : List ℕ) : Type 
 -- the row of the rule e at m is begun
 pub record Opening (M : List ℕ) (size n m e : ℕ) (main : ℕ) : Type 0 where
   pub row : Row n e main
-  pub long : length M ≡ 308736
+  pub long : 1536 * n + 1536 ≤ length M
   pub on : m ≤ n
 
 pub record Opened (M : List ℕ) (size n m a b : ℕ) (t t' : List ℕ) (r : Bool) : Type 0 where

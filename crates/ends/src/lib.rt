@@ -6,9 +6,11 @@ ghost use lib.ListN.{length};
 ghost use Rattle.chart.specs.Heights.{stretches};
 ghost use Rattle.reach.specs.Flags.{Begins};
 ghost use Rattle.moves.specs.Moves.{Row};
-ghost use Rattle.ends.specs.Table.{Finished, Cleared, Trying, Tried, Ground, Settling, Settled, Redone, Rounded, Closing, Opening, Opened, Filled};
+ghost use Rattle.ends.specs.Table.{Finished, Cleared, Leading, Led, Trying, Tried, Ground, Settling, Settled, Redone, Rounded, Closing, Opening, Opened, Filled};
 use chart::AT_END;
+use chart::AT_TERMINAL;
 use chart::CODE_COLUMNS;
+use chart::CODE_GOES;
 
 // A queue of rules: a ring, whether each rule is in it, the ring's head and its count.
 const RING: usize = text::limits::GRAMMAR_SIZE;
@@ -20,12 +22,24 @@ const COUNT: usize = HEAD + 1;
 // No place has more turns than this.
 const TURNS: usize = 65536;
 
+// With at most so many dots the queue is left out: rounds alone end sooner there.
+const FEW: usize = 32;
+
+// A dot's flag from which on the terminal after it fits.
+const FITS: u8 = 2;
+
 // A grammar with `size` dots on a record that ends at n, and a rule that begins at m.
 pub struct Start {
     pub size: usize,
     pub n: usize,
     pub m: usize,
     pub rule: usize,
+}
+
+// The place x of the dot p.
+struct Spot {
+    p: usize,
+    x: usize,
 }
 
 // The rule's ends take in the set; whether they grew.
@@ -50,6 +64,29 @@ fn finish(main: &mut [u32], s: Start, cur: &[u32; 8]) -> bool
     grew
 }
 
+// Where the terminals from the dot q on lead; to a place past n, if one of them does not fit. Over a terminal one place leads to one place at
+// most, so that no set is needed.
+fn lead(code: &[u32], marks: &[u8], s: Start, q: usize) -> Spot
+    requires { ⌜ Leading (now code) (now marks) (s .size) (s .n) (s .m) q ⌝ }
+    ensures { λ r. ⌜ Led (now (code .entry)) (now (marks .entry)) (s .size) (s .n) (s .m) q (r .p) (r .x) ⌝ }
+{
+    let past = s.n + 1;
+    let mut p = q;
+    let mut x = s.m;
+    while code[CODE_COLUMNS * p] == AT_TERMINAL {
+        if marks[reach::PLACE * x + p] < FITS {
+            return Spot { p, x: past };
+        }
+        let width = text::wide(code[CODE_COLUMNS * p + CODE_GOES]);
+        if s.n - x < width {
+            return Spot { p, x: past };
+        }
+        x += width;
+        p += 1;
+    }
+    Spot { p, x }
+}
+
 // The ends by the alternative that begins at the dot q.
 fn alternative(code: &[u32], marks: &[u8], main: &mut [u32], s: Start, q: usize) -> bool
     requires { ⌜ Trying (now code) (now marks) (s .size) (s .n) (s .m) (s .rule) q (now main) ⌝ }
@@ -57,9 +94,14 @@ fn alternative(code: &[u32], marks: &[u8], main: &mut [u32], s: Start, q: usize)
 {
     let size = s.size;
     let n = s.n;
+    let spot = lead(code, marks, s, q);
+    let x = spot.x;
+    if n < x {
+        return false;
+    }
     let mut cur = [0u32; 8];
-    bits::put(&mut cur, s.m);
-    let mut p = q;
+    bits::put(&mut cur, x);
+    let mut p = spot.p;
     while code[CODE_COLUMNS * p] != AT_END {
         let mut next = [0u32; 8];
         moves::step(
@@ -143,7 +185,7 @@ fn capped(x: usize, most: usize) -> usize
 
 // A rule that may begin at m comes into the queue.
 fn push_begun(marks: &[u8], queue: &mut [u32; 1026], m: usize, rule: usize)
-    requires { ⌜ (length (now marks) ≡ 308736) × (m ≤ 200) ⌝ }
+    requires { ⌜ (1536 * m + 1536 ≤ length (now marks)) × (m ≤ 200) ⌝ }
 {
     if RING <= rule {
         return;
@@ -156,7 +198,7 @@ fn push_begun(marks: &[u8], queue: &mut [u32; 1026], m: usize, rule: usize)
 
 // The rules that use the rule come into the queue.
 fn wake(notes: &[u32], marks: &[u8], queue: &mut [u32; 1026], m: usize, rule: usize)
-    requires { ⌜ (length (now notes) ≡ 2048) × (length (now marks) ≡ 308736) × (m ≤ 200) × (rule < 512) ⌝ }
+    requires { ⌜ (length (now notes) ≡ 2048) × (1536 * m + 1536 ≤ length (now marks)) × (m ≤ 200) × (rule < 512) ⌝ }
 {
     let mut x = capped(text::wide(notes[chart::USE_COLUMNS * rule]), RING);
     while 0 < x {
@@ -188,7 +230,7 @@ fn turn(
     }
 }
 
-// All rules of the queue, and those that are woken.
+// All rules of the queue, and those that are woken; nothing for a grammar with few dots.
 fn settle(
     code: &[u32],
     firsts: &[u32],
@@ -202,6 +244,9 @@ fn settle(
     ensures { λ _. ⌜ Settled (now (code .entry)) (now (firsts .entry)) (now (marks .entry)) (s .size) (s .n) (s .m) (now (main .entry)) (now (main .exit)) ⌝ }
 {
     let size = s.size;
+    if size <= FEW {
+        return;
+    }
     let n = s.n;
     let m = s.m;
     let mut turns = 0;
@@ -234,20 +279,21 @@ fn redo(code: &[u32], firsts: &[u32], marks: &[u8], main: &mut [u32], s: Start) 
     derive(code, firsts, marks, main, s)
 }
 
-// A round over all rules; whether some ends grew.
+// A round over all rules; whether some ends grew. From the last rule to the first: grammars are mostly written from the root down, so that what
+// a rule uses has come before it.
 fn round(code: &[u32], firsts: &[u32], marks: &[u8], main: &mut [u32], s: Start) -> bool
     requires { ⌜ Settling (now code) (now firsts) (now marks) (s .size) (s .n) (s .m) (now main) ⌝ }
-    ensures { λ r. ⌜ Rounded (now (code .entry)) (now (firsts .entry)) (now (marks .entry)) (s .size) (s .n) (s .m) (s .size) (now (main .entry)) (now (main .exit)) r ⌝ }
+    ensures { λ r. ⌜ Rounded (now (code .entry)) (now (firsts .entry)) (now (marks .entry)) (s .size) (s .n) (s .m) 0 (now (main .entry)) (now (main .exit)) r ⌝ }
 {
     let size = s.size;
     let n = s.n;
     let m = s.m;
     let mut grew = false;
-    let mut rule = 0;
-    while rule < size {
+    let mut rule = size;
+    while 0 < rule {
+        rule -= 1;
         let more = redo(code, firsts, marks, main, Start { size, n, m, rule });
         grew = text::either(grew, more);
-        rule += 1;
     }
     grew
 }
@@ -293,7 +339,7 @@ fn begin_at(marks: &[u8], main: &mut [u32], queue: &mut [u32; 1026], s: Start) -
 
 // All rules that may begin at m; whether there is one.
 fn begin(marks: &[u8], main: &mut [u32], queue: &mut [u32; 1026], s: Start) -> bool
-    requires { ⌜ (length (now marks) ≡ 308736) × (s .size ≤ 512) × (s .n ≤ 200) × (s .m ≤ s .n) × (s .size * stretches (s .n) ≤ length (now main)) ⌝ }
+    requires { ⌜ (1536 * s .n + 1536 ≤ length (now marks)) × (s .size ≤ 512) × (s .n ≤ 200) × (s .m ≤ s .n) × (s .size * stretches (s .n) ≤ length (now main)) ⌝ }
     ensures { λ r. ⌜ Opened (now (marks .entry)) (s .size) (s .n) (s .m) 0 (s .size) (now (main .entry)) (now (main .exit)) r ⌝ }
 {
     let size = s.size;

@@ -26,7 +26,7 @@ pub record Located (Tb c M F : List ℕ) (R : Text) (size top main : ℕ) : Type
   pub code-room : 4 * size ≤ length c
   pub short : length R ≤ recordChars
   pub room : size * stretches (length R) ≤ main
-  pub marks-long : length M ≡ 308736
+  pub marks-long : 1536 * length R + 1536 ≤ length M
   pub left : LeftClosed (Token Tb) c R size top M
   pub only : FitsOnly (Token Tb) c R size M
   pub wants : (e j : ℕ) → e < size → j ≤ length R → Ends M e j → Wanted M e j

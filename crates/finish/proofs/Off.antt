@@ -142,7 +142,7 @@ module _ {Tb c f : List ℕ} {R : Text} {size top first : ℕ} {H : List ℕ} {p
     code-room = roomy .code-room;
     short = s .short;
     room = s .room;
-    marks-long = m .long;
+    marks-long = omega (arith, m .long, s .short);
     left = left;
     only = only;
     wants = λ e j h l _. ends-all e j h l;

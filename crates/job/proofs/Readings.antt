@@ -79,7 +79,7 @@ module _ (j : Job) (Tab new : List ℕ) (s : Start) (w : Started j Tab new s) wh
   -- the fault is at the place that is computed
   fails : (k : CharPlace) → Fails g r (k .0) → NotChosen j (record { why = atFault 16 k; mismatch = s .rules .mismatch })
   fails k a = refused (atFault 16 k) (inl refl) (λ ts. w .grammar .first (recordTests j ts)
-      ∙ stage-16 j ts r (w .input .decoded) (w .input .within) (w .input .short) g (w .grammar .is) (w .enough) (lacks-none g r (a .none)))
+      ∙ stage-16 j ts r (w .input .decoded) (w .input .within) (w .input .short) g (w .grammar .is) (w .enough) (lacks-none g r (a .none (w .grammar .productive) (isT (w .input .within)))))
       (λ ι. record { byte = 0; fault = same ι; grammar = 0 })
     where
       same : k .0 ≡ faultIn j

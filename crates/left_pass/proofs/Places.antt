@@ -50,8 +50,9 @@ closed-more {c = c} {size = size} {k = k} {M} {M'} s a e g = record {
     back p i h l v r = omega (arith, e (1536 * i + p) (omega (arith, s .small)))
 
 -- the places before i are closed, and nothing but roots and what terminals reached is flagged from i on
-pub record Passing (Tb c : List ℕ) (R : Text) (size top : ℕ) (M Q : List ℕ) (i : ℕ) : Type 0 where
-  pub long : length M ≡ 308736
+pub record Passing (Tb c : List ℕ) (R : Text) (size top len : ℕ) (M Q : List ℕ) (i : ℕ) : Type 0 where
+  pub long : length M ≡ len
+  pub room : 1536 * length R + 1536 ≤ len
   pub work-long : length Q ≡ 1537
   pub root : Begins M top 0
   pub begins-open : (q e : ℕ) → q < size → ownerAt c q ≡ e + 1 → Seen Q q
@@ -64,9 +65,9 @@ pub record Passing (Tb c : List ℕ) (R : Text) (size top : ℕ) (M Q : List ℕ
   pub ones : (p k : ℕ) → p < 512 → i ≤ k → dotAt M p k ≤ 1
   pub level : (e k : ℕ) → e < 512 → (beginAt M e k ≤ 1) × (endAt M e k ≤ 1)
 
-module _ {Tb c : List ℕ} {R : Text} {size top i : ℕ} {M₀ M Q : List ℕ} (g : Given Tb c R size M₀) (a : Passing Tb c R size top M Q i) (on : i ≤ length R) where
+module _ {Tb c : List ℕ} {R : Text} {size top len i : ℕ} {M₀ M Q : List ℕ} (g : Given Tb c R size M₀) (a : Passing Tb c R size top len M Q i) (on : i ≤ length R) where
   pub place-collects : Collects size 0 M Q i
-  place-collects = record { small = g .shape .small; levels = omega arith; on = omega (arith, g .short); marks-long = a .long; work-long = a .work-long }
+  place-collects = record { small = g .shape .small; levels = omega arith; on = omega (arith, g .short); marks-long = omega (arith, a .long, a .room); work-long = a .work-long }
 
   module _ {F A : List ℕ} (f : Members c 0 size F) (t : Members c 1 size A) {Q₁ : List ℕ} (l : Collected size 0 M Q Q₁ i) where
     pub place-closing : Closing c size F A M Q₁ i
@@ -94,7 +95,7 @@ module _ {Tb c : List ℕ} {R : Text} {size top i : ℕ} {M₀ M Q : List ℕ} (
         token = g .token;
         goes = g .goes;
         short = g .short;
-        marks-long = d .stepped .stir .kept .marks-long;
+        marks-long = omega (arith, a .room, a .long, d .stepped .stir .long);
       }
 
       module _ {M₃ : List ℕ} (s : Shifted Tb c R size M₂ M₃ i 0 size) where
@@ -175,9 +176,10 @@ module _ {Tb c : List ℕ} {R : Text} {size top i : ℕ} {M₀ M Q : List ℕ} (
             (λ n. s .rules k e n h)
             (split k i)
 
-        pub place-next : Passing Tb c R size top M₃ Q₂ (i + 1)
+        pub place-next : Passing Tb c R size top len M₃ Q₂ (i + 1)
         place-next = record {
-          long = s .long ∙ d .stepped .stir .kept .marks-long;
+          long = s .long ∙ d .stepped .stir .long ∙ a .long;
+          room = a .room;
           work-long = d .stepped .stir .kept .work-long;
           root = omega (arith, a .root, grows (1536 * 0 + (512 + top)));
           begins-open = d .stepped .rules .begins-open;
@@ -202,7 +204,7 @@ module _ {Tb c : List ℕ} {R : Text} {size top i : ℕ} {M₀ M Q : List ℕ} (
           ones = λ p k h b. s .ahead p k h (omega arith) (omega (arith, later k (1536 * k + p) b (omega arith), a .ones p k h (omega arith)));
         }
 
-pub places-closed : {Tb c : List ℕ} {R : Text} {size top i : ℕ} {M Q : List ℕ} → Passing Tb c R size top M Q i → length R < i → LeftClosed (Token Tb) c R size top M
+pub places-closed : {Tb c : List ℕ} {R : Text} {size top len i : ℕ} {M Q : List ℕ} → Passing Tb c R size top len M Q i → length R < i → LeftClosed (Token Tb) c R size top M
 places-closed a n = record {
   root = a .root;
   begin = λ p i h b. a .closed i (omega arith) .begin p h;
@@ -213,7 +215,7 @@ places-closed a n = record {
   over = λ p i m h b l. a .closed m (omega arith) .over p i h b;
 }
 
-pub places-only : {Tb c : List ℕ} {R : Text} {size top i : ℕ} {M Q : List ℕ} → Passing Tb c R size top M Q i → length R < i → FitsOnly (Token Tb) c R size M
+pub places-only : {Tb c : List ℕ} {R : Text} {size top len i : ℕ} {M Q : List ℕ} → Passing Tb c R size top len M Q i → length R < i → FitsOnly (Token Tb) c R size M
 places-only a n p i x h b k f t = a .closed i (omega arith) .only p x h k f t
 
 -- in the beginning
@@ -230,7 +232,7 @@ module _ {Tb c : List ℕ} {R : Text} {size top : ℕ} {M Q₀ Q₁ Q F : List �
     small = shape .small;
     levels = omega arith;
     on = omega arith;
-    marks-long = g .given .marks-long;
+    marks-long = omega (arith, g .given .marks-long);
     work-long = o .long ∙ h .long ∙ long;
     count = omega (arith, no-tail, count-most 0 M (1536 * 0) 512);
     queued = λ k a b. absurd (omega (arith, no-tail));
@@ -272,9 +274,10 @@ module _ {Tb c : List ℕ} {R : Text} {size top : ℕ} {M Q₀ Q₁ Q F : List �
         (w .woken (g .none (1536 * 0 + (512 + top))) q (f .all q top l (key-first c q ∙ d ∙ ap (λ (x : ℕ). x + 1) (y .1))) (opens-first q e l d) (omega arith)))))
         (byte (1536 * k + (512 + e)))
 
-    pub place-start : Passing Tb c R size top M₁ Q₂ 0
+    pub place-start : Passing Tb c R size top (length M₁) M₁ Q₂ 0
     place-start = record {
-      long = w .kept .marks-long;
+      long = refl;
+      room = omega (arith, w .long, g .given .marks-long);
       work-long = w .kept .work-long;
       root = w .there (omega arith);
       begins-open = λ q e l d. omega (arith, w .rest (513 + q) (omega arith), opens-first q e l d);
@@ -299,10 +302,10 @@ keying-next s l h o = record {
 }
 
 -- in the end
-pub place-end : {Tb c : List ℕ} {R : Text} {size top i n : ℕ} {M Q : List ℕ} → Passing Tb c R size top M Q i → n ≡ length R → n < i
+pub place-end : {Tb c : List ℕ} {R : Text} {size top len i n : ℕ} {M Q : List ℕ} → Passing Tb c R size top len M Q i → n ≡ length R → n < i
     → Lefted Tb c R size top M (not (eqb (getD M (1536 * n + (1024 + top)) 0) 0))
 place-end {top = top} {n = n} {M} a e l = record {
-  long = a .long;
+  long = omega (arith, a .long, a .room);
   closed = places-closed a (omega arith);
   only = places-only a (omega arith);
   level = a .level;

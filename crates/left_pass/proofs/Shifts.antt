@@ -116,7 +116,7 @@ given-next g l = record {
   token = g .token;
   goes = g .goes;
   short = g .short;
-  marks-long = l ∙ g .marks-long;
+  marks-long = omega (arith, l, g .marks-long);
 }
 
 pub shift-start : (Tb c : List ℕ) (R : Text) (size : ℕ) (M : List ℕ) (i : ℕ) → Shifted Tb c R size M M i 0 0

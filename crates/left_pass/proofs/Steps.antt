@@ -18,6 +18,7 @@ use Rattle.reach.proofs.Keys.{key-first, key-after, use-some, after-some, home-
 pub stir-none : {size low i : ℕ} {M Q : List ℕ} → Kept size low M Q i → Stir size low M Q M Q i
 stir-none k = record {
   kept = k;
+  long = refl;
   grows = λ x. omega arith;
   away = λ x h. refl;
   seen = λ p s. s;
@@ -30,6 +31,7 @@ stir-none k = record {
 pub stir-join : {size low i : ℕ} {M Q M₁ Q₁ M₂ Q₂ : List ℕ} → Stir size low M Q M₁ Q₁ i → Stir size low M₁ Q₁ M₂ Q₂ i → Stir size low M Q M₂ Q₂ i
 stir-join a b = record {
   kept = b .kept;
+  long = b .long ∙ a .long;
   grows = λ x. omega (arith, a .grows x, b .grows x);
   away = λ x h. b .away x h ∙ a .away x h;
   seen = λ p s. b .seen p (a .seen p s);
@@ -45,6 +47,7 @@ stir-join a b = record {
 pub stir-grown : {size low i : ℕ} {M Q M' Q' : List ℕ} → Grown size low M Q M' Q' i → Stir size low M Q M' Q' i
 stir-grown {i = i} {M} {Q} {M'} g = record {
   kept = g .kept;
+  long = g .long;
   grows = grown-le g;
   away = λ x h. ⊎-elim (λ e. e) (λ l. absurd (⊎-elim (λ a. omega (arith, l .from)) (λ a. omega (arith, l .to)) h)) (g .cell x);
   seen = λ p s. omega (arith, g .rest (513 + p) (omega arith));
@@ -69,6 +72,7 @@ module _ {size dots low column i e : ℕ} {L M Q M' Q' : List ℕ} (w : Woken si
   pub stir-woken : e < 512 → 512 ≤ column → column ≤ 1024 → Stir size dots M Q M' Q' i
   stir-woken h f t = record {
     kept = w .kept;
+    long = w .long;
     grows = woken-le;
     away = λ x a. woken-same x (⊎-elim (λ b. inr b) (λ b. inl (omega arith)) a) (λ z. ⊎-elim (λ b. omega arith) (λ b. omega arith) a);
     seen = λ p s. omega (arith, w .rest (513 + p) (omega arith));
@@ -86,6 +90,7 @@ module _ {size low i p v : ℕ} {M Q M' : List ℕ} (k : Kept size low M Q i) (h
   pub stir-raised : Stir size low M Q M' Q i
   stir-raised = record {
     kept = kept-more k (r .long) (raised-le r);
+    long = r .long;
     grows = raised-le r;
     away = λ x a. raise-other x (λ z. ⊎-elim (λ b. omega arith) (λ b. omega arith) a);
     seen = λ q s. s;
@@ -118,6 +123,7 @@ module _ {size low i : ℕ} {M Q : List ℕ} (p : ℕ) (k : Kept size low M Q i)
       queued = λ j a b. (let t : j ≤ tailOf Q = omega (arith, open-other 0 (λ z. omega arith)) in
           subst (λ (y : ℕ). (y < size) × (low < dotAt M y i)) (sym (open-other j (λ z. omega (arith, k .count)))) (k .queued j a t));
     };
+    long = refl;
     grows = λ x. omega arith;
     away = λ x a. refl;
     seen = λ q s. elim (ℕ-discrete q (p + 1)) as (λ _. Seen (set Q (514 + p) 1) q) [

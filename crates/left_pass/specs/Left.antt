@@ -21,6 +21,7 @@ use Rattle.reach.specs.Lists.{Shape, Homes, Members}
 -- bytes of the place i grow, dots are opened, and what is lifted is put into the queue
 pub record Stir (size low : ℕ) (M Q M' Q' : List ℕ) (i : ℕ) : Type 0 where
   pub kept : Kept size low M' Q' i
+  pub long : length M' ≡ length M
   pub grows : (x : ℕ) → getD M x 0 ≤ getD M' x 0
   pub away : (x : ℕ) → (x < 1536 * i) ⊎ (1536 * i + 1536 ≤ x) → getD M' x 0 ≡ getD M x 0
   pub seen : (p : ℕ) → Seen Q p → Seen Q' p
@@ -91,7 +92,7 @@ pub record Given (Tb c : List ℕ) (R : Text) (size : ℕ) (M : List ℕ) : Type
   pub token : (p : ℕ) (x : Terminal) → p < size → nextKind c p ≡ 1 → TerminalAt Tb (tokenAt Tb p) x → Token Tb p x
   pub goes : (p : ℕ) (x : Terminal) → p < size → nextKind c p ≡ 1 → Token Tb p x → goesAt c p ≡ width x
   pub short : length R ≤ 200
-  pub marks-long : length M ≡ 308736
+  pub marks-long : 1536 * length R + 1536 ≤ length M
 
 -- terminals of the dots from a on before b take their characters at the place i
 pub record Shifted (Tb c : List ℕ) (R : Text) (size : ℕ) (M M' : List ℕ) (i a b : ℕ) : Type 0 where
@@ -112,7 +113,7 @@ pub record Lefting (Tb c : List ℕ) (R : Text) (size top : ℕ) (M : List ℕ) 
 
 -- the pass is done; it answers whether the root's rule may end at the record's end
 pub record Lefted (Tb c : List ℕ) (R : Text) (size top : ℕ) (M : List ℕ) (r : Bool) : Type 0 where
-  pub long : length M ≡ 308736
+  pub long : 1536 * length R + 1536 ≤ length M
   pub closed : LeftClosed (Token Tb) c R size top M
   pub only : FitsOnly (Token Tb) c R size M
   pub level : (e k : ℕ) → e < 512 → (beginAt M e k ≤ 1) × (endAt M e k ≤ 1)

@@ -3,7 +3,7 @@
 ghost use mathlib.Core.Bool.{true, false};
 ghost use mathlib.Core.List.{List};
 ghost use mathlib.Core.Path.{_≡_};
-ghost use Prim.Native.Nat.{ℕ, _+_, _<_, _≤_};
+ghost use Prim.Native.Nat.{ℕ, _+_, _*_, _<_, _≤_};
 ghost use lib.ListN.{length, getD};
 ghost use Rattle.sparse.specs.Cells.{Shape};
 ghost use Rattle.sparse.specs.Steps.{Listed};
@@ -137,7 +137,7 @@ fn list_wake(code: &[u32], notes: &[u32], column: &mut [u32], size: usize, k: us
 
 // One more than the row by which the dot x hands on; 0 where it does not.
 fn hand_row(code: &[u32], marks: &[u8], x: usize, s: Stretch) -> usize
-    requires { ⌜ Shape (now code) (s .size) × (length (now marks) ≡ 308736) × (s .j .0 ≤ 200) × (x < s .size) ⌝ }
+    requires { ⌜ Shape (now code) (s .size) × (1536 * s .j .0 + 1536 ≤ length (now marks)) × (s .j .0 ≤ 200) × (x < s .size) ⌝ }
     ensures { λ r. ⌜ (r ≡ 0 → Keeping (now (code .entry)) (now (marks .entry)) (s .j .0) x)
         × ((y : ℕ) → r ≡ y + 1 → Handing (now (code .entry)) (now (marks .entry)) (s .size) (s .j .0) x y) ⌝ }
 {
@@ -162,7 +162,7 @@ fn hand_row(code: &[u32], marks: &[u8], x: usize, s: Stretch) -> usize
 
 // The listed dot k, if it hands on.
 fn list_hand(code: &[u32], marks: &[u8], column: &mut [u32], k: usize, s: Stretch)
-    requires { ⌜ Shape (now code) (s .size) × (length (now marks) ≡ 308736) × (s .j .0 ≤ 200) × (length (now column) ≡ 3789) × (k < 512) × (getD (now column) k 0 < s .size)
+    requires { ⌜ Shape (now code) (s .size) × (1536 * s .j .0 + 1536 ≤ length (now marks)) × (s .j .0 ≤ 200) × (length (now column) ≡ 3789) × (k < 512) × (getD (now column) k 0 < s .size)
         × (getD (now column) 2050 0 ≤ k) ⌝ }
     ensures { λ _. ⌜ ((F : List ℕ) → k < getD (now (column .entry)) 512 0 → Sorted (now (code .entry)) (now (marks .entry)) F (s .size) (s .j .0) (k + 1) k (now (column .entry))
         → Sorted (now (code .entry)) (now (marks .entry)) F (s .size) (s .j .0) (k + 1) (k + 1) (now (column .exit))) ⌝ }
@@ -176,7 +176,7 @@ fn list_hand(code: &[u32], marks: &[u8], column: &mut [u32], k: usize, s: Stretc
 
 // Lists the rows and dots that stretches which are not empty go by.
 pub fn list_rows(code: &[u32], marks: &[u8], notes: &[u32], column: &mut [u32], s: Stretch)
-    requires { ⌜ Shape (now code) (s .size) × (length (now marks) ≡ 308736) × (length (now notes) ≡ 2048) × (s .j .0 ≤ 200)
+    requires { ⌜ Shape (now code) (s .size) × (1536 * s .j .0 + 1536 ≤ length (now marks)) × (length (now notes) ≡ 2048) × (s .j .0 ≤ 200)
         × Listed (now code) (now marks) (s .size) (s .j .0) (now column) × UnitsTo (now code) (now notes) (s .size) (now column) ⌝ }
     ensures { λ _. ⌜ Rows (now (code .entry)) (now (marks .entry)) (s .size) (s .j .0) (now (notes .entry)) (now (column .exit)) ⌝ }
 {

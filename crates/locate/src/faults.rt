@@ -65,7 +65,7 @@ fn at_fault(table: &[u32], k: usize, index: &[u32], n: usize, before: usize, rul
     if rule == refusals::REPEATED_RULE {
         return repeats(table, k, index, before);
     }
-    static_errors::breaks(table, k, index, n, rule)
+    static_errors::breaks(table, k, index, n, rule, 0)
 }
 
 // Of a range that breaks 7 or 8, whether its second end alone does.

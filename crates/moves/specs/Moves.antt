@@ -64,7 +64,7 @@ pub record Landed (M : List ℕ) (p width n y z : ℕ) : Type 0 where
   pub is : z ≡ y + width
 
 pub record Shifting (M : List ℕ) (p width n : ℕ) : Type 0 where
-  pub long : length M ≡ 308736
+  pub long : 1536 * n + 1536 ≤ length M
   pub small : p < 512
   pub short : n ≤ 200
 
@@ -99,6 +99,6 @@ pub record Stepped (c M : List ℕ) (n : ℕ) (t : List ℕ) (p : ℕ) (S s : Li
 pub record Stepping (c M : List ℕ) (size n p main : ℕ) : Type 0 where
   pub shape : Shape c size
   pub short : n ≤ 200
-  pub marks-long : length M ≡ 308736
+  pub marks-long : 1536 * n + 1536 ≤ length M
   pub room : size * stretches n ≤ main
   pub inside : p < size

@@ -15,6 +15,8 @@ use Rattle.viable.specs.Fault.{FaultAt}
 use Rattle.reading.specs.declared.Walked.{Walked}
 use Rattle.reading.specs.declared.Walked.the-variants as walked
 use Rattle.reading.specs.Answer.{IsReading, IsLong}
+use Rattle.quick_reading.specs.declared.Tried.{Tried}
+use Rattle.quick_reading.specs.declared.Tried.the-variants as tried
 use Rattle.parser.specs.declared.Chosen.{Chosen}
 use Rattle.parser.specs.declared.Chosen.the-variants.{Reading, TooLong, NoReading}
 
@@ -27,13 +29,24 @@ chosenOf (walked.Reading n m) = Reading n m
 chosenOf walked.TooLong = TooLong
 chosenOf walked.NoReading = NoReading (record { 0 = 0 })
 
+-- what the quick engine comes to, with the place of the fault
+abbrev pub triedOf : Tried → CharPlace → Chosen
+triedOf (tried.Walked (walked.Reading n m)) k = Reading n m
+triedOf (tried.Walked walked.TooLong) k = TooLong
+triedOf (tried.Walked walked.NoReading) k = NoReading k
+triedOf tried.Doubtful k = NoReading k
+
 -- why there is no reading to answer
 pub data Refusal : Type 0 where
   too-long : Refusal
   no-reading : ℕ → Refusal
 
+-- no row derives the record, of such a grammar and record
+abbrev pub Underived : Grammar → Text → Type 0
+Underived g r = unproductive g ≡ false → T (all known r) → (t : Row) → Derivation g r t → ⊥
+
 pub record Fails (g : Grammar) (r : Text) (k : ℕ) : Type 0 where
-  pub none : (t : Row) → Derivation g r t → ⊥
+  pub none : Underived g r
   pub fault : Fault g r k
 
 abbrev pub NotChosen : Grammar → Text → Refusal → Type 0

@@ -38,7 +38,7 @@ module _ {c f M F H : List ℕ} {R : Text} {size top first : ℕ} {g : Grammar} 
         r = R;
         long = refl;
         code = whole-code k m s l;
-        tables = record { shape = shape k m s l; noted = n .0; short = a .short; marks-long = m .long; room = a .room };
+        tables = record { shape = shape k m s l; noted = n .0; short = a .short; marks-long = omega (arith, m .long, a .short); room = a .room };
         stays = whole-stays k m s l;
         least = whole-least k m s l (a .short) (a .fits-room) F H heights (n .1);
         attained = whole-attained k m s l (a .short) (a .fits-room) F H heights (n .1);

@@ -1,6 +1,6 @@
 // The quick engine: fills the part of the main table that derivations of the whole record can use, one end after the other, the stretches of
 // an end from the shortest on. Each is settled before it hands on to longer ones.
-ghost use mathlib.Core.Bool.{false};
+ghost use mathlib.Core.Bool.{true, false};
 ghost use mathlib.Core.List.{List};
 ghost use mathlib.Core.Path.{_≡_};
 ghost use Prim.Native.Nat.{ℕ, _+_, _*_, _<_, _≤_};
@@ -33,6 +33,9 @@ use sparse::wanted;
 use spread::spread;
 use spread::spread_empty;
 use text::CharPlace;
+
+// How many columns are filled from one look for a doubt to the next.
+const COLUMNS_BETWEEN_LOOKS: usize = 8;
 
 // Whether x has a row: the end that names a rule; a dot that is neither first, nor an end, nor before a last symbol.
 fn has_row(code: &[u32], size: usize, x: usize) -> bool
@@ -212,10 +215,103 @@ fn fill_column(
     }
 }
 
-// Fills the main table of a record of n characters.
-pub fn fill(code: &[u32], marks: &[u8], notes: &[u32], size: usize, n: CharPlace, main: &mut [u32])
+// Whether the rule that x names has a height on a stretch that ends at j and is not empty.
+fn has_height(main: &[u32], x: usize, s: Stretch) -> bool
+    requires { ⌜ (s .size ≤ 512) × (s .n .0 ≤ 200) × (s .size * stretches (s .n .0) ≤ length (now main)) × (x < s .size) × (s .j .0 ≤ s .n .0) ⌝ }
+{
+    let y = cell(s.n.0, x, 0, s.j.0);
+    let mut i = 0;
+    while i < s.j.0 {
+        if main[y + i] < NONE {
+            return true;
+        }
+        i += 1;
+    }
+    false
+}
+
+// Whether x names a rule that is wanted to end at j.
+fn wants_rule(code: &[u32], marks: &[u8], x: usize, s: Stretch) -> bool
+    requires { ⌜ Shape (now code) (s .size) × (1536 * s .j .0 + 1536 ≤ length (now marks)) × (x < s .size) × (s .j .0 ≤ 200) ⌝ }
+{
+    if code[CODE_COLUMNS * x] != AT_END {
+        return false;
+    }
+    if code[CODE_COLUMNS * x + CODE_GOES] != 0 {
+        return false;
+    }
+    wanted(marks, x, s.j)
+}
+
+// Whether rules are wanted to end at j, and none of them does on a stretch that is not empty.
+fn is_idle(code: &[u32], marks: &[u8], main: &[u32], s: Stretch) -> bool
+    requires { ⌜ Shape (now code) (s .size) × (1536 * s .n .0 + 1536 ≤ length (now marks)) × (s .n .0 ≤ 200) × (s .size * stretches (s .n .0) ≤ length (now main)) × (s .j .0 ≤ s .n .0) ⌝ }
+{
+    let mut some = false;
+    let mut x = 0;
+    while x < s.size {
+        if wants_rule(code, marks, x, s) {
+            if has_height(main, x, s) {
+                return false;
+            }
+            some = true;
+        }
+        x += 1;
+    }
+    some
+}
+
+// Whether the record is likely to have no reading: the two columns before j are idle. Nothing rests on the answer but time.
+fn is_doubtful(code: &[u32], marks: &[u8], main: &[u32], s: Stretch) -> bool
+    requires { ⌜ Shape (now code) (s .size) × (1536 * s .n .0 + 1536 ≤ length (now marks)) × (s .n .0 ≤ 200) × (s .size * stretches (s .n .0) ≤ length (now main)) × (s .j .0 ≤ s .n .0) ⌝ }
+{
+    if s.j.0 < 2 {
+        return false;
+    }
+    let n = s.n;
+    let j = CharPlace(s.j.0 - 1);
+    if j.0 % COLUMNS_BETWEEN_LOOKS != 0 {
+        return false;
+    }
+    if !is_idle(
+        code,
+        marks,
+        main,
+        Stretch {
+            size: s.size,
+            n,
+            i: j,
+            j,
+        },
+    ) {
+        return false;
+    }
+    let k = CharPlace(s.j.0 - 2);
+    is_idle(
+        code,
+        marks,
+        main,
+        Stretch {
+            size: s.size,
+            n,
+            i: k,
+            j: k,
+        },
+    )
+}
+
+// Fills the main table of a record of n characters; false: it stopped at a doubt, if it may.
+pub fn fill(
+    code: &[u32],
+    marks: &[u8],
+    notes: &[u32],
+    size: usize,
+    n: CharPlace,
+    main: &mut [u32],
+    stops: bool,
+) -> bool
     requires { ⌜ Tables (now code) (now marks) (now notes) size (n .0) (length (now main)) × Empties (now code) (now notes) size ⌝ }
-    ensures { λ _. ⌜ Filled (now (code .entry)) (now (marks .entry)) (now (notes .entry)) size (n .0) (now (main .exit)) ⌝ }
+    ensures { λ r. ⌜ (r ≡ true → Filled (now (code .entry)) (now (marks .entry)) (now (notes .entry)) size (n .0) (now (main .exit))) × (stops ≡ false → r ≡ true) ⌝ }
 {
     let mut queue = [0u32; QUEUE];
     let mut column = [0u32; COLUMN];
@@ -228,7 +324,13 @@ pub fn fill(code: &[u32], marks: &[u8], notes: &[u32], size: usize, n: CharPlace
             i: j,
             j: j,
         };
+        if stops {
+            if is_doubtful(code, marks, main, s) {
+                return false;
+            }
+        }
         fill_column(code, marks, notes, main, &mut queue, &mut column, s);
         j = CharPlace(j.0 + 1);
     }
+    true
 }

@@ -1,11 +1,13 @@
 -- From what the stages promise to what the walk is given.
-use mathlib.Core.Bool.{Bool, false}
-use mathlib.Core.List.{List}
+use mathlib.Core.Bool.{Bool, true, false}
+use mathlib.Core.List.{List, [], _∷_}
+use mathlib.Core.Logic.{⊎-elim}
 use mathlib.Core.Path.{_≡_, refl, sym, subst}
 use Prim.Native.Nat.{ℕ, _*_, _≤_}
 use native.Mathlib.Omega.{arith}
+use denote.Enum.Declared.{tagOf}
+use types.Run.{OneOf}
 use lib.ListN.{length}
-use Rattle.text.specs.Limits.{mostSize, recordChars}
 use Rattle.text.specs.Lists.{Text}
 use Rattle.tree.specs.Tree.{Grammar}
 use Rattle.chart.specs.Code.{Ruled}
@@ -14,80 +16,63 @@ use Rattle.rules.specs.Ready.{Token}
 use Rattle.left_pass.specs.Left.{Lefted}
 use Rattle.right_pass.specs.Right.{Righted}
 use Rattle.right_pass.proofs.Given.{no-derivation}
-use Rattle.sparse.specs.Cells.{Noted, Tables}
-use Rattle.sparse.specs.Steps.{Empties}
+use Rattle.reach.specs.Flags.{Wanted}
+use Rattle.sparse.specs.Cells.{Tables}
 use Rattle.sparse.proofs.Coded.{shape-of, flag-code, flag-stays, flag-root}
 use Rattle.sparse.proofs.Empty.{least-all}
+use Rattle.text.proofs.Tests.{look, clash}
 use Rattle.quick.specs.Quick.{Filled}
 use Rattle.reading.specs.declared.Walked.{Walked}
-use Rattle.reading.specs.Answer.{Finished, NotRead, no-reading, Answers}
-use Rattle.quick_reading.specs.Readable.{Readable, Flagged}
-
--- the passes and the notes are done
-pub record Staged (Tb c M F : List ℕ) (R : Text) (size top main : ℕ) : Type 0 where
-  pub small : size ≤ mostSize
-  pub code-room : 4 * size ≤ length c
-  pub short : length R ≤ recordChars
-  pub room : size * stretches (length R) ≤ main
-  pub flags : Righted Tb c R size top M
-  pub noted : Noted c size F
-  pub empties : Empties c F size
-
-pub staged : {Tb c M₀ M F : List ℕ} {R : Text} {size n top first main main' parse : ℕ} → Readable Tb c R M₀ size n top first main parse → main' ≡ main
-    → Righted Tb c R size top M → Noted c size F × Empties c F size → Staged Tb c M F R size top main'
-staged a e f n = record {
-  small = a .small;
-  code-room = omega (arith, a .small, a .code-long);
-  short = a .short;
-  room = omega (arith, a .room);
-  flags = f;
-  noted = n .0;
-  empties = n .1;
-}
-
-module _ {Tb c M F : List ℕ} {R : Text} {size top first : ℕ} {g : Grammar} (k : Ruled (Token Tb) c g size top first) where
-  pub tables-of : {main : ℕ} → Staged Tb c M F R size top main → Tables c M F size (length R) main
-  tables-of s = record {
-    shape = shape-of k (s .small) (s .code-room);
-    noted = s .noted;
-    short = s .short;
-    marks-long = s .flags .long;
-    room = s .room;
-  }
-
-  module _ {H : List ℕ} (s : Staged Tb c M F R size top (length H)) (f : Filled c M F size (length R) H) where
-    unfoldable pub finished : Finished c M F H size (length R) top first
-    finished =
-        let code = flag-code k (s .flags .left) (s .flags .only) in
-        record {
-          g = g;
-          r = R;
-          long = refl;
-          code = code;
-          tables = tables-of s;
-          stays = flag-stays k (s .flags .left) (s .flags .only) (s .flags .right);
-          least = least-all (s .empties) M (length R) H (f .least);
-          attained = λ i j h l. f .sound g R top first code refl i j h (omega arith) l;
-          live = s .flags .right .root;
-          used = flag-root k (s .flags .left) (s .flags .only);
-        }
-
--- the root's rule does not reach the record's end
-pub not-read : {Tb c M : List ℕ} {R : Text} {size top first : ℕ} {g : Grammar} {r : Bool} → Ruled (Token Tb) c g size top first → Lefted Tb c R size top M r → r ≡ false
-    → NotRead g R 16
-not-read k l e = no-reading (λ t d. no-derivation k l e d)
+use Rattle.reading.specs.declared.Walked.the-variants as walked
+use Rattle.reading.proofs.Walked.{the-type}
+use Rattle.reading.specs.Answer.{Finished, NotRead, no-reading}
+use Rattle.quick_reading.specs.declared.Tried.the-variants as tried
+use Rattle.quick_reading.specs.Readable.{Flagged, Passed, Staged, isAnswer}
 
 -- what the pass from the left flags, and what the one from the right leaves of it
 pub left-flagged : {Tb c M : List ℕ} {R : Text} {size top : ℕ} {r : Bool} → Lefted Tb c R size top M r → Flagged Tb c R size top M
 left-flagged l = record { long = l .long; closed = l .closed; only = l .only }
 
-pub right-flagged : {Tb c M : List ℕ} {R : Text} {size top : ℕ} → Righted Tb c R size top M → Flagged Tb c R size top M
-right-flagged l = record { long = l .long; closed = l .left; only = l .only }
+-- the root's rule does not reach the record's end
+pub passed-left : {Tb c M : List ℕ} {R : Text} {size top first : ℕ} {b r : Bool} → Lefted Tb c R size top M b → b ≡ false → r ≡ false → Passed Tb c R size top first M r
+passed-left l e z = record { left = left-flagged l; both = λ y. absurd (clash z y); none = λ _ g k. no-reading (λ t d. no-derivation k l e d) }
 
--- what the walk answers, at the record's end
-pub answers : {Tb c M₀ M F H : List ℕ} {R : Text} {size n top first main parse : ℕ} {g : Grammar} (out : List ℕ) (r : Walked) → Ruled (Token Tb) c g size top first
-    → Readable Tb c R M₀ size n top first main parse → Staged Tb c M F R size top (length H) → Filled c M F size n H
-    → ((t : Finished c M F H size n top first) → Answers (t .g) (t .r) out r) → Answers g R out r
-unfolding finished
-answers {Tb} {c} {M₀} {M} {F} {H} {R} {size} {n} {top} {first} {g = g} out r k a s f w =
-    subst (λ (x : ℕ). Filled c M F size x H → ((t : Finished c M F H size x top first) → Answers (t .g) (t .r) out r) → Answers g R out r) (sym (a .ends)) (λ f w. w (finished k s f)) f w
+pub passed-both : {Tb c M : List ℕ} {R : Text} {size top first : ℕ} {r : Bool} → Righted Tb c R size top M → r ≡ true → Passed Tb c R size top first M r
+passed-both l e = record { left = record { long = l .long; closed = l .left; only = l .only }; both = λ _. l; none = λ z. absurd (clash z e) }
+
+-- an engine that did not fill the table may stop
+pub stopped : {stops r : Bool} → (stops ≡ false → r ≡ true) → r ≡ false → stops ≡ true
+stopped {stops} f e = ⊎-elim (λ q. q) (λ q. absurd (clash e (f q))) (look stops)
+
+-- a walk that does not say that there is no reading
+pub walked-answer : (w : Walked) → OneOf (0 ∷ 1 ∷ []) (tagOf the-type w) → true ≡ isAnswer (tried.Walked w)
+walked-answer (walked.Reading n m) h = refl
+walked-answer walked.TooLong h = refl
+walked-answer walked.NoReading h = absurd (⊎-elim (λ q. omega arith) (λ q. omega arith) h)
+
+module _ {c M F : List ℕ} {size n top first : ℕ} (s : Staged c M F size n top first) where
+  pub tables-of : {main : ℕ} → size * stretches n ≤ main → Tables c M F size n main
+  tables-of room = record {
+    shape = shape-of (s .code) (s .small) (s .code-room);
+    noted = s .noted;
+    short = omega (arith, s .short, s .ends);
+    marks-long = omega (arith, s .flags .long, s .ends);
+    room = room;
+  }
+
+  module _ {H : List ℕ} (room : size * stretches n ≤ length H) (f : Filled c M F size n H) where
+    unfoldable pub finished : Finished c M F H size n top first
+    finished =
+        let code = flag-code (s .code) (s .flags .left) (s .flags .only) in
+        record {
+          g = s .g;
+          r = s .r;
+          long = sym (s .ends);
+          code = code;
+          tables = tables-of room;
+          stays = flag-stays (s .code) (s .flags .left) (s .flags .only) (s .flags .right);
+          least = least-all (s .empties) M n H (f .least);
+          attained = λ i j h l. f .sound (s .g) (s .r) top first code (sym (s .ends)) i j h (omega arith) l;
+          live = subst (Wanted M top) (sym (s .ends)) (s .flags .right .root);
+          used = flag-root (s .code) (s .flags .left) (s .flags .only);
+        }

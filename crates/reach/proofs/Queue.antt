@@ -83,11 +83,12 @@ pub waits-from : {Q : List ℕ} {h l p : ℕ} → h ≤ l → Waits Q l p → Wa
 waits-from h w = record { at = w .at; after = omega (arith, w .after); before = w .before; is = w .is }
 
 pub grown-none : {size low i : ℕ} {M Q : List ℕ} → Kept size low M Q i → Grown size low M Q M Q i
-grown-none k = record { kept = k; cell = λ x. inl refl; rest = λ x h. refl; more = omega arith; same = λ x h l. refl; fresh = λ p h l. inl l }
+grown-none k = record { kept = k; long = refl; cell = λ x. inl refl; rest = λ x h. refl; more = omega arith; same = λ x h l. refl; fresh = λ p h l. inl l }
 
 pub grown-join : {size low i : ℕ} {M Q M₁ Q₁ M₂ Q₂ : List ℕ} → Grown size low M Q M₁ Q₁ i → Grown size low M₁ Q₁ M₂ Q₂ i → Grown size low M Q M₂ Q₂ i
 grown-join {low = low} {i} {M} {Q} {M₁} {Q₁} {M₂} {Q₂} a b = record {
   kept = b .kept;
+  long = b .long ∙ a .long;
   cell = λ x. ⊎-elim
       (λ e. ⊎-elim (λ f. inl (e ∙ f)) (λ f. inr (record { was = f .was; now-is = e ∙ f .now-is; from = f .from; to = f .to })) (a .cell x))
       (λ e. ⊎-elim (λ f. inr (record { was = sym f ∙ e .was; now-is = e .now-is; from = e .from; to = e .to })) (λ f. absurd (omega (arith, e .was, f .now-is))) (a .cell x))
@@ -149,7 +150,7 @@ module _ {size low i p : ℕ} {M Q : List ℕ} (k : Kept size low M Q i) (hp : p
           small = k .small;
           levels = k .levels;
           on = k .on;
-          marks-long = raised .long ∙ k .marks-long;
+          marks-long = omega (arith, raised .long, k .marks-long);
           work-long = length-set Q₁ (tailOf Q + 1) p ∙ length-set Q 0 (tailOf Q + 1) ∙ k .work-long;
           count = omega (arith, k .count, less, tail-is);
           queued = λ j h l. elim (ℕ-discrete j (tailOf Q + 1)) as (λ _. (getD Q₂ j 0 < size) × (low < dotAt M' (getD Q₂ j 0) i)) [
@@ -158,6 +159,7 @@ module _ {size low i p : ℕ} {M Q : List ℕ} (k : Kept size low M Q i) (hp : p
                 subst (λ (y : ℕ). (y < size) × (low < dotAt M' y i)) (sym (old-is j h z)) (o .0, omega (arith, o .1, raised-le raised (1536 * i + getD Q j 0))))
           ];
         };
+        long = raised .long;
         cell = λ y. ⊎-elim inl
             (λ z. inr (record { was = ap (λ (v : ℕ). getD M v 0) (z .0) ∙ e; now-is = z .2; from = omega (arith, z .0); to = omega (arith, z .0, k .small, hp) }))
             (raised .cell y);
@@ -218,7 +220,7 @@ kept-more {low = low} {i} {M} {M'} {Q} k l h = record {
   small = k .small;
   levels = k .levels;
   on = k .on;
-  marks-long = l ∙ k .marks-long;
+  marks-long = omega (arith, l, k .marks-long);
   work-long = k .work-long;
   count = omega (arith, k .count, count-le low M M' (1536 * i) 512 h);
   queued = λ j a b. (let o = k .queued j a b in (o .0, omega (arith, o .1, h (1536 * i + getD Q j 0))));
@@ -234,6 +236,7 @@ module _ {size dots low column i e : ℕ} {L M Q : List ℕ} (w : Waking size do
   pub wake-none : (getD M y 0 ≡ low → ⊥) → Woken size dots low column L M Q M Q i e
   wake-none n = record {
     kept = w .spreads .kept;
+    long = refl;
     cell = λ x. inl (inl refl);
     rest = λ x h. refl;
     more = omega arith;
@@ -253,6 +256,7 @@ module _ {size dots low column i e : ℕ} {L M Q : List ℕ} (w : Waking size do
     pub wake-some : {M' Q' : List ℕ} → Spread size dots L M₁ Q M' Q' i e → Woken size dots low column L M Q M' Q' i e
     wake-some {M'} s = record {
       kept = s .grown .kept;
+      long = s .grown .long ∙ r .long;
       cell = λ x. ⊎-elim
           (λ a. ⊎-elim (λ b. inl (inl (a ∙ b))) (λ b. inr (b .0, ap (λ (v : ℕ). getD M v 0) (b .0) ∙ z, a ∙ b .2)) (r .cell x))
           (λ a. inl (inr (record { was = sym (dot-same x (a .to)) ∙ a .was; now-is = a .now-is; from = a .from; to = a .to })))

@@ -33,7 +33,7 @@ pub record Kept (size low : ℕ) (M Q : List ℕ) (i : ℕ) : Type 0 where
   pub small : size ≤ 512
   pub levels : low ≤ 2
   pub on : i ≤ 200
-  pub marks-long : length M ≡ 308736
+  pub marks-long : 1536 * i + 1536 ≤ length M
   pub work-long : length Q ≡ 1537
   -- each dot is put into the queue once
   pub count : tailOf Q + atMost low M (1536 * i) 512 ≤ 512
@@ -49,6 +49,7 @@ pub record Lifted (low : ℕ) (M M' : List ℕ) (i x : ℕ) : Type 0 where
 -- dots are lifted, and put into the queue
 pub record Grown (size low : ℕ) (M Q M' Q' : List ℕ) (i : ℕ) : Type 0 where
   pub kept : Kept size low M' Q' i
+  pub long : length M' ≡ length M
   pub cell : (x : ℕ) → (getD M' x 0 ≡ getD M x 0) ⊎ Lifted low M M' i x
   pub rest : (x : ℕ) → 512 < x → getD Q' x 0 ≡ getD Q x 0
   pub more : tailOf Q ≤ tailOf Q'
@@ -90,6 +91,7 @@ pub record Raised (M M' : List ℕ) (x v : ℕ) : Type 0 where
 -- a rule's byte in a column is lifted above `low`, and the dots of its list above `dots`
 pub record Woken (size dots low column : ℕ) (L M Q M' Q' : List ℕ) (i e : ℕ) : Type 0 where
   pub kept : Kept size dots M' Q' i
+  pub long : length M' ≡ length M
   pub cell : (x : ℕ) → ((getD M' x 0 ≡ getD M x 0) ⊎ Lifted dots M M' i x)
       ⊎ ((x ≡ 1536 * i + (column + e)) × (getD M x 0 ≡ low) × (getD M' x 0 ≡ low + 1))
   pub rest : (x : ℕ) → 512 < x → getD Q' x 0 ≡ getD Q x 0
@@ -110,7 +112,7 @@ pub record Collecting (size low : ℕ) (M Q₀ Q : List ℕ) (i p : ℕ) : Type 
   pub small : size ≤ 512
   pub levels : low ≤ 2
   pub on : i ≤ 200
-  pub marks-long : length M ≡ 308736
+  pub marks-long : 1536 * i + 1536 ≤ length M
   pub work-long : length Q ≡ 1537
   pub below : p ≤ size
   pub count : tailOf Q + atMost low M (1536 * i) p ≤ p
@@ -122,7 +124,7 @@ pub record Collects (size low : ℕ) (M Q : List ℕ) (i : ℕ) : Type 0 where
   pub small : size ≤ 512
   pub levels : low ≤ 2
   pub on : i ≤ 200
-  pub marks-long : length M ≡ 308736
+  pub marks-long : 1536 * i + 1536 ≤ length M
   pub work-long : length Q ≡ 1537
 
 pub record Collected (size low : ℕ) (M Q Q' : List ℕ) (i : ℕ) : Type 0 where

@@ -37,6 +37,7 @@ module _ {size low i : ℕ} {M Q : List ℕ} (p : ℕ) (k : Kept size low M Q i)
       queued = λ j a b. (let t : j ≤ tailOf Q = omega (arith, open-other 0 (λ z. omega arith)) in
           subst (λ (y : ℕ). (y < size) × (low < dotAt M y i)) (sym (open-other j (λ z. omega (arith, k .count)))) (k .queued j a t));
     };
+    long = refl;
     grows = λ x. omega arith;
     away = λ x a. refl;
     seen = λ q s. elim (ℕ-discrete q p) as (λ _. Seen (set Q (513 + p) 1) q) [

@@ -61,7 +61,7 @@ module _ {Tb c : List ℕ} {g : Grammar} {size top first : ℕ} (w : Ruled (Toke
       v ∙ sym (width-at Tb (tokenAt Tb p) y (t .1 .more) (t .1 .stands)) ∙ width-at Tb (tokenAt Tb p) x (a .more) (a .stands)
   goes-of p x k a (at-symbol s z _ e _ r d) = absurd (omega arith)
 
-  pub given-of : {R : Text} {M : List ℕ} → length Tb ≡ grammarTable → size ≤ 512 → 4 * size ≤ length c → length R ≤ 200 → length M ≡ 308736 → Given Tb c R size M
+  pub given-of : {R : Text} {M : List ℕ} → length Tb ≡ grammarTable → size ≤ 512 → 4 * size ≤ length c → length R ≤ 200 → 1536 * length R + 1536 ≤ length M → Given Tb c R size M
   given-of t s r h m = record {
     table-long = t;
     shape = shape-of s r;

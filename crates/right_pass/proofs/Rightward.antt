@@ -60,7 +60,7 @@ module _ {c : List ℕ} {size j p : ℕ} {M : List ℕ} (g : Unshifting c size M
     }
 
 pub unshifting-next : {c : List ℕ} {size j : ℕ} {M M' : List ℕ} → Unshifting c size M j → length M' ≡ length M → Unshifting c size M' j
-unshifting-next g l = record { shape = g .shape; on = g .on; marks-long = l ∙ g .marks-long }
+unshifting-next g l = record { shape = g .shape; on = g .on; marks-long = omega (arith, l, g .marks-long) }
 
 pub unshift-start : (c : List ℕ) (size : ℕ) (M : List ℕ) (j : ℕ) → Unshifted c size M M j 0 0
 unshift-start c size M j = record {
@@ -143,8 +143,9 @@ closed-more {c = c} {k = k} s a e g two = record {
 }
 
 -- the places from i on are closed
-pub record Passing (Tb c : List ℕ) (R : Text) (size top : ℕ) (M Q : List ℕ) (i : ℕ) : Type 0 where
-  pub long : length M ≡ 308736
+pub record Passing (Tb c : List ℕ) (R : Text) (size top len : ℕ) (M Q : List ℕ) (i : ℕ) : Type 0 where
+  pub long : length M ≡ len
+  pub room : 1536 * length R + 1536 ≤ len
   pub work-long : length Q ≡ 1537
   pub left : LeftClosed (Token Tb) c R size top M
   pub only : FitsOnly (Token Tb) c R size M
@@ -156,9 +157,9 @@ pub record Passing (Tb c : List ℕ) (R : Text) (size top : ℕ) (M Q : List ℕ
   pub end : (p k : ℕ) → p < size → k < i → nextKind c p ≡ 0 → Wanted M (homeOf c p) k → Fits M p k → Continued M p k
   pub begin : (e k : ℕ) → e < 512 → k < i → beginAt M e k ≤ 1
 
-module _ {Tb c : List ℕ} {R : Text} {size top j : ℕ} {M₀ M Q : List ℕ} (g : Righting Tb c R size top M₀) (a : Passing Tb c R size top M Q (j + 1)) (on : j ≤ length R) where
+module _ {Tb c : List ℕ} {R : Text} {size top len j : ℕ} {M₀ M Q : List ℕ} (g : Righting Tb c R size top M₀) (a : Passing Tb c R size top len M Q (j + 1)) (on : j ≤ length R) where
   pub back-collects : Collects size 2 M Q j
-  back-collects = record { small = g .shape .small; levels = omega arith; on = omega (arith, g .short); marks-long = a .long; work-long = a .work-long }
+  back-collects = record { small = g .shape .small; levels = omega arith; on = omega (arith, g .short); marks-long = omega (arith, a .long, a .room); work-long = a .work-long }
 
   module _ {U E : List ℕ} (u : Members c 3 size U) (e : Members c 2 size E) {Q₁ : List ℕ} (l : Collected size 2 M Q Q₁ j) where
     pub back-closing : Closing c size U E M Q₁ j
@@ -235,9 +236,10 @@ module _ {Tb c : List ℕ} {R : Text} {size top j : ℕ} {M₀ M Q : List ℕ} (
               omega (arith, d .stepped .wants .back p h k x (sees p i h b t k r) (s .twos p j (small p h) f), s .grows (1536 * j + p)));
         }
 
-        pub back-next : Passing Tb c R size top M₃ Q₂ j
+        pub back-next : Passing Tb c R size top len M₃ Q₂ j
         back-next = record {
-          long = s .long ∙ d .stepped .stir .kept .marks-long;
+          long = s .long ∙ d .stepped .stir .long ∙ a .long;
+          room = a .room;
           work-long = d .stepped .stir .kept .work-long;
           left = left-same (g .shape .small) grows one (a .left);
           only = λ p i x h b k f t. a .only p i x h b k (two p i (small p h) f) t;
@@ -271,9 +273,9 @@ module _ {Tb c : List ℕ} {R : Text} {size top j : ℕ} {M₀ M Q : List ℕ} (
             bound : (p : ℕ) → p < size → homeOf c p < 512
             bound p h = omega (arith, home-below (g .shape) p h, g .shape .small)
 
-pub back-end : {Tb c : List ℕ} {R : Text} {size top : ℕ} {M Q : List ℕ} → Passing Tb c R size top M Q 0 → Righted Tb c R size top M
+pub back-end : {Tb c : List ℕ} {R : Text} {size top len : ℕ} {M Q : List ℕ} → Passing Tb c R size top len M Q 0 → Righted Tb c R size top M
 back-end {c = c} a = record {
-  long = a .long;
+  long = omega (arith, a .long, a .room);
   left = a .left;
   only = a .only;
   right = record {
@@ -342,9 +344,10 @@ module _ {Tb c : List ℕ} {R : Text} {size top : ℕ} {M Q₀ Q₁ Q E : List �
         (w .woken was p (f .all p top l key) (opens p l (λ x. omega arith)) (twos p (length R) (omega (arith, shape .small)) (subst (λ (x : ℕ). Fits M₁ p x) (y .0) t)))))
         (w .cell (1536 * k + (1024 + homeOf c p)))
 
-    pub back-start : Passing Tb c R size top M₁ Q₂ (length R + 1)
+    pub back-start : Passing Tb c R size top (length M₁) M₁ Q₂ (length R + 1)
     back-start = record {
-      long = w .kept .marks-long;
+      long = refl;
+      room = omega (arith, w .long, g .marks-long);
       work-long = w .kept .work-long;
       left = left-same (shape .small) grown ones (g .closed);
       only = λ p i x l b k v t. g .only p i x l b k (twos p i (omega (arith, shape .small)) v) t;
@@ -360,8 +363,8 @@ module _ {Tb c : List ℕ} {R : Text} {size top : ℕ} {M Q₀ Q₁ Q E : List �
           (w .cell (1536 * k + (512 + e)));
     }
 
-pub back-at : {Tb c : List ℕ} {R : Text} {size top i : ℕ} {M Q : List ℕ} → Passing Tb c R size top M Q i → 0 < i → Passing Tb c R size top M Q ((i - 1) + 1)
-back-at {Tb} {c} {R} {size} {top} {i} {M} {Q} a h = subst (Passing Tb c R size top M Q) (let z : i ≡ (i - 1) + 1 = omega arith in z) a
+pub back-at : {Tb c : List ℕ} {R : Text} {size top len i : ℕ} {M Q : List ℕ} → Passing Tb c R size top len M Q i → 0 < i → Passing Tb c R size top len M Q ((i - 1) + 1)
+back-at {Tb} {c} {R} {size} {top} {len} {i} {M} {Q} a h = subst (Passing Tb c R size top len M Q) (let z : i ≡ (i - 1) + 1 = omega arith in z) a
 
-pub back-done : {Tb c : List ℕ} {R : Text} {size top i : ℕ} {M Q : List ℕ} → Passing Tb c R size top M Q i → (0 < i → ⊥) → Righted Tb c R size top M
-back-done {Tb} {c} {R} {size} {top} {i} {M} {Q} a n = back-end (subst (Passing Tb c R size top M Q) (let z : i ≡ 0 = omega (arith, n) in z) a)
+pub back-done : {Tb c : List ℕ} {R : Text} {size top len i : ℕ} {M Q : List ℕ} → Passing Tb c R size top len M Q i → (0 < i → ⊥) → Righted Tb c R size top M
+back-done {Tb} {c} {R} {size} {top} {len} {i} {M} {Q} a n = back-end (subst (Passing Tb c R size top len M Q) (let z : i ≡ 0 = omega (arith, n) in z) a)

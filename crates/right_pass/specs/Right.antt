@@ -76,21 +76,21 @@ pub record Unshifted (c : List ℕ) (size : ℕ) (M M' : List ℕ) (j a b : ℕ)
 pub record Unshifting (c : List ℕ) (size : ℕ) (M : List ℕ) (j : ℕ) : Type 0 where
   pub shape : Shape c size
   pub on : j ≤ 200
-  pub marks-long : length M ≡ 308736
+  pub marks-long : 1536 * j + 1536 ≤ length M
 
 -- what the pass is given: flags from the left
 pub record Righting (Tb c : List ℕ) (R : Text) (size top : ℕ) (M : List ℕ) : Type 0 where
   pub shape : Shape c size
   pub short : length R ≤ 200
   pub inside : top < size
-  pub marks-long : length M ≡ 308736
+  pub marks-long : 1536 * length R + 1536 ≤ length M
   pub closed : LeftClosed (Token Tb) c R size top M
   pub only : FitsOnly (Token Tb) c R size M
   pub level : (e k : ℕ) → e < 512 → (beginAt M e k ≤ 1) × (endAt M e k ≤ 1)
   pub ends : Ends M top (length R)
 
 pub record Righted (Tb c : List ℕ) (R : Text) (size top : ℕ) (M : List ℕ) : Type 0 where
-  pub long : length M ≡ 308736
+  pub long : 1536 * length R + 1536 ≤ length M
   pub left : LeftClosed (Token Tb) c R size top M
   pub only : FitsOnly (Token Tb) c R size M
   pub right : RightClosed c (length R) size top M

@@ -69,7 +69,7 @@ pub record Reads (M F : List ℕ) (size n main : ℕ) : Type 0 where
   pub small : size ≤ mostSize
   pub noted-long : length F ≡ 2048
   pub short : n ≤ recordChars
-  pub marks-long : length M ≡ 308736
+  pub marks-long : 1536 * n + 1536 ≤ length M
   pub room : size * stretches n ≤ main
 
 -- the tables of a record of n characters
@@ -77,5 +77,5 @@ pub record Tables (c M F : List ℕ) (size n main : ℕ) : Type 0 where
   pub shape : Shape c size
   pub noted : Noted c size F
   pub short : n ≤ recordChars
-  pub marks-long : length M ≡ 308736
+  pub marks-long : 1536 * n + 1536 ≤ length M
   pub room : size * stretches n ≤ main

@@ -1,6 +1,6 @@
 // The part of the main table that is filled: its rows, and the heights that are read off it.
 ghost use mathlib.Core.Path.{_≡_};
-ghost use Prim.Native.Nat.{ℕ, _*_, _<_, _≤_, max};
+ghost use Prim.Native.Nat.{ℕ, _+_, _*_, _<_, _≤_, max};
 ghost use mathlib.Core.List.{List};
 ghost use lib.Dec.{leb};
 ghost use lib.ListN.{length};
@@ -80,7 +80,7 @@ pub struct Offer {
 
 // Whether the dot p may stand at the place i.
 pub fn reached(marks: &[u8], p: usize, i: CharPlace) -> bool
-    requires { ⌜ (length (now marks) ≡ 308736) × (p < 512) × (i .0 ≤ 200) ⌝ }
+    requires { ⌜ (1536 * i .0 + 1536 ≤ length (now marks)) × (p < 512) × (i .0 ≤ 200) ⌝ }
     ensures { λ r. ⌜ r ≡ leb 1 (dotAt (now (marks .entry)) p (i .0)) ⌝ }
 {
     REACHED <= marks[reach::PLACE * i.0 + p]
@@ -88,7 +88,7 @@ pub fn reached(marks: &[u8], p: usize, i: CharPlace) -> bool
 
 // Whether it may, and no terminal stands after it that does not fit.
 pub fn fits(marks: &[u8], p: usize, i: CharPlace) -> bool
-    requires { ⌜ (length (now marks) ≡ 308736) × (p < 512) × (i .0 ≤ 200) ⌝ }
+    requires { ⌜ (1536 * i .0 + 1536 ≤ length (now marks)) × (p < 512) × (i .0 ≤ 200) ⌝ }
     ensures { λ r. ⌜ r ≡ leb 2 (dotAt (now (marks .entry)) p (i .0)) ⌝ }
 {
     FITS <= marks[reach::PLACE * i.0 + p]
@@ -96,7 +96,7 @@ pub fn fits(marks: &[u8], p: usize, i: CharPlace) -> bool
 
 // Whether the rule is wanted to end at j.
 pub fn wanted(marks: &[u8], rule: usize, j: CharPlace) -> bool
-    requires { ⌜ (length (now marks) ≡ 308736) × (rule < 512) × (j .0 ≤ 200) ⌝ }
+    requires { ⌜ (1536 * j .0 + 1536 ≤ length (now marks)) × (rule < 512) × (j .0 ≤ 200) ⌝ }
     ensures { λ r. ⌜ r ≡ leb 2 (endAt (now (marks .entry)) rule (j .0)) ⌝ }
 {
     WANTED <= marks[reach::PLACE * j.0 + (reach::ENDS + rule)]
@@ -224,7 +224,7 @@ pub fn over(
     v: u32,
     i: CharPlace,
 ) -> u32
-    requires { ⌜ Shape (now code) size × (length (now notes) ≡ 2048) × (length (now marks) ≡ 308736) × (p < size) × (i .0 ≤ 200) × (v < none) ⌝ }
+    requires { ⌜ Shape (now code) size × (length (now notes) ≡ 2048) × (1536 * i .0 + 1536 ≤ length (now marks)) × (p < size) × (i .0 ≤ 200) × (v < none) ⌝ }
     ensures { λ r. ⌜ r ≡ overOf (now (code .entry)) (now (marks .entry)) (now (notes .entry)) p (i .0) v ⌝ }
 {
     if !reached(marks, p, i) {

@@ -69,7 +69,7 @@ pub record Touched (t : List ℕ) (x k : ℕ) (C C' : List ℕ) : Type 0 where
 pub record Listing (c M : List ℕ) (size n m j len : ℕ) (C : List ℕ) : Type 0 where
   pub shape : Shape c size
   pub short : n ≤ recordChars
-  pub marks-long : length M ≡ 308736
+  pub marks-long : 1536 * n + 1536 ≤ length M
   pub room : size * stretches n ≤ len
   pub wide : m < j
   pub stop : j ≤ n

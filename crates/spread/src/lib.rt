@@ -1,7 +1,7 @@
 // What a settled stretch hands on to longer ones with the same end: each dot has a height from m to j, and the symbol before it ends at m.
 ghost use mathlib.Core.Path.{_≡_};
 ghost use mathlib.Core.List.{List};
-ghost use Prim.Native.Nat.{ℕ, _+_, _-_, _<_, _≤_};
+ghost use Prim.Native.Nat.{ℕ, _+_, _*_, _-_, _<_, _≤_};
 ghost use lib.ListN.{length};
 ghost use Rattle.chart.specs.Code.{nextKind, ruleAt};
 ghost use Rattle.chart.specs.Heights.{none};
@@ -52,7 +52,7 @@ fn spread_terminal(
     s: Stretch,
 )
     requires { ⌜ Placed (now code) (s .size) (s .n .0) (s .i .0) (s .j .0) (length (now main)) (now column) (o .dot)
-        × (nextKind (now code) (o .dot) ≡ 1) × (length (now marks) ≡ 308736) ⌝ }
+        × (nextKind (now code) (o .dot) ≡ 1) × (1536 * s .n .0 + 1536 ≤ length (now marks)) ⌝ }
     ensures { λ _. ⌜ ((F : List ℕ)
         → Offering (now (code .entry)) (now (marks .entry)) F (s .size) (s .n .0) (s .i .0) (s .j .0) (length (now (main .entry))) (now (main .entry)) (now (column .entry)) (o .dot) (o .height)
         → DotSpread (now (code .entry)) (now (marks .entry)) F (s .size) (s .n .0) (s .i .0) (s .j .0) (now (main .entry)) (now (column .entry))
@@ -220,7 +220,7 @@ fn spread_symbol(code: &[u32], main: &mut [u32], column: &mut [u32], o: Offer, s
 
 // By what stands after the dot, a terminal or a symbol.
 fn hand_on(code: &[u32], marks: &[u8], main: &mut [u32], column: &mut [u32], o: Offer, s: Stretch)
-    requires { ⌜ Placed (now code) (s .size) (s .n .0) (s .i .0) (s .j .0) (length (now main)) (now column) (o .dot) × (length (now marks) ≡ 308736) × (o .height < none) ⌝ }
+    requires { ⌜ Placed (now code) (s .size) (s .n .0) (s .i .0) (s .j .0) (length (now main)) (now column) (o .dot) × (1536 * s .n .0 + 1536 ≤ length (now marks)) × (o .height < none) ⌝ }
     ensures { λ _. ⌜ ((F : List ℕ)
         → Offering (now (code .entry)) (now (marks .entry)) F (s .size) (s .n .0) (s .i .0) (s .j .0) (length (now (main .entry))) (now (main .entry)) (now (column .entry)) (o .dot) (o .height)
         → DotSpread (now (code .entry)) (now (marks .entry)) F (s .size) (s .n .0) (s .i .0) (s .j .0) (now (main .entry)) (now (column .entry))

@@ -11,8 +11,9 @@ use borrow.Author.Tests.{lt-ltb, le-ltb, eq-eqb, ne-eqb}
 use Rattle.text.specs.Lists.{Text, pick, any, same}
 use Rattle.text.proofs.Lists.{or-false, any-append}
 use Rattle.category.specs.Category.{letters}
-use Rattle.tokens.specs.Lengths.{formOf}
-use Rattle.tokens.specs.Names.{nameAt}
+use Rattle.tokens.specs.Lengths.{formOf, lengthAt}
+use Rattle.tokens.specs.Names.{nameAt, Named}
+use Rattle.tokens.proofs.Forms as forms
 use Rattle.static_errors.specs.Parts.{Part, used, headed, code, between, classed, other, partOf, partAt, usedIn, headsIn, endCodes, codesIn}
 use Rattle.static_errors.specs.Parts.{lacking, badCode, badCodes, backward, classless, faulty}
 
@@ -93,6 +94,10 @@ module _ (t : List ℕ) (k s : ℕ) (e : s ≡ formOf (getD t k 0)) where
   pub two-codes : (rule : ℕ) → s ≡ 4
       → any (badCode rule) (endCodes (getD t (k + 1) 0) (getD t (k + 2) 0)) || any (badCode rule) (endCodes (getD t (k + 3) 0) (getD t (k + 4) 0)) ≡ badCodes rule (partAt t k)
   two-codes rule f = rw (is-range f) (sym (any-append (badCode rule) (endCodes (getD t (k + 1) 0) (getD t (k + 2) 0)) (endCodes (getD t (k + 3) 0) (getD t (k + 4) 0))))
+
+-- a token that is a name has its characters in the table
+pub name-here : (t : List ℕ) (k : ℕ) → k + lengthAt t k ≤ length t → (s : ℕ) → s ≡ formOf (getD t k 0) → s ≡ 0 → Named t k
+name-here t k fits s e f = omega (arith, forms.sized t k fits s (getD t (k + 1) 0 + 2) e (forms.length-text s (getD t (k + 1) 0) (omega arith)))
 
 pub lacks-it : (t : List ℕ) (k s : ℕ) → s ≡ formOf (getD t k 0) → s ≡ 0 → (hs : List Text) (r : Bool) → r ≡ any (same (nameAt t k)) hs → not r ≡ lacking hs (partAt t k)
 lacks-it t k s e f hs r g = rw (is-used t k s e f) (ap not g ∙ sym (or-false (not (any (same (nameAt t k)) hs))))

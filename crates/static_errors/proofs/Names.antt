@@ -82,3 +82,15 @@ module _ (t : List ℕ) (h : Named t 0) where
 
       pub by-third : getD t 3 0 ≡ 0x2e → eqb (getD t 4 0) 0x30 ≡ same (nameAt t 0) (chars "1.0")
       by-third b = sym (is-three ∙ rw (eq-eqb (getD t 2 0) 0x31 a, eq-eqb (getD t 3 0) 0x2e b) (and-true (eqb (getD t 4 0) 0x30)))
+
+-- a name that a place of the list has is in it
+or-right : (b : Bool) {c : Bool} → c ≡ true → (b || c) ≡ true
+or-right true e = refl
+or-right false e = e
+
+pub guess-in : (t : List ℕ) (a : ℕ) (index : List ℕ) (n i : ℕ) → n ≤ length index → i < n → same (nameAt t a) (nameAt t (getD index i 0)) ≡ true
+    → any (same (nameAt t a)) (namesAt t (take n index)) ≡ true
+guess-in t a [] n i l h e = absurd (omega arith)
+guess-in t a (x ∷ xs) zero i l h e = absurd (omega arith)
+guess-in t a (x ∷ xs) (suc n) zero l h e = rw e refl
+guess-in t a (x ∷ xs) (suc n) (suc i) l h e = or-right (same (nameAt t a) (nameAt t x)) (guess-in t a xs n i (omega arith) (omega arith) e)

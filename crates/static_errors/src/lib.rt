@@ -1,4 +1,5 @@
 // The static rules 5 to 10, judged on the tokens of a syntax tree in a table.
+ghost use mathlib.Core.Bool.{true};
 ghost use mathlib.Core.Path.{_≡_};
 ghost use mathlib.Core.List.{List};
 ghost use Prim.Native.Nat.{ℕ, _+_, _≤_};
@@ -116,11 +117,25 @@ fn no_class(table: &[u32], k: usize) -> bool
     category::CLASSES <= category::class_of(table[k + tokens::CAPITAL], table[k + tokens::SMALL])
 }
 
-fn lacks(table: &[u32], k: usize, index: &[u32], n: usize) -> bool
+// The name at k is that of the place `guess` of the list.
+fn guessed(table: &[u32], k: usize, index: &[u32], n: usize, guess: usize) -> bool
+    requires { ⌜ Finding (now table) k (now index) 0 n ⌝ }
+    ensures { λ r. ⌜ (r ≡ true → any (same (nameAt (now (table .entry)) k)) (namesAt (now (table .entry)) (take n (now (index .entry)))) ≡ true) ⌝ }
+{
+    if n <= guess {
+        return false;
+    }
+    tokens::same_name(table, k, text::wide(index[guess]))
+}
+
+fn lacks(table: &[u32], k: usize, index: &[u32], n: usize, guess: usize) -> bool
     requires { ⌜ Looking (now table) k (now index) n ⌝ }
     ensures { λ r. ⌜ r ≡ lacking (namesAt (now (table .entry)) (take n (now (index .entry)))) (partAt (now (table .entry)) k) ⌝ }
 {
     if tokens::form(table[k]) != tokens::FORM_NAME {
+        return false;
+    }
+    if guessed(table, k, index, n, guess) {
         return false;
     }
     !found(table, k, index, 0, n)
@@ -129,7 +144,7 @@ fn lacks(table: &[u32], k: usize, index: &[u32], n: usize) -> bool
 // Any of these.
 const ANY: u32 = 0;
 
-fn breaks_any(table: &[u32], k: usize, index: &[u32], n: usize) -> bool
+fn breaks_any(table: &[u32], k: usize, index: &[u32], n: usize, guess: usize) -> bool
     requires { ⌜ Looking (now table) k (now index) n ⌝ }
     ensures { λ r. ⌜ r ≡ faulty (namesAt (now (table .entry)) (take n (now (index .entry)))) (partAt (now (table .entry)) k) ⌝ }
 {
@@ -138,7 +153,7 @@ fn breaks_any(table: &[u32], k: usize, index: &[u32], n: usize) -> bool
         return false;
     }
     if f < tokens::FORM_CODE {
-        return lacks(table, k, index, n);
+        return lacks(table, k, index, n, guess);
     }
     if bad_codes(table, k, refusals::HEX_TOO_LARGE) {
         return true;
@@ -152,12 +167,13 @@ fn breaks_any(table: &[u32], k: usize, index: &[u32], n: usize) -> bool
     no_class(table, k)
 }
 
-pub fn breaks(table: &[u32], k: usize, index: &[u32], n: usize, rule: u32) -> bool
+// `guess` is a place of the list at which a name is looked for first.
+pub fn breaks(table: &[u32], k: usize, index: &[u32], n: usize, rule: u32, guess: usize) -> bool
     requires { ⌜ Looking (now table) k (now index) n ⌝ }
     ensures { λ r. ⌜ r ≡ failing rule (namesAt (now (table .entry)) (take n (now (index .entry)))) (partAt (now (table .entry)) k) ⌝ }
 {
     if rule == refusals::UNDEFINED_NAME {
-        return lacks(table, k, index, n);
+        return lacks(table, k, index, n, guess);
     }
     if rule == refusals::BACKWARD_RANGE {
         return runs_back(table, k);
@@ -166,9 +182,20 @@ pub fn breaks(table: &[u32], k: usize, index: &[u32], n: usize, rule: u32) -> bo
         return no_class(table, k);
     }
     if rule == ANY {
-        return breaks_any(table, k, index, n);
+        return breaks_any(table, k, index, n, guess);
     }
     bad_codes(table, k, rule)
+}
+
+// Where the next name is looked for first: rules are often used in the order in which they are defined.
+fn next_guess(kind: u32, guess: usize, n: usize) -> usize {
+    if tokens::form(kind) != tokens::FORM_NAME {
+        return guess;
+    }
+    if n <= guess {
+        return 0;
+    }
+    guess + 1
 }
 
 // Some token breaks the rule.
@@ -176,11 +203,13 @@ fn broken(table: &[u32], end: usize, index: &[u32], n: usize, rule: u32) -> bool
     requires { ⌜ Scanning (now table) end (now index) n ⌝ }
     ensures { λ r. ⌜ ((ts : List Token) → Tokens (now (table .entry)) end 0 ts → r ≡ any (fails rule (namesAt (now (table .entry)) (take n (now (index .entry))))) ts) ⌝ }
 {
+    let mut guess = 1;
     let mut k = 0;
     while k < end {
-        if breaks(table, k, index, n, rule) {
+        if breaks(table, k, index, n, rule, guess) {
             return true;
         }
+        guess = next_guess(table[k], guess, n);
         k = tokens::token_end(table, k);
     }
     false
@@ -281,14 +310,36 @@ fn refusal(table: &[u32], end: usize, index: &[u32], n: usize) -> Ruling
     Ruling::Kept
 }
 
+// The first of 5 to 10 that applies to the syntax tree in the table, where the index has room for all heads.
+fn refusal_by(table: &[u32], end: usize, index: &mut [u32]) -> Ruling
+    requires { ⌜ Held (now table) end × (end ≤ length (now index)) ⌝ }
+    ensures { λ v. ⌜ ((g : Grammar) → Holds (now (table .entry)) end g → ruleNumber v ≡ staticOf g) ⌝ }
+{
+    let n = heads(table, end, index);
+    refusal(table, end, index, n)
+}
+
+// Most syntax trees take few numbers: a short index is cleared sooner.
+const FEW: usize = 2048;
+
+fn few_refusal(table: &[u32], end: usize) -> Ruling
+    requires { ⌜ Held (now table) end × (end ≤ 2048) ⌝ }
+    ensures { λ v. ⌜ ((g : Grammar) → Holds (now (table .entry)) end g → ruleNumber v ≡ staticOf g) ⌝ }
+{
+    let mut index = [0u32; FEW];
+    refusal_by(table, end, &mut index)
+}
+
 // The first of 5 to 10 that applies to the syntax tree in the table.
 pub fn static_refusal(table: &[u32], end: usize) -> Ruling
     requires { ⌜ Held (now table) end ⌝ }
     ensures { λ v. ⌜ ((g : Grammar) → Holds (now (table .entry)) end g → ruleNumber v ≡ staticOf g) ⌝ }
 {
+    if end <= FEW {
+        return few_refusal(table, end);
+    }
     let mut index = [0u32; text::limits::GRAMMAR_TABLE];
-    let n = heads(table, end, &mut index);
-    refusal(table, end, &index, n)
+    refusal_by(table, end, &mut index)
 }
 
 // The characters of `1.0` in a token at the table's start.

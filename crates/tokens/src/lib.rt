@@ -226,11 +226,14 @@ fn is_named(table: &[u32], at: usize) -> bool
     ensures { λ r. ⌜ (r ≡ true → Named (now (table .entry)) at) × (r ≡ false → (x : Text) → Holding (now (table .entry)) at x → ⊥) ⌝ }
 {
     let size = table.len();
-    if size <= at {
+    if size < CHARS {
         return false;
     }
-    let count = look(table, at + COUNT);
-    if size < at + CHARS + count {
+    let last = size - CHARS;
+    if last < at {
+        return false;
+    }
+    if last - at < text::wide(table[at + COUNT]) {
         return false;
     }
     true

@@ -18,8 +18,11 @@ Inv-loop code firsts notes marks main₀ queue₀ size n m turns₀ main queue t
 abbrev μ-loop : tie.MeasureT-loop
 μ-loop code firsts notes marks main₀ queue₀ size n m turns₀ main queue turns = 65536 - turns
 
+returns : tie.Need-returns Inv-loop μ-loop
+returns c = settled-start (c .before .before .before .before .before .before .pre .0)
+
 loop-holds : tie.Need-loop-holds Inv-loop μ-loop
-loop-holds c = settled-start (c .before .before .before .before .before .pre .0)
+loop-holds c = settled-start (c .before .before .before .before .before .before .pre .0)
 
 pop-requires : tie.Need-pop-requires Inv-loop μ-loop
 pop-requires c κs = search needs
@@ -27,14 +30,14 @@ pop-requires c κs = search needs
 same-length : tie.Need-same-length Inv-loop μ-loop
 same-length c = c .before .before .before .before .loop .inv .long
 
-returns : tie.Need-returns Inv-loop μ-loop
-returns c = c .before .before .before .before .loop .inv
+returns-2 : tie.Need-returns-2 Inv-loop μ-loop
+returns-2 c = c .before .before .before .before .loop .inv
 
 turn-requires : tie.Need-turn-requires Inv-loop μ-loop
 turn-requires c κs =
     let at-loop = c .before .before .before .before .before .before in
-    let start = at-loop .before .before .before .before .before .before in
-    (settling-as (start .pre .0) (at-loop .loop .inv), c .before .before .if1 .left, start .pre .1)
+    let start = at-loop .before .before .before .before .before .before .before in
+    (settling-as (start .pre .0) (at-loop .loop .inv), c .before .before .if2 .left, start .pre .1)
 
 add-turns : tie.Need-add-turns Inv-loop μ-loop
 add-turns c = search needs
@@ -48,8 +51,8 @@ loop-again c = settled-join (c .before .before .before .before .before .before .
 same-length-2 : tie.Need-same-length-2 Inv-loop μ-loop
 same-length-2 c = c .before .loop .inv .long
 
-returns-2 : tie.Need-returns-2 Inv-loop μ-loop
-returns-2 c = c .before .loop .inv
+returns-3 : tie.Need-returns-3 Inv-loop μ-loop
+returns-3 c = c .before .loop .inv
 
 pub settle-spec : {M : Type 1} → statement M
-settle-spec = tie.close (tie.spec Inv-loop μ-loop loop-holds pop-requires same-length returns turn-requires add-turns loop-less loop-again same-length-2 returns-2)
+settle-spec = tie.close (tie.spec Inv-loop μ-loop returns loop-holds pop-requires same-length returns-2 turn-requires add-turns loop-less loop-again same-length-2 returns-3)

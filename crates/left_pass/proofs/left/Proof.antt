@@ -9,7 +9,7 @@ use Rattle.left_pass.proofs.left.Statement.{statement}
 use Rattle.left_pass.proofs.left.Tie as tie
 
 abbrev Inv-loop : tie.InvT-loop
-Inv-loop table text code marks₀ size top work₀ firsts afters n i₀ marks work i = Passing table code text size top marks work i × (i ≤ n + 1) × (n ≡ length text)
+Inv-loop table text code marks₀ size top work₀ firsts afters n i₀ marks work i = Passing table code text size top (length marks₀) marks work i × (i ≤ n + 1) × (n ≡ length text)
 
 abbrev μ-loop : tie.MeasureT-loop
 μ-loop table text code marks₀ size top work₀ firsts afters n i₀ marks work i = n + 1 - i
@@ -215,11 +215,11 @@ slice-read-result c = omega (
   c .before .before .before .before .before .before .before .before .before .before .before .before .before .before .before .before .before .before
       .before .before .before .before .before .before .before .before .before .before .pre .given .shape .small,
   c .before .before .loop .inv .0 .long,
+  c .before .before .loop .inv .0 .room,
 )
 
 same-length : tie.Need-same-length Inv-loop μ-loop
-same-length c = c .before .before .loop .inv .0 .long ∙ sym (c .before .before .before .before .before .before .before .before .before .before .before .before .before .before
-    .before .before .before .before .before .before .before .before .before .before .before .before .before .before .pre .given .marks-long)
+same-length c = c .before .before .loop .inv .0 .long ∙ c .before .before .before .before .before .before .wake .ensures .long
 
 returns : tie.Need-returns Inv-loop μ-loop
 returns c = place-end (c .before .before .loop .inv .0) (c .before .before .loop .inv .2) (omega (arith, c .before .loop-test .left))

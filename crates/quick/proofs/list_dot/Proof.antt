@@ -29,7 +29,7 @@ wanted-requires c κs =
     let start = c .before .before .before .before .before .before .before in
     let a = start .args in
     let g = start .pre .0 in
-    (g .marks-long, omega (arith, c .wide .ensures, g .noted .homes (a .x) (start .pre .2), home-size (g .shape) (a .x) (start .pre .2), g .shape .small), omega (arith, start .pre .1, g .short))
+    (omega (arith, g .marks-long, start .pre .1), omega (arith, c .wide .ensures, g .noted .homes (a .x) (start .pre .2), home-size (g .shape) (a .x) (start .pre .2), g .shape .small), omega (arith, start .pre .1, g .short))
 
 returns : tie.Need-returns
 returns c =

@@ -10,7 +10,7 @@ use Rattle.right_pass.proofs.right.Statement.{statement}
 use Rattle.right_pass.proofs.right.Tie as tie
 
 abbrev Inv-loop : tie.InvT-loop
-Inv-loop table text code marks₀ size top work₀ uses ends n rest₀ marks work rest = Passing table code text size top marks work rest × (rest ≤ n + 1) × (n ≡ length text)
+Inv-loop table text code marks₀ size top work₀ uses ends n rest₀ marks work rest = Passing table code text size top (length marks₀) marks work rest × (rest ≤ n + 1) × (n ≡ length text)
 
 abbrev μ-loop : tie.MeasureT-loop
 μ-loop table text code marks₀ size top work₀ uses ends n rest₀ marks work rest = rest
@@ -188,8 +188,7 @@ loop-again c =
     )
 
 same-length : tie.Need-same-length Inv-loop μ-loop
-same-length c = c .before .loop .inv .0 .long ∙ sym (c .before .before .before .before .before .before .before .before .before .before .before .before .before .before .before
-    .before .before .before .before .before .before .before .before .before .before .before .before .pre .marks-long)
+same-length c = c .before .loop .inv .0 .long ∙ c .before .before .before .before .before .wake .ensures .long
 
 returns : tie.Need-returns Inv-loop μ-loop
 returns c = back-done (c .before .loop .inv .0) (λ z. omega (arith, c .loop-test .left))

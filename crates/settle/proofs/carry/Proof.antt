@@ -69,7 +69,7 @@ over-requires c κs =
     let at-loop = c .before .before .before .before .before .before .before .before .before in
     let start = at-loop .before .before .before .before .before .before in
     let a = start .args in let s = a .s in let p = start .pre in let x = p .0 .tables in let v = at-loop .loop .inv in
-    (x .shape, x .noted .long, x .marks-long, omega (arith, v .offer .on .inside), omega (arith, p .0 .wide, p .0 .stop, x .short), v .offer .some)
+    (x .shape, x .noted .long, omega (arith, x .marks-long, p .0 .wide, p .0 .stop), omega (arith, v .offer .on .inside), omega (arith, p .0 .wide, p .0 .stop, x .short), v .offer .some)
 
 -- src/lib.rt:85:13
 same-length-3 : tie.Need-same-length-3 Inv-loop μ-loop

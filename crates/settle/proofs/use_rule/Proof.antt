@@ -44,7 +44,7 @@ wanted-requires : tie.Need-wanted-requires
 wanted-requires c κs =
     let start = c .before .before .before .before .before .before .before .before .before in
     let a = start .args in let s = a .s in let p = start .pre in let x = p .0 .tables in let home = c .wide .ensures ∙ x .noted .homes (a .p) (p .1) in
-    (x .marks-long, omega (arith, home-size (x .shape) (a .p) (p .1), x .shape .small), omega (arith, p .0 .stop, x .short))
+    (omega (arith, x .marks-long, p .0 .stop), omega (arith, home-size (x .shape) (a .p) (p .1), x .shape .small), omega (arith, p .0 .stop, x .short))
 
 -- src/lib.rt:131:9
 returns-2 : tie.Need-returns-2

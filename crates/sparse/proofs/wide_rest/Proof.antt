@@ -74,7 +74,7 @@ wanted-requires c κs =
     let start = c .before .before .before .before .before .before .before .before in
     let a = start .args in
     let g = start .pre .0 in (
-      g .marks-long,
+      omega (arith, g .marks-long, start .pre .3),
       omega (arith, c .wide2 .ensures, g .noted .homes (a .p) (start .pre .1), home-size (g .shape) (a .p) (start .pre .1), g .shape .small),
       omega (arith, start .pre .3, g .short),
     )

@@ -72,7 +72,7 @@ wanted-requires c κs =
     let a = start .args in
     let o = start .pre in
     let l = o .0 .shape .names (a .o .dot) (o .0 .inside) (at-if2 .if2 .left) .0 in
-    (o .1, omega (arith, c .wide .ensures, o .0 .shape .small), omega (arith, o .0 .order, o .0 .stop, o .0 .short))
+    (omega (arith, o .1, o .0 .order, o .0 .stop), omega (arith, c .wide .ensures, o .0 .shape .small), omega (arith, o .0 .order, o .0 .stop, o .0 .short))
 
 spread-symbol-requires : tie.Need-spread-symbol-requires
 spread-symbol-requires c κs =

@@ -14,7 +14,7 @@ reached-requires c κs =
     let start = c .before .before .before .before in
     let p = start .pre in
     let h = p .2 .1 in
-    (p .0 .marks-long, omega (arith, h .inside, p .0 .shape .small), omega (arith, p .0 .wide, p .0 .stop, p .0 .short))
+    (omega (arith, p .0 .marks-long, p .0 .wide, p .0 .stop), omega (arith, h .inside, p .0 .shape .small), omega (arith, p .0 .wide, p .0 .stop, p .0 .short))
 
 returns : tie.Need-returns
 returns c =

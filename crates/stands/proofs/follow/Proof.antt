@@ -33,7 +33,7 @@ fits-requires : tie.Need-fits-requires
 fits-requires c κs =
     let pre = c .before .before .before .before .before .before .before .before .before .before .pre in
     let shape = pre .standing .ground .tables .shape in
-    (pre .standing .ground .tables .marks-long, omega (arith, shape .small, pre .inside), omega (arith, pre .standing .ground .tables .short, pre .standing .on))
+    (omega (arith, pre .standing .ground .tables .marks-long, pre .standing .on), omega (arith, shape .small, pre .inside), omega (arith, pre .standing .ground .tables .short, pre .standing .on))
 
 mul-wide : tie.Need-mul-wide
 mul-wide c =

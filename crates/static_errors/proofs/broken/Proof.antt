@@ -4,15 +4,17 @@ use native.Mathlib.Omega.{arith}
 use lib.ListN.{take}
 use denote.Ref.{now}
 use Rattle.static_errors.specs.Scan.{namesAt, fails}
+use borrow.Author.Needs.{needs}
+use Rattle.tokens.proofs.Forms as forms
 use Rattle.static_errors.proofs.Scans as law
 use Rattle.static_errors.proofs.broken.Statement.{statement}
 use Rattle.static_errors.proofs.broken.Tie as tie
 
 abbrev Inv-loop : tie.InvT-loop
-Inv-loop table end index n rule k₀ k = law.Reached table end k (law.Same (fails rule (namesAt table (take n index))))
+Inv-loop table end index n rule guess₀ k₀ guess k = law.Reached table end k (law.Same (fails rule (namesAt table (take n index))))
 
 abbrev μ-loop : tie.MeasureT-loop
-μ-loop table end index n rule k₀ k = end - k
+μ-loop table end index n rule guess₀ k₀ guess k = end - k
 
 loop-holds : tie.Need-loop-holds Inv-loop μ-loop
 loop-holds c =
@@ -40,33 +42,46 @@ returns c =
     let hs = namesAt t (take (a .args .n) (now (a .args .index))) in
     law.hit t (a .args .end) (b .before .loop .k) (a .args .rule) hs (b .before .loop .inv) (b .loop-test .taken) (c .before .breaks .result) (c .before .breaks .ensures) (c .if1 .taken)
 
+mul-next-guess : tie.Need-mul-next-guess Inv-loop μ-loop
+mul-next-guess c = search needs
+
+shared-slice-read-next-guess : tie.Need-shared-slice-read-next-guess Inv-loop μ-loop
+shared-slice-read-next-guess c =
+    let b = c .before .before .before in
+    let a = b .before .before .before .before in
+    let t = now (a .args .table) in
+    forms.first-in t (b .before .loop .k)
+    (law.fits t (a .args .end) (b .before .loop .k) (law.Same (fails (a .args .rule) (namesAt t (take (a .args .n) (now (a .args .index)))))) (b .before .loop .inv)
+    (b .loop-test .taken) (a .pre .some))
+
+next-guess-requires : tie.Need-next-guess-requires Inv-loop μ-loop
+next-guess-requires c κs = search needs
+
 token-end-requires : tie.Need-token-end-requires Inv-loop μ-loop
 token-end-requires c κs =
-    let a = c .before .before .before .before .before .before in
+    let b = c .before .before .before .before in
+    let a = b .before .before .before .before in
     let t = now (a .args .table) in
-    let b = c .before .before in
     law.fits t (a .args .end) (b .before .loop .k) (law.Same (fails (a .args .rule) (namesAt t (take (a .args .n) (now (a .args .index)))))) (b .before .loop .inv) (b .loop-test .taken) (a .pre .some)
 
 loop-less : tie.Need-loop-less Inv-loop μ-loop
 loop-less c =
-    let a = c .before .before .before .before .before .before .before in
+    let b = c .before .before .before .before .before in
+    let a = b .before .before .before .before in
     let t = now (a .args .table) in
-    let b = c .before .before .before in
     let q = c .token-end .ensures in
     let l = b .loop-test .taken in
     omega (arith, law.some t (a .args .end) (b .before .loop .k) (law.Same (fails (a .args .rule) (namesAt t (take (a .args .n) (now (a .args .index)))))) (b .before .loop .inv) l (a .pre .some))
 
 loop-again : tie.Need-loop-again Inv-loop μ-loop
 loop-again c =
-    let at-3 = c .before .before .before in
-    let at-7 = at-3 .before .before .before .before in
-    let a = at-7 in
+    let b = c .before .before .before .before .before in
+    let a = b .before .before .before .before in
     let t = now (a .args .table) in
-    let b = at-3 in
-    let r = c .before .before .breaks in
+    let r = c .before .before .before .before .breaks in
     let hs = namesAt t (take (a .args .n) (now (a .args .index))) in
     law.pass t (a .args .end) (b .before .loop .k) (a .args .rule) hs (b .before .loop .inv) (b .loop-test .taken) (r .result) (r .ensures)
-    (c .before .if1 .left) (a .pre .some) (c .token-end .result) (c .token-end .ensures)
+    (c .before .before .before .if1 .left) (a .pre .some) (c .token-end .result) (c .token-end .ensures)
 
 returns-2 : tie.Need-returns-2 Inv-loop μ-loop
 returns-2 c =
@@ -83,6 +98,9 @@ broken-spec =
     loop-holds
     breaks-requires
     returns
+    mul-next-guess
+    shared-slice-read-next-guess
+    next-guess-requires
     token-end-requires
     loop-less
     loop-again

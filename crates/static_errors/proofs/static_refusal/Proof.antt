@@ -1,39 +1,29 @@
-use denote.Ref.{now}
-use Rattle.static_errors.specs.Held.{ruleNumber}
-use Rattle.static_errors.proofs.Top as law
+use native.Mathlib.Omega.{arith}
 use borrow.Author.Needs.{needs}
 use Rattle.static_errors.proofs.static_refusal.Statement.{statement}
 use Rattle.static_errors.proofs.static_refusal.Tie as tie
 
-slice-aggregate-heads : tie.Need-slice-aggregate-heads
-slice-aggregate-heads c = search needs
-
-heads-requires : tie.Need-heads-requires
-heads-requires c κs =
-    let start = c .before .before in
-    record { some = law.some-tokens (now (start .args .table)) (start .args .end) (start .pre); short = start .pre .short; room = start .pre .short }
-
-slice-aggregate-refusal : tie.Need-slice-aggregate-refusal
-slice-aggregate-refusal c = search needs
-
-refusal-requires : tie.Need-refusal-requires
-refusal-requires c κs =
-    let start = c .before .before .before .before .before in
-    record { some = law.some-tokens (now (start .args .table)) (start .args .end) (start .pre); listing = c .before .before .heads .ensures .listing }
+few-refusal-requires : tie.Need-few-refusal-requires
+few-refusal-requires c κs = (c .before .before .pre, omega (arith, c .if1 .taken))
 
 returns : tie.Need-returns
-returns c =
-    let at-heads = c .before .before .before in
-    let start = at-heads .before .before .before in
-    law.answer (now (start .args .table)) (start .args .end) _ (at-heads .heads .result) (at-heads .heads .ensures)
-    (ruleNumber (c .refusal .result)) (c .refusal .ensures)
+returns c = c .few-refusal .ensures
+
+slice-aggregate-refusal-by : tie.Need-slice-aggregate-refusal-by
+slice-aggregate-refusal-by c = search needs
+
+refusal-by-requires : tie.Need-refusal-by-requires
+refusal-by-requires c κs = let start = c .before .before .before in (start .pre, start .pre .short)
+
+returns-2 : tie.Need-returns-2
+returns-2 c = c .before .refusal-by .ensures
 
 pub static-refusal-spec : {M : Type 1} → statement M
 static-refusal-spec =
     tie.close
     (tie.spec
-    slice-aggregate-heads
-    heads-requires
-    slice-aggregate-refusal
-    refusal-requires
-    returns)
+    few-refusal-requires
+    returns
+    slice-aggregate-refusal-by
+    refusal-by-requires
+    returns-2)

@@ -78,7 +78,7 @@ loop-again c = rw (c .wide2 .ensures) (spread-next (c .before .before .before .b
     (c .before .before .before .before .before .before .before .before .before .loop-test .taken) (c .before .before .before .before .before .before .lift .ensures))
 
 same-length : tie.Need-same-length Inv-loop μ-loop
-same-length c = c .before .loop .inv .grown .kept .marks-long ∙ sym (c .before .before .before .before .before .before .before .pre .kept .marks-long)
+same-length c = c .before .loop .inv .grown .long
 
 same-length-2 : tie.Need-same-length-2 Inv-loop μ-loop
 same-length-2 c = c .before .loop .inv .grown .kept .work-long ∙ sym (c .before .before .before .before .before .before .before .pre .kept .work-long)
