@@ -2,10 +2,10 @@ use mathlib.Core.Path.{_≡_, sym, _∙_}
 use native.Mathlib.Omega.{arith}
 use Rattle.chart.specs.Code.{nextKind}
 use denote.Ref.{now}
-use Rattle.candidates.proofs.Values.{value-end, value-none, value-terminal, value-symbol}
+use Rattle.splits.proofs.Values.{value-end, value-none, value-terminal, value-symbol}
 use borrow.Author.Needs.{needs}
-use Rattle.candidates.proofs.splits.alternative_height.Statement.{statement}
-use Rattle.candidates.proofs.splits.alternative_height.Tie as tie
+use Rattle.splits.proofs.alternative_height.Statement.{statement}
+use Rattle.splits.proofs.alternative_height.Tie as tie
 
 mul-number-at : tie.Need-mul-number-at
 mul-number-at c = search needs

@@ -2,9 +2,9 @@ use borrow.Author.Needs.{needs}
 use native.Mathlib.Omega.{arith}
 use Prim.Native.Nat.{_+_, _-_}
 use denote.Ref.{now}
-use Rattle.candidates.proofs.Values.{after-symbol, rest-in, Sought, sought-from, sought-over, sought-next, sought-all}
-use Rattle.candidates.proofs.splits.least_split.Statement.{statement}
-use Rattle.candidates.proofs.splits.least_split.Tie as tie
+use Rattle.splits.proofs.Values.{after-symbol, rest-in, Sought, sought-from, sought-over, sought-next, sought-all}
+use Rattle.splits.proofs.least_split.Statement.{statement}
+use Rattle.splits.proofs.least_split.Tie as tie
 
 abbrev Inv-loop : tie.InvT-loop
 Inv-loop code marks notes main p s x v₀ m₀ v m = Sought code marks notes (s .n .0) main p (s .i .0) (s .j .0) v (m .0)

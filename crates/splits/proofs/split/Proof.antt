@@ -2,10 +2,10 @@ use mathlib.Core.Path.{sym, ap, _∙_}
 use Prim.Native.Nat.{ℕ, max}
 use native.Mathlib.Omega.{arith}
 use denote.Ref.{now}
-use Rattle.candidates.proofs.Values.{reads, split-none, split-is}
+use Rattle.splits.proofs.Values.{reads, split-none, split-is}
 use borrow.Author.Needs.{needs}
-use Rattle.candidates.proofs.splits.split.Statement.{statement}
-use Rattle.candidates.proofs.splits.split.Tie as tie
+use Rattle.splits.proofs.split.Statement.{statement}
+use Rattle.splits.proofs.split.Tie as tie
 
 mul-number-at : tie.Need-mul-number-at
 mul-number-at c = search needs

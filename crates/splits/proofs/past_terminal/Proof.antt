@@ -4,10 +4,10 @@ use native.Mathlib.Omega.{arith}
 use borrow.Author.Tests.{not-true, not-false}
 use denote.Ref.{now}
 use Rattle.sparse.specs.Cells.{restOf}
-use Rattle.candidates.proofs.Values.{past-misfit, past-short, past-is}
+use Rattle.splits.proofs.Values.{past-misfit, past-short, past-is}
 use borrow.Author.Needs.{needs}
-use Rattle.candidates.proofs.splits.past_terminal.Statement.{statement}
-use Rattle.candidates.proofs.splits.past_terminal.Tie as tie
+use Rattle.splits.proofs.past_terminal.Statement.{statement}
+use Rattle.splits.proofs.past_terminal.Tie as tie
 
 fits-requires : tie.Need-fits-requires
 fits-requires c κs = search needs

@@ -2,10 +2,10 @@ use borrow.Author.Needs.{needs}
 use native.Mathlib.Omega.{arith}
 use mathlib.Core.Path.{sym, _∙_}
 use Prim.Native.Nat.{_+_}
-use Rattle.candidates.proofs.Values.{row-last, row-own}
+use Rattle.splits.proofs.Values.{row-last, row-own}
 use Rattle.sparse.proofs.Rows.{last-is}
-use Rattle.candidates.proofs.splits.rest_cells.Statement.{statement}
-use Rattle.candidates.proofs.splits.rest_cells.Tie as tie
+use Rattle.splits.proofs.rest_cells.Statement.{statement}
+use Rattle.splits.proofs.rest_cells.Tie as tie
 
 add-q : tie.Need-add-q
 add-q c = search needs

@@ -1,4 +1,4 @@
-// What the coded grammar has for a dot position (crates/chart/specs), and the heights of alternatives.
+// What the coded grammar has for a dot position (crates/chart/specs), and the heights of alternatives in the filled part of a main table.
 ghost use mathlib.Core.Logic.{_⊎_};
 ghost use mathlib.Core.Path.{_≡_};
 ghost use Prim.Native.Nat.{_+_, _*_, _-_, _<_, _≤_, min};
@@ -7,7 +7,7 @@ ghost use Rattle.chart.specs.Code.{nextKind};
 ghost use Rattle.text.specs.Limits.{recordChars};
 ghost use Rattle.chart.specs.Heights.{cellAt};
 ghost use Rattle.sparse.specs.Cells.{Shape};
-ghost use Rattle.candidates.specs.Candidates.{Ready, Position, restRow, Barren, splitAt, leastOf, pastOf, valueAt};
+ghost use Rattle.splits.specs.Splits.{Ready, Position, restRow, Barren, splitAt, leastOf, pastOf, valueAt};
 use chart::CODE_COLUMNS;
 use chart::CODE_GOES;
 use chart::CODE_RULE;

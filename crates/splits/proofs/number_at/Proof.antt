@@ -1,8 +1,8 @@
 use native.Mathlib.Omega.{arith}
 use mathlib.Core.Path.{refl}
 use borrow.Author.Needs.{needs}
-use Rattle.candidates.proofs.splits.number_at.Statement.{statement}
-use Rattle.candidates.proofs.splits.number_at.Tie as tie
+use Rattle.splits.proofs.number_at.Statement.{statement}
+use Rattle.splits.proofs.number_at.Tie as tie
 
 mul-result : tie.Need-mul-result
 mul-result c = search needs

@@ -1,8 +1,8 @@
 use mathlib.Core.Logic.{inl, inr}
 use mathlib.Core.Path.{refl, sym, _∙_}
 use borrow.Author.Needs.{needs}
-use Rattle.candidates.proofs.splits.first_end.Statement.{statement}
-use Rattle.candidates.proofs.splits.first_end.Tie as tie
+use Rattle.splits.proofs.first_end.Statement.{statement}
+use Rattle.splits.proofs.first_end.Tie as tie
 
 add-number-at : tie.Need-add-number-at
 add-number-at c = search needs

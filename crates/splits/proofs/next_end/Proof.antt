@@ -5,8 +5,8 @@ use Prim.Native.Nat.{ℕ, _+_, _-_, _<_, _≤_}
 use native.Mathlib.Decide.{ℕ-discrete}
 use lib.ListN.{getD}
 use Rattle.chart.specs.Heights.{none}
-use Rattle.candidates.proofs.splits.next_end.Statement.{statement}
-use Rattle.candidates.proofs.splits.next_end.Tie as tie
+use Rattle.splits.proofs.next_end.Statement.{statement}
+use Rattle.splits.proofs.next_end.Tie as tie
 
 abbrev Inv-loop : tie.InvT-loop
 Inv-loop main x j m e = (m ≤ e) × (e ≤ j .0) × ((l : ℕ) → m ≤ l → l < e → getD main (x + l) 0 ≡ none)

@@ -19,8 +19,7 @@ use Rattle.heights.proofs.Values.{up-is, up-low, up-most}
 use Rattle.reach.specs.Flags.{dotAt, endAt, Reached, Fits, homeOf}
 use Rattle.sparse.specs.Cells.{isLast, ruleOf, wideRest, restOf, Shape, Reads, Tables}
 use Rattle.sparse.proofs.Rows.{last-is, in-table, rest-end, rest-away, rest-last, rest-row, rest-unwanted}
-use Rattle.candidates.proofs.Searches.{Unmet, unmet, unmet-over}
-use Rattle.candidates.specs.Candidates.{Ready, restRow, Barren, joined, splitAt, leastOf, pastOf, valueAt}
+use Rattle.splits.specs.Splits.{Ready, restRow, Barren, joined, splitAt, leastOf, pastOf, valueAt}
 
 pick-most : {x y : ℕ} (b : Bool) → x ≤ none → y ≤ none → pick b x y ≤ none
 pick-most true h k = h
@@ -231,16 +230,6 @@ module _ (c M F : List ℕ) (n : ℕ) (H : List ℕ) where
         to = omega (arith, b .to);
         is = s .is ∙ sym (sym (ap (leastOf c M F n H p i j) z) ∙ least-over p i j (m - i) (e - m) (λ l lo hi. over-barren p i h b l (omega arith) (omega (arith, b .from))));
       }
-
-  -- a search for places where something is derived begins at the first place where the symbol may end
-  pub unmet-from : {P : ℕ → Type 0} (p i j m : ℕ) → i ≤ j → ((l : ℕ) → P l → splitAt c M F n H p i j l ≡ none → ⊥) → (m ≡ i) ⊎ ((m ≡ j) × (nextKind c (p + 1) ≡ 0)) → Unmet P i m
-  unmet-from {P} p i j m l f (inl e) = subst (Unmet P i) (sym e) (unmet i)
-  unmet-from p i j m l f (inr x) = record { order = omega (arith, x .0); none = λ k h b a. f k a (last-split p i j k (x .1) (λ e. omega (arith, x .0))) }
-
-  -- and passes over those where nothing is
-  pub unmet-barren : {P : ℕ → Type 0} {x m e j : ℕ} (p i : ℕ) → ((l : ℕ) → P l → splitAt c M F n H p i j l ≡ none → ⊥) → x ≡ cellAt n (restRow c (p + 1)) 0 j → Barren H x m e j
-      → Unmet P i m → Unmet P i e
-  unmet-barren p i f h b u = unmet-over u (b .from) (λ l lo hi a. f l a (over-barren p i h b l lo hi))
 
   pub sought-next : {p i j v m : ℕ} (w v' : ℕ) → Sought p i j v m → m ≤ j → w ≡ splitAt c M F n H p i j m → v' ≡ min v w → Sought p i j v' (m + 1)
   sought-next {p} {i} {j} {v} {m} w v' s l e f =
