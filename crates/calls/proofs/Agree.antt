@@ -4,8 +4,8 @@ use mathlib.Core.List.{List}
 use mathlib.Core.Path.{_≡_, sym, _∙_}
 use Prim.Native.Nat.{ℕ}
 use Rattle.answer.specs.Answer.{Job}
-use Rattle.outcome.specs.declared.Answer.{Answer}
-use Rattle.outcome.specs.Outcome.{shown}
+use Rattle.exported.specs.declared.Answer.{Answer}
+use Rattle.exported.specs.Exported.{shown}
 use Rattle.outcome.specs.Calls.{ReadAs}
 
 pub engines-agree : (j : Job) (old : List ℕ) (a b : Answer) (new new' : List ℕ) → ReadAs j old a new → ReadAs j old b new' → (shown a ≡ shown b) × (new ≡ new')

@@ -17,8 +17,8 @@ use Rattle.accept.specs.declared.Rules.{Rules}
 use Rattle.accept.specs.declared.Accepted.{Accepted}
 use Rattle.accept.specs.declared.Accepted.the-variants.{Grammar as A-grammar, Refused}
 use Rattle.accept.specs.Accepted.{stageOf, Kept, Accepts}
-use Rattle.outcome.specs.declared.Answer.{Answer}
-use Rattle.outcome.specs.Outcome.{shown, done, refusalOf}
+use Rattle.exported.specs.declared.Answer.{Answer}
+use Rattle.exported.specs.Exported.{shown, done, refusalOf}
 use Rattle.outcome.specs.Calls.{Checked}
 
 refused-answer : (m : Bool) (vs : Values) (d : Diagnostic) → eqb (d .number) 0 ≡ false → eqb (d .number) 16 ≡ false → placesOf (d .places) ≡ placesAt vs (d .number)

@@ -8,10 +8,10 @@ use Rattle.answer.specs.Answer as defined
 use Rattle.answer.specs.Answer.{Job, Reads, Converts}
 use Rattle.job.specs.declared.Parse.{Parse}
 use Rattle.job.specs.declared.Parse.the-variants.{Refused}
-use Rattle.job.specs.declared.Refusal.{Refusal}
+use Rattle.exported.specs.declared.Refusal.{Refusal}
 use Rattle.job.specs.Parses.{Parses}
-use Rattle.outcome.specs.declared.Answer.{Answer}
-use Rattle.outcome.specs.Outcome.{shown, refusalOf}
+use Rattle.exported.specs.declared.Answer.{Answer}
+use Rattle.exported.specs.Exported.{shown, refusalOf}
 use Rattle.outcome.specs.Given.{Counted, GivesNumbers, Named, GivesXml}
 use Rattle.resume.specs.Resume.{EndedAs, early, altered, as-uncut}
 use Rattle.ending.specs.declared.Ending.{Ending}

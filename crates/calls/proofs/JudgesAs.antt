@@ -29,8 +29,9 @@ use Rattle.opening.specs.declared.Begun.the-variants.{At, Refused as Ended}
 use Rattle.opening.specs.Stages.{begunOf, StartedBy, BeginsBy}
 use Rattle.opening.proofs.Texts.{got-part}
 use Rattle.judge.specs.Due.{Named}
-use Rattle.outcome.specs.declared.Answer.{Answer}
-use Rattle.outcome.specs.Outcome.{shown, refusalOf, answerOf}
+use Rattle.exported.specs.declared.Answer.{Answer}
+use Rattle.exported.specs.Exported.{shown, refusalOf}
+use Rattle.outcome.specs.Outcome.{answerOf}
 use Rattle.outcome.specs.Calls.{JudgedAs}
 use Rattle.outcome.specs.Judging.{Stands, Judgeable, Accepted, Declined, Verdict, accepted, declined, Concluded}
 use Rattle.outcome.proofs.Outcomes.{refusing, refused-outcome}

@@ -17,7 +17,7 @@ use Rattle.tree.specs.Tokens.{Token, grammarTokens}
 use Rattle.plain.specs.Static.{beyond}
 use Rattle.tokens.specs.Lengths.{Left}
 use Rattle.tokens.proofs.Walk.{left-start}
-use Rattle.markup.specs.Out.{enc}
+use Rattle.encode.specs.Out.{enc}
 use Rattle.answer.specs.Answer.{GrammarTree, grammarLines}
 use Rattle.answer.specs.Compute.{Test, firstOf, treeOf, grammarTests, Result, result, resultTree, placesAt, checkValues, mismatch, Outcome, outcome}
 use Rattle.answer.specs.Demands.{None}
@@ -29,7 +29,7 @@ use Rattle.accept.specs.declared.Rules.{Rules}
 use Rattle.accept.specs.declared.Accepted.{Accepted}
 use Rattle.accept.specs.declared.Accepted.the-variants.{Grammar as A-grammar, Refused}
 use Rattle.accept.specs.Accepted.{Kept, Accepts}
-use Rattle.job.specs.declared.Refusal.{Refusal}
+use Rattle.exported.specs.declared.Refusal.{Refusal}
 use Rattle.tidy.specs.Scan.{scan}
 use Rattle.tidy.specs.Call.{tidyBytes, tidyTests, Tidies, tidyOf}
 use Rattle.tidy.proofs.Answers.{tidy-answers}
@@ -40,8 +40,8 @@ use Rattle.tidy_text.specs.declared.Tidied.the-variants.{Text as Tidied-text, R
 use Rattle.tidy_text.specs.Whole.{AllFit, Written, NotWritten, Concludes}
 use Rattle.tidy_text.proofs.Fits.{grammar-fits}
 use Rattle.tidy_text.proofs.Encoded.{tidy-encoded}
-use Rattle.outcome.specs.declared.Answer.{Answer}
-use Rattle.outcome.specs.Outcome.{shown, done, refusalOf}
+use Rattle.exported.specs.declared.Answer.{Answer}
+use Rattle.exported.specs.Exported.{shown, done, refusalOf}
 use Rattle.outcome.specs.Given.{Tokened, tidiedOf, GivesTidy}
 use Rattle.outcome.specs.Calls.{TidiedAs}
 use Rattle.outcome.proofs.Outcomes.{answering, refused-outcome, done-is}

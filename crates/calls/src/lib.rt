@@ -4,9 +4,9 @@ ghost use Rattle.answer.specs.Answer.{job, Categorizes, Reads, Converts};
 ghost use Rattle.outcome.specs.Calls.{Checked, ReadAs, ConvertedAs, JudgedAs, TidiedAs};
 ghost use Rattle.resume.specs.Resume.{StartedAs, RoundedAs, EndedAs};
 use accept::Accepted;
-use job::Refusal;
+use exported::Answer;
+use exported::Refusal;
 use opening::Begun;
-use outcome::Answer;
 use resume::Progress;
 use text::limits;
 
@@ -18,12 +18,12 @@ pub extern "C" fn ixml_check(grammar: &[u8]) -> Answer
     let mut table = [0u32; limits::GRAMMAR_TABLE];
     let accepted = accept::accept_grammar(grammar, &mut table);
     let Accepted::Grammar(rules) = accepted else {
-        return outcome::refuse(Refusal {
+        return exported::refuse(Refusal {
             why: accept::why_not_accepted(accepted),
             mismatch: false,
         });
     };
-    outcome::answered(0, false, rules.mismatch)
+    exported::answered(0, false, rules.mismatch)
 }
 
 // The category of a code point, by its place in the list of thirty; 30 for one that is not known here.
@@ -104,7 +104,7 @@ pub extern "C" fn ixml_judge(
         &mut text,
     );
     let Begun::At(start) = begun else {
-        return outcome::refuse(Refusal {
+        return exported::refuse(Refusal {
             why: opening::why_begun(begun),
             mismatch: false,
         });

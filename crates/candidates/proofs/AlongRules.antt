@@ -8,7 +8,8 @@ use native.Mathlib.Omega.{arith}
 use lib.ListN.{length, getD}
 use Rattle.chart.specs.Code.{goesAt}
 use Rattle.chart.specs.Heights.{none}
-use Rattle.candidates.specs.Candidates.{Tells, valueAt, Position, Ends, Line, ln-last, ln-next, Lined, SomeLow, FirstLow, OtherBy}
+use Rattle.splits.specs.Splits.{valueAt, Position}
+use Rattle.candidates.specs.Candidates.{Tells, Ends, Line, ln-last, ln-next, Lined, SomeLow, FirstLow, OtherBy}
 use Rattle.candidates.proofs.Lines.{line-one, line-position, line-ends, line-drop, line-after, line-last, line-few}
 use Rattle.candidates.proofs.Searches.{Unmet, unmet, unmet-next, ahead, tells-yes, tells-no}
 

@@ -2,4 +2,4 @@ pub mod Few
 pub mod Lines
 pub mod AlongRules
 pub mod Searches
-pub mod Values
+pub mod Passing

@@ -6,7 +6,8 @@ use native.Mathlib.Decide.{decLt}
 use native.Mathlib.Omega.{arith}
 use lib.ListN.{length, getD, drop, length-drop}
 use Rattle.chart.specs.Code.{goesAt}
-use Rattle.candidates.specs.Candidates.{Position, Ends, Line, ln-last, ln-next}
+use Rattle.splits.specs.Splits.{Position}
+use Rattle.candidates.specs.Candidates.{Ends, Line, ln-last, ln-next}
 use Rattle.candidates.proofs.Few.{few}
 
 pub ends-one : {c : List ℕ} {q e d : ℕ} → Ends c q e → Ends c q d → e ≡ d

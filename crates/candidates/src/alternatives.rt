@@ -4,15 +4,16 @@ ghost use mathlib.Core.Bool.{false};
 ghost use Prim.Native.Nat.{ℕ};
 ghost use Rattle.chart.specs.Code.{goesAt};
 ghost use Rattle.chart.specs.Heights.{none};
-ghost use Rattle.candidates.specs.Candidates.{Tells, Ready, Position, valueAt, Ends, Lined, SomeLow, FirstLow, OtherBy};
+ghost use Rattle.splits.specs.Splits.{Ready, Position, valueAt};
+ghost use Rattle.candidates.specs.Candidates.{Tells, Ends, Lined, SomeLow, FirstLow, OtherBy};
 use crate::Alternative;
-use crate::splits::AFTER_ALTERNATIVE;
-use crate::splits::alternative_height;
-use crate::splits::number_at;
 use chart::CODE_COLUMNS;
 use chart::CODE_GOES;
 use chart::NONE;
 use sparse::Stretch;
+use splits::AFTER_ALTERNATIVE;
+use splits::alternative_height;
+use splits::number_at;
 
 // The end of the alternative that begins at q.
 fn alternative_end(code: &[u32], q: usize) -> usize

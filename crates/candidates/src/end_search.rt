@@ -3,13 +3,14 @@
 ghost use mathlib.Core.Path.{_≡_};
 ghost use Prim.Native.Nat.{_<_};
 ghost use Rattle.chart.specs.Code.{nextKind};
-ghost use Rattle.candidates.specs.Candidates.{Tells, Ready, SomeEnd, FirstEnd, OtherEnd};
-use crate::splits::first_end;
-use crate::splits::next_end;
-use crate::splits::rest_cells;
-use crate::splits::split;
+ghost use Rattle.splits.specs.Splits.{Ready};
+ghost use Rattle.candidates.specs.Candidates.{Tells, SomeEnd, FirstEnd, OtherEnd};
 use chart::NONE;
 use sparse::Stretch;
+use splits::first_end;
+use splits::next_end;
+use splits::rest_cells;
+use splits::split;
 use text::CharPlace;
 
 // The smallest place where the symbol may end, in trees of heights below k, so that the rest of its row reaches j in trees of heights

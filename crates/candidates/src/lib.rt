@@ -4,13 +4,9 @@ pub use alternatives::find_alternative;
 pub use alternatives::other_alternative;
 pub use end_search::find_end;
 pub use end_search::other_end;
-pub use splits::AFTER_ALTERNATIVE;
-pub use splits::BEFORE_TERMINAL;
-pub use splits::number_at;
 
 mod alternatives;
 mod end_search;
-mod splits;
 
 // An alternative's number and its first dot position.
 pub struct Alternative {

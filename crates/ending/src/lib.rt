@@ -6,9 +6,9 @@ ghost use Rattle.state.specs.State.{stateLength};
 ghost use Rattle.job.specs.Found.{Prepared};
 ghost use Rattle.resume.specs.Stages.{Resumes};
 ghost use Rattle.ending.specs.Ending.{refusedWith, EndsWith};
+use exported::Refusal;
 use finish::Ended;
 use job::Parse;
-use job::Refusal;
 use opening::Begun;
 use text::Diagnostic;
 

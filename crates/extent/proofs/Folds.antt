@@ -8,7 +8,7 @@ use lib.ListN.{length, take, length-take}
 use Rattle.text.specs.Lists.{Text, concatMap}
 use Rattle.xml.specs.Document.{Xml, none, char, attr, elem, join, text}
 use Rattle.xml.specs.Bytes.{escape}
-use Rattle.markup.specs.Out.{enc}
+use Rattle.encode.specs.Out.{enc}
 use Rattle.markup.specs.Pieces.{said, sourced, Says}
 use Rattle.markup.specs.declared.Piece.{Piece}
 use Rattle.cursor.specs.Rest.{Rest, row, within, before}

@@ -16,8 +16,8 @@ use Rattle.xml.specs.Document.{Xml, none, char, attr, elem, attributeNames, twi
 use Rattle.xml.specs.Bytes.{escape, attributes, content, closed, state}
 use Rattle.xml.specs.References.{Reference, amp, lt, gt, apos, quot, tab, lf, cr}
 use Rattle.xml.proofs.Escapes.{Escaped, as-reference, as-itself, escaped}
-use Rattle.markup.specs.Out.{enc}
-use Rattle.markup.proofs.Puts.{enc-append, enc-one}
+use Rattle.encode.specs.Out.{enc}
+use Rattle.encode.proofs.Puts.{enc-append, enc-one}
 use Rattle.extent.specs.Extent.{size, tag, mostOf, attributesOf}
 
 pub size-append : (xs ys : Text) → size (xs ++ ys) ≡ size xs + size ys

@@ -7,7 +7,7 @@ use lib.ListN.{length}
 use Rattle.text.specs.Lists.{Text, concatMap}
 use Rattle.xml.specs.Document.{Xml, none, char, attr, elem}
 use Rattle.xml.specs.Bytes.{escape}
-use Rattle.markup.specs.Out.{enc}
+use Rattle.encode.specs.Out.{enc}
 use Rattle.extent.specs.declared.Extent.{Extent}
 
 -- the bytes of a text

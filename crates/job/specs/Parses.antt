@@ -20,7 +20,7 @@ use Rattle.load.specs.Loaded.{placesOf}
 use Rattle.parser.specs.declared.Chosen as parser
 use Rattle.parser.specs.declared.Chosen.the-variants.{Reading, TooLong, NoReading}
 use Rattle.job.specs.declared.LeftParse.{LeftParse}
-use Rattle.job.specs.declared.Refusal.{Refusal}
+use Rattle.exported.specs.declared.Refusal.{Refusal}
 use Rattle.job.specs.declared.Parse.{Parse}
 use Rattle.job.specs.declared.Parse.the-variants.{Chosen, Refused}
 use Rattle.opening.specs.declared.Start.{Start}

@@ -5,6 +5,7 @@ ghost use Rattle.answer.specs.Answer.{Job, job};
 ghost use Rattle.opening.specs.Stages.{Begins};
 ghost use Rattle.job.specs.Found.{whyNot, Prepared};
 ghost use Rattle.job.specs.Parses.{whyRefused, parsedOf, Lent, Parses};
+use exported::Refusal;
 use opening::Begun;
 use opening::Start;
 use parser::Chosen;
@@ -21,12 +22,6 @@ pub struct LeftParse {
     pub count: usize,
     pub chars: CharPlace,
     pub ambiguous: bool,
-    pub mismatch: bool,
-}
-
-// A refusal, and whether the grammar's version is another one, as far as that is known.
-pub struct Refusal {
-    pub why: Diagnostic,
     pub mismatch: bool,
 }
 

@@ -15,12 +15,12 @@ use Rattle.items.specs.Items.{Reads}
 use Rattle.xml.specs.Document.{terminalText, stretch}
 use Rattle.tokens.proofs.Names.{held-count, held-name}
 use Rattle.left_parse.proofs.Items.{named-holding, tokens-in, first-number, reads-first, mark-number}
-use Rattle.markup.specs.Out.{enc, spelt}
+use Rattle.encode.specs.Out.{enc, spelt}
 use Rattle.markup.specs.declared.Piece.{Piece}
 use Rattle.markup.specs.declared.Source.the-variants.{Table, Record}
 use Rattle.left_parse.specs.Steps.{Wide, Named}
 use Rattle.markup.specs.Pieces.{said, Says, Pieced, Headed}
-use Rattle.markup.proofs.Texts.{spelt-capped}
+use Rattle.encode.proofs.Texts.{spelt-capped}
 
 -- a list begins a part of another
 begin : (m : ℕ) (l xs ys : List ℕ) → take m l ≡ xs ++ ys → take (length xs) l ≡ xs
@@ -54,10 +54,6 @@ named-count N = held-count (named-holding N)
 
 pub named-text : {T : List ℕ} {token k : ℕ} {n : Text} → Named T token k n → take (length n) (drop (token + 2) T) ≡ n
 named-text {T} {token} N = ap (λ (j : ℕ). take j (drop (token + 2) T)) (sym (named-count N)) ∙ held-name (named-holding N)
-
-pub spelt-plain : (n : Text) → concatMap (spelt 0) n ≡ n
-spelt-plain [] = refl
-spelt-plain (c ∷ cs) = ap (λ (t : Text). c ∷ t) (spelt-plain cs)
 
 abbrev pub inserted : ℕ → ℕ → Piece
 inserted cell n = record { from = Table cell; count = n }

@@ -1,3 +1,2 @@
-pub mod Out
 pub mod Pieces
 pub mod Tags

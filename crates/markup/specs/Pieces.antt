@@ -12,7 +12,7 @@ use Rattle.plain.specs.Plain.{fits, width}
 use Rattle.items.specs.Items.{Reads}
 use Rattle.xml.specs.Document.{terminalText, stretch}
 use Rattle.left_parse.specs.Steps.{Named}
-use Rattle.markup.specs.Out.{enc, spelt}
+use Rattle.encode.specs.Out.{enc, spelt}
 use Rattle.markup.specs.declared.Piece.{Piece}
 use Rattle.markup.specs.declared.Source.{Source}
 use Rattle.markup.specs.declared.Source.the-variants.{Table, Record}

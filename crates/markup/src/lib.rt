@@ -1,4 +1,4 @@
-// The bytes of characters, names and terminals' text, put into a buffer up to a limit.
+// The bytes of names, terminals' text, states and tags, put into a buffer up to a limit.
 ghost use mathlib.Core.Path.{_≡_};
 ghost use mathlib.Core.Bool.{Bool, true, false};
 ghost use mathlib.Core.List.{List, [], _∷_, _++_};
@@ -8,7 +8,7 @@ ghost use Rattle.text.specs.Utf8.{utf8};
 ghost use Rattle.text.specs.Lists.{Text, chars, concatMap};
 ghost use Rattle.xml.specs.Bytes.{stateWith};
 ghost use Rattle.left_parse.specs.Steps.{Named};
-ghost use Rattle.markup.specs.Out.{state, puts, enc, Wrote, lastTwo, spelt, inValue};
+ghost use Rattle.encode.specs.Out.{enc, Wrote, spelt};
 ghost use Rattle.markup.specs.Pieces.{said, Pieced, Headed};
 ghost use Rattle.markup.specs.Tags.{closing, leadOf, endOf, stateOf, noWords};
 use text::BytePlace;
@@ -25,159 +25,6 @@ const MARKS: usize = tokens::MARKS as usize;
 
 const DELETED: usize = tokens::DELETED as usize;
 
-// One byte. Past the limit nothing is stored, and the place stops after the room.
-pub fn put(out: &mut [u8], limit: BytePlace, pos: BytePlace, b: u8) -> BytePlace
-    requires { ⌜ limit .0 ≤ length (now out) ⌝ }
-    ensures { λ r. ⌜ state (r .0) (now (out .exit)) ≡ puts (limit .0) (state (pos .0) (now (out .entry))) (b ∷ []) ⌝ }
-{
-    let at = pos.0;
-    if at < limit.0 {
-        out[at] = b;
-        return BytePlace(at + 1);
-    }
-    if at <= out.len() {
-        return BytePlace(at + 1);
-    }
-    pos
-}
-
-pub fn put_all(out: &mut [u8], limit: BytePlace, pos: BytePlace, s: &[u8]) -> BytePlace
-    requires { ⌜ limit .0 ≤ length (now out) ⌝ }
-    ensures { λ r. ⌜ state (r .0) (now (out .exit)) ≡ puts (limit .0) (state (pos .0) (now (out .entry))) (now (s .entry)) ⌝ }
-{
-    let mut at = pos;
-    let mut i = 0;
-    while i < s.len() {
-        at = put(out, limit, at, s[i]);
-        i += 1;
-    }
-    at
-}
-
-// The last two bytes of a character that has three or four.
-fn put_last(out: &mut [u8], limit: BytePlace, pos: BytePlace, c: usize) -> BytePlace
-    requires { ⌜ limit .0 ≤ length (now out) ⌝ }
-    ensures { λ r. ⌜ state (r .0) (now (out .exit)) ≡ puts (limit .0) (state (pos .0) (now (out .entry))) (lastTwo c) ⌝ }
-{
-    let q = put(out, limit, pos, (0x80 + c / 64 % 64) as u8);
-    put(out, limit, q, (0x80 + c % 64) as u8)
-}
-
-fn put_three(out: &mut [u8], limit: BytePlace, pos: BytePlace, c: usize) -> BytePlace
-    requires { ⌜ (limit .0 ≤ length (now out)) × ((2048 ≤ c) × (c < 65536)) ⌝ }
-    ensures { λ r. ⌜ state (r .0) (now (out .exit)) ≡ puts (limit .0) (state (pos .0) (now (out .entry))) (utf8 c) ⌝ }
-{
-    let q = put(out, limit, pos, (0xe0 + c / 4096) as u8);
-    put_last(out, limit, q, c)
-}
-
-fn put_four(out: &mut [u8], limit: BytePlace, pos: BytePlace, c: usize) -> BytePlace
-    requires { ⌜ (limit .0 ≤ length (now out)) × ((65536 ≤ c) × (c ≤ 1114112)) ⌝ }
-    ensures { λ r. ⌜ state (r .0) (now (out .exit)) ≡ puts (limit .0) (state (pos .0) (now (out .entry))) (utf8 c) ⌝ }
-{
-    let q = put(out, limit, pos, (0xf0 + c / 262144) as u8);
-    let q = put(out, limit, q, (0x80 + c / 4096 % 64) as u8);
-    put_last(out, limit, q, c)
-}
-
-// A character in UTF-8; every number above 10FFFF as 110000, as tables hold it.
-pub fn put_char(out: &mut [u8], limit: BytePlace, pos: BytePlace, c: usize) -> BytePlace
-    requires { ⌜ limit .0 ≤ length (now out) ⌝ }
-    ensures { λ r. ⌜ Wrote (limit .0) (pos .0) (now (out .entry)) (r .0) (now (out .exit)) (c ∷ []) ⌝ }
-{
-    if c < 0x80 {
-        return put(out, limit, pos, c as u8);
-    }
-    if c < 0x800 {
-        let q = put(out, limit, pos, (0xc0 + c / 64) as u8);
-        return put(out, limit, q, (0x80 + c % 64) as u8);
-    }
-    if c < 0x10000 {
-        return put_three(out, limit, pos, c);
-    }
-    if c < 0x110000 {
-        return put_four(out, limit, pos, c);
-    }
-    put_four(out, limit, pos, 0x110000)
-}
-
-// What is written otherwise in values alone.
-fn put_in_value(out: &mut [u8], limit: BytePlace, pos: BytePlace, c: usize) -> BytePlace
-    requires { ⌜ limit .0 ≤ length (now out) ⌝ }
-    ensures { λ r. ⌜ Wrote (limit .0) (pos .0) (now (out .entry)) (r .0) (now (out .exit)) (inValue c) ⌝ }
-{
-    if c == 0x27 {
-        return put_all(out, limit, pos, b"&apos;");
-    }
-    if c == 0xa {
-        return put_all(out, limit, pos, b"&#xA;");
-    }
-    if c == 0x9 {
-        return put_all(out, limit, pos, b"&#x9;");
-    }
-    put_char(out, limit, pos, c)
-}
-
-// Where a character is written: as it is, as in a name; in content; or in an attribute's value.
-pub const PLAIN: usize = 0;
-
-pub const IN_CONTENT: usize = 1;
-
-pub const IN_VALUE: usize = 2;
-
-// A character, escaped as where it is written asks.
-fn put_escaped(out: &mut [u8], limit: BytePlace, pos: BytePlace, mode: usize, c: usize) -> BytePlace
-    requires { ⌜ limit .0 ≤ length (now out) ⌝ }
-    ensures { λ r. ⌜ Wrote (limit .0) (pos .0) (now (out .entry)) (r .0) (now (out .exit)) (spelt mode c) ⌝ }
-{
-    if mode == PLAIN {
-        return put_char(out, limit, pos, c);
-    }
-    if c == 0x26 {
-        return put_all(out, limit, pos, b"&amp;");
-    }
-    if c == 0x3c {
-        return put_all(out, limit, pos, b"&lt;");
-    }
-    if c == 0x3e {
-        return put_all(out, limit, pos, b"&gt;");
-    }
-    if c == 0xd {
-        return put_all(out, limit, pos, b"&#xD;");
-    }
-    if mode == IN_VALUE {
-        return put_in_value(out, limit, pos, c);
-    }
-    put_char(out, limit, pos, c)
-}
-
-// Characters that stand in a table.
-pub fn put_text(
-    out: &mut [u8],
-    limit: BytePlace,
-    pos: BytePlace,
-    mode: usize,
-    t: &[u32],
-    from: usize,
-    count: usize,
-) -> BytePlace
-    requires { ⌜ limit .0 ≤ length (now out) ⌝ }
-    ensures { λ r. ⌜ Wrote (limit .0) (pos .0) (now (out .entry)) (r .0) (now (out .exit)) (concatMap (spelt mode) (take count (drop from (now (t .entry))))) ⌝ }
-{
-    let mut q = pos;
-    let mut i = from;
-    let mut n = count;
-    while n > 0 {
-        if i >= t.len() {
-            return q;
-        }
-        q = put_escaped(out, limit, q, mode, tokens::look(t, i));
-        i += 1;
-        n -= 1;
-    }
-    q
-}
-
 // The name that a token holds.
 pub fn put_name(
     out: &mut [u8],
@@ -190,7 +37,15 @@ pub fn put_name(
     ensures { λ r. ⌜ ((k : ℕ) (n : Text) → Named (now (table .entry)) token k n → Wrote (limit .0) (pos .0) (now (out .entry)) (r .0) (now (out .exit)) n) ⌝ }
 {
     let n = tokens::look(table, token + tokens::COUNT);
-    put_text(out, limit, pos, PLAIN, table, token + tokens::CHARS, n)
+    encode::put_text(
+        out,
+        limit,
+        pos,
+        encode::PLAIN,
+        table,
+        token + tokens::CHARS,
+        n,
+    )
 }
 
 // Where text stands: at a cell of the table, if it is inserted, or at a place in the record.
@@ -241,8 +96,8 @@ pub fn put_piece(
 {
     let from = p.from;
     match from {
-        Source::Table(cell) => put_text(out, limit, pos, mode, table, cell, p.count),
-        Source::Record(place) => put_text(out, limit, pos, mode, record, place.0, p.count),
+        Source::Table(cell) => encode::put_text(out, limit, pos, mode, table, cell, p.count),
+        Source::Record(place) => encode::put_text(out, limit, pos, mode, record, place.0, p.count),
     }
 }
 
@@ -267,9 +122,9 @@ fn put_words(out: &mut [u8], limit: BytePlace, pos: BytePlace, words: &[u8]) -> 
     ensures { λ r. ⌜ ((t : Text) → enc t ≡ now (words .entry) → Wrote (limit .0) (pos .0) (now (out .entry)) (r .0) (now (out .exit)) (stateWith t)) ⌝ }
 {
     let namespace = b" xmlns:ixml='http://invisiblexml.org/NS' ixml:state='";
-    let q = put_all(out, limit, pos, namespace);
-    let q = put_all(out, limit, q, words);
-    put(out, limit, q, b'\'')
+    let q = encode::put_all(out, limit, pos, namespace);
+    let q = encode::put_all(out, limit, q, words);
+    encode::put(out, limit, q, b'\'')
 }
 
 // The state, if one is due.
@@ -294,7 +149,7 @@ pub fn put_lead(out: &mut [u8], limit: BytePlace, pos: BytePlace, unclosed: bool
     ensures { λ r. ⌜ Wrote (limit .0) (pos .0) (now (out .entry)) (r .0) (now (out .exit)) (leadOf unclosed) ⌝ }
 {
     if unclosed {
-        return put(out, limit, pos, b'>');
+        return encode::put(out, limit, pos, b'>');
     }
     pos
 }
@@ -311,11 +166,11 @@ pub fn put_end(
     ensures { λ r. ⌜ ((k : ℕ) (n : Text) → Named (now (table .entry)) token k n → Wrote (limit .0) (pos .0) (now (out .entry)) (r .0) (now (out .exit)) (endOf unclosed (chars "/>") (closing n))) ⌝ }
 {
     if unclosed {
-        return put_all(out, limit, pos, b"/>");
+        return encode::put_all(out, limit, pos, b"/>");
     }
-    let q = put_all(out, limit, pos, b"</");
+    let q = encode::put_all(out, limit, pos, b"</");
     let q = put_name(out, limit, q, table, token);
-    put(out, limit, q, b'>')
+    encode::put(out, limit, q, b'>')
 }
 
 // The place of the root's token: after the version, if there is one.

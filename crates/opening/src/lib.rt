@@ -2,11 +2,11 @@
 // that refuses ends it.
 ghost use mathlib.Core.Path.{_≡_};
 ghost use mathlib.Core.Bool.{_||_};
-ghost use Prim.Native.Nat.{_*_, _<_, _≤_};
+ghost use Prim.Native.Nat.{_*_, _<_};
 ghost use lib.Dec.{ltb};
 ghost use lib.ListN.{length};
-ghost use Rattle.text.specs.Limits.{grammarTable, recordChars, mostSize};
-ghost use Rattle.answer.specs.Answer.{tableNeed, job};
+ghost use Rattle.text.specs.Limits.{grammarTable, recordChars};
+ghost use Rattle.answer.specs.Answer.{job};
 ghost use Rattle.text.specs.Stages.{diagnosticOf};
 ghost use Rattle.opening.specs.Stages.{takenOf, begunOf, Takes, Opens, Small, needOf, lendingOf, Begins, BeginsBy};
 use accept::Accepted;
@@ -45,14 +45,6 @@ fn take_record(record: &[u8], text: &mut [u32]) -> Taken
     Taken::Chars(end)
 }
 
-// The numbers that the main table needs.
-pub fn need(size: usize, n: usize) -> usize
-    requires { ⌜ (size ≤ mostSize) × (n ≤ recordChars) ⌝ }
-    ensures { λ r. ⌜ r ≡ tableNeed size n ⌝ }
-{
-    size * ((n + 1) * (n + 2) / 2)
-}
-
 // What the first stages find: the grammar's rules, and where the record's characters end.
 pub struct Start {
     pub rules: Rules,
@@ -89,7 +81,7 @@ pub fn open_job(grammar: &[u8], record: &[u8], table: &mut [u32], text: &mut [u3
     Begun::At(Start { rules, chars })
 }
 
-// The same of a job that is opened.
+// The numbers that the main table needs, of a job that is opened.
 pub fn need_of(opened: Begun) -> usize
     requires { ⌜ Small opened ⌝ }
     ensures { λ r. ⌜ r ≡ needOf opened ⌝ }
@@ -99,7 +91,7 @@ pub fn need_of(opened: Begun) -> usize
     };
     let rules = start.rules;
     let chars = start.chars;
-    need(rules.size, chars.0)
+    room::need(rules.size, chars.0)
 }
 
 // 15: the first table is shorter than its need, or the second too short. A refusal stays.
@@ -109,10 +101,7 @@ pub fn lend(opened: Begun, first: usize, need: usize, second: usize) -> Begun
     let Begun::At(start) = opened else {
         return opened;
     };
-    if first < need {
-        return Begun::Refused(text::plain(refusals::TABLE_TOO_SHORT));
-    }
-    if second < limits::GRAMMAR_TABLE {
+    if room::too_short(first, need, second) {
         return Begun::Refused(text::plain(refusals::TABLE_TOO_SHORT));
     }
     Begun::At(start)

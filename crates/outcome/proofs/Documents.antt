@@ -23,13 +23,14 @@ use Rattle.xml.specs.Bytes.{bytes}
 use Rattle.answer.specs.Answer.{Job, Shown, asXml}
 use Rattle.answer.specs.Compute.{faultIn, value, placesAt, jobValues, Outcome, outcome, Test, firstOf, Finder, Marker, documentTestsOf, longTestBy, foundResult, resultWith, treeOf, mismatch}
 use Rattle.answer.proofs.Noted.{value-skip, placeless}
-use Rattle.job.specs.declared.Refusal.{Refusal}
+use Rattle.exported.specs.declared.Refusal.{Refusal}
 use Rattle.dynamic_errors.specs.Judgment.{topmost, judgmentOf}
 use Rattle.convert.specs.declared.Converted.{Converted}
 use Rattle.convert.specs.declared.Converted.the-variants.{Xml, Refused as Not-converted}
 use Rattle.convert.specs.Concluded.{Written, NotWritten, Concludes}
 use Rattle.convert.proofs.Conclusions.{written-case, refused-case}
-use Rattle.outcome.specs.Outcome.{done, shown, answerOf}
+use Rattle.exported.specs.Exported.{done, shown}
+use Rattle.outcome.specs.Outcome.{answerOf}
 use Rattle.outcome.proofs.Outcomes.{refusing, answering, refused-outcome, done-is}
 
 -- 17 and on name no place

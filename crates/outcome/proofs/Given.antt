@@ -10,7 +10,7 @@ use Rattle.text.specs.declared.Diagnostic.{Diagnostic}
 use Rattle.tree.specs.Tree.{Grammar}
 use Rattle.tree.specs.Tokens.{Token}
 use Rattle.tokens.specs.Lengths.{Left}
-use Rattle.markup.specs.Out.{enc}
+use Rattle.encode.specs.Out.{enc}
 use Rattle.tidy.specs.Scan.{scan}
 use Rattle.tidy_writer.specs.Walk.{SomeLeft}
 use Rattle.tidy_text.specs.declared.Tidied.{Tidied}
@@ -21,14 +21,15 @@ use Rattle.accept.specs.declared.Accepted.the-variants.{Grammar as A-grammar, R
 use Rattle.accept.specs.Accepted.{stageOf}
 use Rattle.derive.specs.Derive.{Row}
 use Rattle.job.specs.declared.LeftParse.{LeftParse}
-use Rattle.job.specs.declared.Refusal.{Refusal}
+use Rattle.exported.specs.declared.Refusal.{Refusal}
 use Rattle.job.specs.declared.Parse.{Parse}
 use Rattle.job.specs.declared.Parse.the-variants.{Chosen, Refused}
 use Rattle.job.specs.Parses.{whyRefused}
 use Rattle.convert.specs.declared.Converted.{Converted}
 use Rattle.convert.specs.Concluded.{Parsing, Concludes}
-use Rattle.outcome.specs.declared.Answer.{Answer}
-use Rattle.outcome.specs.Outcome.{done, refusalOf, answerOf}
+use Rattle.exported.specs.declared.Answer.{Answer}
+use Rattle.exported.specs.Exported.{done, refusalOf}
+use Rattle.outcome.specs.Outcome.{answerOf}
 use Rattle.outcome.specs.Given.{Counted, GivesNumbers, Named, Writable, GivesXml, Tokened, tidiedOf, GivesTidy}
 
 told : {p : Parse} {k r : Refusal} {a : Answer} → p ≡ Refused k → r ≡ whyRefused p → a ≡ refusalOf r → a ≡ refusalOf k

@@ -1,5 +1,4 @@
 pub mod Outcomes
 pub mod Given
 pub mod Documents
-pub mod Copies
 pub mod Lists

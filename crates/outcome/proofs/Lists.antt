@@ -13,8 +13,9 @@ use Rattle.judge.specs.Due.{Named}
 use Rattle.judge.specs.Tracks.{Asked, Judged}
 use Rattle.convert.specs.declared.Converted.{Converted}
 use Rattle.convert.specs.Concluded.{Parsing, Annotated, Concludes}
-use Rattle.outcome.specs.declared.Answer.{Answer}
-use Rattle.outcome.specs.Outcome.{refusalOf, answerOf}
+use Rattle.exported.specs.declared.Answer.{Answer}
+use Rattle.exported.specs.Exported.{refusalOf}
+use Rattle.outcome.specs.Outcome.{answerOf}
 use Rattle.outcome.specs.Judging.{Stands, Judgeable, accepted, declined, Concluded}
 
 module _ {T : List ℕ} {R : ℕ} {P : List ℕ} {r : Text} {S : List ℕ} (w : Judgeable T R P r S) where

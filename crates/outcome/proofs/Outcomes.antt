@@ -10,9 +10,9 @@ use borrow.Author.Tests.{ne-eqb, lt-ltb, le-ltb}
 use Rattle.answer.specs.Answer.{Job, Shown}
 use Rattle.answer.specs.Compute.{Values, placesAt, jobValues, Test, firstOf, mismatch, Result, Outcome, outcome, resultOf, resultBy, longTest, callOf}
 use Rattle.job.specs.declared.LeftParse.{LeftParse}
-use Rattle.job.specs.declared.Refusal.{Refusal}
+use Rattle.exported.specs.declared.Refusal.{Refusal}
 use Rattle.load.specs.Loaded.{placesOf}
-use Rattle.outcome.specs.Outcome.{shown, done}
+use Rattle.exported.specs.Exported.{shown, done}
 use Rattle.job.specs.Found.{firstTest}
 use Rattle.job.specs.Parses.{IsChosen}
 

@@ -5,8 +5,8 @@ use Prim.Native.Nat.{ℕ}
 use Rattle.answer.specs.Answer.{Job, Checks, Reads, Converts, Judges}
 use Rattle.answer.specs.Compute.{checkOf, readOf, convertOf, judgeOf}
 use Rattle.tidy.specs.Call.{Tidies, tidyOf}
-use Rattle.outcome.specs.declared.Answer.{Answer}
-use Rattle.outcome.specs.Outcome.{shown}
+use Rattle.exported.specs.declared.Answer.{Answer}
+use Rattle.exported.specs.Exported.{shown}
 
 -- the answer is the one that the definition of checking gives, of which there is exactly one: that it is the computed one follows
 -- (answer Settled: check-settled)

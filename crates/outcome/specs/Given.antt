@@ -9,7 +9,7 @@ use Rattle.text.specs.Stages.{plainly}
 use Rattle.tree.specs.Tree.{Grammar}
 use Rattle.tree.specs.Tokens.{Token}
 use Rattle.tokens.specs.Lengths.{Left}
-use Rattle.markup.specs.Out.{enc}
+use Rattle.encode.specs.Out.{enc}
 use Rattle.tidy.specs.Scan.{scan}
 use Rattle.tidy_writer.specs.Walk.{SomeLeft}
 use Rattle.tidy_text.specs.declared.Tidied.{Tidied}
@@ -24,8 +24,9 @@ use Rattle.job.specs.declared.Parse.{Parse}
 use Rattle.job.specs.declared.Parse.the-variants.{Chosen, Refused}
 use Rattle.convert.specs.declared.Converted.{Converted}
 use Rattle.convert.specs.Concluded.{Parsing, Ready, Concludes}
-use Rattle.outcome.specs.declared.Answer.{Answer}
-use Rattle.outcome.specs.Outcome.{done, refusalOf, answerOf}
+use Rattle.exported.specs.declared.Answer.{Answer}
+use Rattle.exported.specs.Exported.{done, refusalOf}
+use Rattle.outcome.specs.Outcome.{answerOf}
 
 -- 1. Numbers: so many stand in `P`.
 abbrev pub Counted : Parse → List ℕ → Type 0

@@ -13,8 +13,9 @@ use Rattle.judge.specs.Due.{Named}
 use Rattle.judge.specs.Tracks.{Lent, Given}
 use Rattle.convert.specs.declared.Converted.{Converted}
 use Rattle.convert.specs.Concluded.{Concludes}
-use Rattle.outcome.specs.declared.Answer.{Answer}
-use Rattle.outcome.specs.Outcome.{refusalOf, answerOf}
+use Rattle.exported.specs.declared.Answer.{Answer}
+use Rattle.exported.specs.Exported.{refusalOf}
+use Rattle.outcome.specs.Outcome.{answerOf}
 
 -- a grammar whose tokens and plain rules stand in the table
 pub record Stands (T : List ℕ) (root : ℕ) (g : Grammar) : Type 0 where

@@ -22,11 +22,12 @@ use Rattle.chart.specs.Heights.{none}
 use Rattle.chart.proofs.Says.{says-low, low-says, says-some, some-says, rule-least, least-rule}
 use Rattle.sparse.specs.Cells.{ruleOf, restOf}
 use Rattle.reading.specs.declared.Cursor.{Cursor}
-use Rattle.candidates.specs.Candidates.{Tells, splitAt, LowEnd, SomeEnd, FirstEnd, OtherEnd}
+use Rattle.splits.specs.Splits.{splitAt}
+use Rattle.candidates.specs.Candidates.{Tells, LowEnd, SomeEnd, FirstEnd, OtherEnd}
 use Rattle.reading.specs.Walk.{pushed, descended, CanDescend}
 use Rattle.reading.specs.Answer.{Finished}
 use Rattle.reading.proofs.Tables.{Known, Placed, SymbolAt, symbol-at, Halves, halves-of, halves-at}
-use Rattle.candidates.proofs.Values.{joined-some, both, split-most, rest-most}
+use Rattle.splits.proofs.Values.{joined-some, both, split-most, rest-most}
 use Rattle.reading.proofs.PendingRows.{marked, unmarked, tells-by, Pending, parses, AnyTwice, push-pending, pushed-length}
 use Rattle.reading.proofs.Walks.{Ambiguous, Going, Before, some-low}
 

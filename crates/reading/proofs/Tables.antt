@@ -26,10 +26,11 @@ use Rattle.reach.specs.Flags.{Fits, Reached, Wanted, homeOf}
 use Rattle.reach.proofs.Closed.{home-first}
 use Rattle.sparse.specs.Cells.{ruleOf, restOf}
 use Rattle.sparse.specs.Steps.{Flagged}
-use Rattle.candidates.specs.Candidates.{splitAt, valueAt, Ready, Position, Ends, Line, ln-last, ln-next}
+use Rattle.splits.specs.Splits.{splitAt, valueAt, Ready, Position}
+use Rattle.candidates.specs.Candidates.{Ends, Line, ln-last, ln-next}
 use Rattle.reading.specs.Answer.{Finished}
 use mir.Val.{Fits as FitsIn}
-use Rattle.candidates.proofs.Values.{Small, both, rule-most, rest-most, value-most, value-low, value-offer}
+use Rattle.splits.proofs.Values.{Small, both, rule-most, rest-most, value-most, value-low, value-offer}
 
 -- finished tables, of numbers that fit
 pub record Known (c M F H : List ℕ) (size n top first : ℕ) : Type 0 where

@@ -10,7 +10,7 @@ use Rattle.sparse.specs.Cells.{ruleOf}
 use Rattle.reading.specs.declared.Cursor.{Cursor}
 use Rattle.reading.specs.Walk.{Entered, Stepped, CanStep, Over}
 use Rattle.reading.specs.Answer.{Finished, IsReading, IsLong}
-use Rattle.candidates.proofs.Values.{Small}
+use Rattle.splits.proofs.Values.{Small}
 use Rattle.reading.proofs.Tables.{Known}
 use Rattle.reading.proofs.Walks.{Stage, enter-stage}
 use Rattle.reading.proofs.Course.{weight, start, going, Root, rooted, begin, can-step, step-stage, step-falls, finish, finish-long}

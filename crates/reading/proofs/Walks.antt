@@ -28,7 +28,8 @@ use Rattle.chart.proofs.Says.{says-low, low-says, says-some, some-says, rule-le
 use Rattle.sparse.specs.Cells.{ruleOf}
 use Rattle.reading.specs.declared.Cursor.{Cursor}
 use Rattle.candidates.specs.declared.Alternative.{Alternative}
-use Rattle.candidates.specs.Candidates.{Tells, valueAt, Line, SomeLow, FirstLow, OtherBy}
+use Rattle.splits.specs.Splits.{valueAt}
+use Rattle.candidates.specs.Candidates.{Tells, Line, SomeLow, FirstLow, OtherBy}
 use Rattle.reading.specs.Walk.{entered, Entered, full, wrote}
 use Rattle.reading.specs.Answer.{Finished}
 use Rattle.candidates.proofs.Lines.{line-one}

@@ -9,7 +9,8 @@ use Rattle.chart.specs.Code.{nextKind, goesAt, ruleAt}
 use Rattle.sparse.specs.Cells.{ruleOf}
 use Rattle.reading.specs.declared.Cursor.{Cursor}
 use Rattle.candidates.specs.declared.Alternative.{Alternative}
-use Rattle.candidates.specs.Candidates.{FirstEnd, FirstLow, LowEnd, OtherBy, OtherEnd, Position, Ready, SomeEnd, SomeLow, Tells}
+use Rattle.splits.specs.Splits.{Position, Ready}
+use Rattle.candidates.specs.Candidates.{FirstEnd, FirstLow, LowEnd, OtherBy, OtherEnd, SomeEnd, SomeLow, Tells}
 
 -- the stack with the row that begins at p, to be walked to j with heights at most k
 abbrev pub pushed : List ℕ → ℕ → ℕ → ℕ → ℕ → List ℕ

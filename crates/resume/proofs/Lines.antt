@@ -28,8 +28,8 @@ use Rattle.opening.specs.declared.Begun.the-variants.{At, Refused as Ended}
 use Rattle.opening.specs.Stages.{begunOf, Opened, Started, Opens, lending, lendingOf, needOf}
 use Rattle.opening.proofs.Starts.{need-is}
 use Rattle.state.specs.State.{Keeps}
-use Rattle.outcome.specs.declared.Answer.{Answer}
-use Rattle.outcome.specs.Outcome.{shown, done, refusalOf}
+use Rattle.exported.specs.declared.Answer.{Answer}
+use Rattle.exported.specs.Exported.{shown, done, refusalOf}
 use Rattle.resume.specs.Resume.{Belongs, laterLines, noNotes, Rounds}
 use Rattle.resume.specs.Stages.{Resumed, NotResumed, alien, no-room, Resumes}
 

@@ -24,8 +24,8 @@ use Rattle.rounds.proofs.Says.{after-says}
 use Rattle.advance.specs.Round.{Rounded}
 use Rattle.advance.proofs.Turns.{flag-most}
 use Rattle.state.specs.State.{roundsOf, FinishedBy, Keeps, Counted}
-use Rattle.outcome.specs.declared.Answer.{Answer}
-use Rattle.outcome.specs.Outcome.{shown, refusalOf}
+use Rattle.exported.specs.declared.Answer.{Answer}
+use Rattle.exported.specs.Exported.{shown, refusalOf}
 use Rattle.resume.specs.declared.Progress.{Progress}
 use Rattle.resume.specs.Resume.{laterLines, Belongs, StartedAs, Counts, RoundedAs, EndedAs, early, altered, as-uncut}
 use Rattle.resume.specs.Traces.{Underway, started, went-on, jobOf, Laws}

@@ -13,7 +13,7 @@ use Rattle.chart.specs.Code.{flag}
 use Rattle.rounds.specs.After.{After, Finished}
 use Rattle.advance.specs.Round.{Rounded}
 use Rattle.state.specs.State.{roundsOf, FinishedBy, Keeps, Counted, Blank}
-use Rattle.outcome.specs.Outcome.{shown, refusalOf}
+use Rattle.exported.specs.Exported.{shown, refusalOf}
 use Rattle.resume.specs.declared.Progress.{Progress}
 
 -- a refusal, with a count of rounds

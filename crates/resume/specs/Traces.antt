@@ -9,7 +9,7 @@ use Rattle.answer.specs.Answer as defined
 use Rattle.rounds.specs.Rounds.{mostRounds}
 use Rattle.rounds.specs.After.{TableSays, Ends}
 use Rattle.state.specs.State.{roundsOf, FinishedBy, Keeps}
-use Rattle.outcome.specs.Outcome.{shown}
+use Rattle.exported.specs.Exported.{shown}
 use Rattle.resume.specs.declared.Progress.{Progress}
 use Rattle.resume.specs.Resume.{StartedAs, RoundedAs, EndedAs}
 

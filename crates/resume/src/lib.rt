@@ -6,9 +6,9 @@ ghost use Rattle.answer.specs.Answer.{job};
 ghost use Rattle.state.specs.State.{stateLength};
 ghost use Rattle.resume.specs.Resume.{refusing};
 ghost use Rattle.resume.specs.Stages.{Resumes};
-use job::Refusal;
+use exported::Answer;
+use exported::Refusal;
 use opening::Begun;
-use outcome::Answer;
 use text::Diagnostic;
 
 // A state, or a table, that is not of this read.
@@ -25,7 +25,7 @@ pub struct Progress {
 pub fn refuse(why: Diagnostic, rounds: usize) -> Progress
     ensures { λ r. ⌜ r ≡ refusing why rounds ⌝ }
 {
-    let answer = outcome::refuse(Refusal {
+    let answer = exported::refuse(Refusal {
         why,
         mismatch: false,
     });

@@ -21,8 +21,8 @@ use Rattle.opening.specs.declared.Begun.{Begun}
 use Rattle.opening.specs.declared.Begun.the-variants.{At, Refused as Ended}
 use Rattle.opening.specs.Stages.{begunOf, Started, Begins}
 use Rattle.job.proofs.Readings.{choosable}
-use Rattle.outcome.specs.declared.Answer.{Answer}
-use Rattle.outcome.specs.Outcome.{shown, done, refusalOf}
+use Rattle.exported.specs.declared.Answer.{Answer}
+use Rattle.exported.specs.Exported.{shown, done, refusalOf}
 use Rattle.resume.specs.declared.Progress.{Progress}
 use Rattle.resume.specs.Resume.{Starts, Rounds, StartedAs, Counts, RoundedAs}
 use Rattle.resume.specs.Stages.{Resumed, Resumes}

@@ -38,7 +38,7 @@ use Rattle.opening.specs.declared.Start.{Start}
 use Rattle.opening.specs.declared.Begun.{Begun}
 use Rattle.opening.specs.declared.Begun.the-variants.{At, Refused as Ended}
 use Rattle.opening.specs.Stages.{begunOf, Started, Begins, NotBegun}
-use Rattle.outcome.specs.Outcome.{shown, done, refusalOf}
+use Rattle.exported.specs.Exported.{shown, done, refusalOf}
 use Rattle.resume.specs.Resume as calls
 use Rattle.resume.proofs.Lines.{tops, version-known, no-mark, of-job, opened-of}
 

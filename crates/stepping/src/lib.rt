@@ -27,11 +27,11 @@ pub fn start(
         state::wipe(state);
         return resume::refuse(opening::why_begun(begun), 0);
     };
-    let need = opening::need(start.rules.size, start.chars.0);
+    let need = room::need(start.rules.size, start.chars.0);
     chart::clear(main, need);
     state::begin(state, grammar, record);
     Progress {
-        answer: outcome::answered(0, false, start.rules.mismatch),
+        answer: exported::answered(0, false, start.rules.mismatch),
         rounds: 0,
     }
 }
@@ -72,7 +72,7 @@ pub fn round(
     let Begun::At(start) = begun else {
         return resume::refuse(opening::why_begun(begun), 0);
     };
-    let answer = outcome::answered(0, false, start.rules.mismatch);
+    let answer = exported::answered(0, false, start.rules.mismatch);
     let done = state::rounds(state);
     let rounds = text::wide(done);
     if state::finished(state) {

@@ -12,8 +12,8 @@ use borrow.Author.Tests.{le-leb, lt-leb}
 use Rattle.text.specs.Limits.{grammarBytes}
 use Rattle.text.specs.Lists.{Text, pick}
 use Rattle.text.proofs.Tests.{split}
-use Rattle.markup.specs.Out.{State, state, puts, enc, Wrote}
-use Rattle.markup.proofs.Puts.{room}
+use Rattle.encode.specs.Out.{State, state, puts, enc, Wrote}
+use Rattle.encode.proofs.Puts.{room}
 use Rattle.tidy_text.specs.Whole.{Written, NotWritten}
 
 -- the place after a byte, in n of which some more are put

@@ -9,7 +9,7 @@ use Rattle.text.specs.Utf8.{utf8s, known, Scalar, All, none, more}
 use Rattle.tree.specs.Tree.{Grammar}
 use Rattle.tree.specs.Tokens.{grammarTokens, capped}
 use Rattle.syntax.specs.Syntax.{Ixml}
-use Rattle.markup.specs.Out.{enc}
+use Rattle.encode.specs.Out.{enc}
 use Rattle.tidy.specs.Tidy.{tidyText}
 use Rattle.tidy.specs.Scan.{scan}
 use Rattle.tidy.specs.Call.{tidyBytes}

@@ -9,8 +9,8 @@ use Rattle.text.specs.Lists.{Text, pick}
 use Rattle.tree.specs.Tokens.{Token, numbers}
 use Rattle.tokens.specs.Lengths.{lengthAt, TokenAt, Left}
 use Rattle.tokens.proofs.Walk.{some-number, left-empty, left-within, left-token, left-first, left-length, left-inside, left-next}
-use Rattle.markup.specs.Out.{State, state, puts, enc, Wrote}
-use Rattle.markup.proofs.Puts.{and-then, paid, puts-none, enc-none}
+use Rattle.encode.specs.Out.{State, state, puts, enc, Wrote}
+use Rattle.encode.proofs.Puts.{and-then, paid, puts-none, enc-none}
 use Rattle.tidy.specs.Scan.{kindOf, past, joint, before, begins, tokenText, scan}
 use Rattle.tidy.specs.Numbers.{kindBy, jointBy}
 use Rattle.tidy.proofs.Numbers.{numbered}

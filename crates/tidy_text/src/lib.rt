@@ -7,7 +7,7 @@ ghost use lib.ListN.{length};
 ghost use Rattle.text.specs.Lists.{pick};
 ghost use Rattle.tree.specs.Tokens.{Token};
 ghost use Rattle.tokens.specs.Lengths.{Left};
-ghost use Rattle.markup.specs.Out.{Wrote, enc};
+ghost use Rattle.encode.specs.Out.{Wrote, enc};
 ghost use Rattle.tidy.specs.Scan.{kindOf, past, joint, before, begins, scan};
 ghost use Rattle.tidy.specs.Numbers.{kindBy, jointBy};
 ghost use Rattle.tidy_writer.specs.Walk.{SomeLeft};
@@ -25,12 +25,12 @@ fn put_joint(out: &mut [u8], limit: BytePlace, pos: BytePlace, kind: u32) -> Byt
     ensures { λ r. ⌜ Wrote (limit .0) (pos .0) (now (out .entry)) (r .0) (now (out .exit)) (jointBy kind) ⌝ }
 {
     if kind == tokens::TO_REPEAT0SEP {
-        return markup::put_all(out, limit, pos, b"**");
+        return encode::put_all(out, limit, pos, b"**");
     }
     if kind == tokens::TO_REPEAT1SEP {
-        return markup::put_all(out, limit, pos, b"++");
+        return encode::put_all(out, limit, pos, b"++");
     }
-    markup::put_all(out, limit, pos, b", ")
+    encode::put_all(out, limit, pos, b", ")
 }
 
 // What joins the factor that begins at k to the one before it.
@@ -78,7 +78,7 @@ fn put_between(
         return pos;
     }
     if kind < tokens::SET_END {
-        return markup::put_all(out, limit, pos, b"; ");
+        return encode::put_all(out, limit, pos, b"; ");
     }
     if kind == tokens::SET_END {
         return pos;
@@ -158,6 +158,6 @@ pub fn tidy(t: &[u32], end: usize, result: &mut [u8]) -> Tidied
     if count > room {
         return Tidied::Refused(refusals::RESULT_TOO_LONG);
     }
-    markup::put_all(result, BytePlace(room), BytePlace(0), &whole[..count]);
+    encode::put_all(result, BytePlace(room), BytePlace(0), &whole[..count]);
     Tidied::Text(count)
 }

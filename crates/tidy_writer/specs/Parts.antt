@@ -1,31 +1,16 @@
--- A token's text in three parts: by its kind, what it holds, and by its kind again; and the tokens that tell all of it.
+-- What a token holds, at its place in the table; and the tokens that tell all of their text.
 use mathlib.Core.Path.{_≡_}
 use mathlib.Core.List.{List, [], _∷_, _++_}
-use Prim.Native.Nat.{ℕ, _+_, _%_, _<_}
+use Prim.Native.Nat.{ℕ, _+_, _<_}
 use lib.Dec.{ltb, eqb}
 use lib.ListN.{length, getD, take, drop}
 use Rattle.text.specs.Lists.{Text, chars, pick}
 use Rattle.tree.specs.Tree.{Chars, string, hex}
 use Rattle.tree.specs.Tokens.{Token, name, quoted, coded, include, exclude, member-quoted, member-coded, member-range, member-class, set-end, insert-quoted, insert-coded}
-use Rattle.tree.specs.Tokens.{open-group, close-group, next-alternative, to-option, to-repeat0, to-repeat1, to-repeat0sep, to-repeat1sep, rule-head, rule-end, version-is, capped}
+use Rattle.tree.specs.Tokens.{open-group, close-group, next-alternative, to-option, to-repeat0, to-repeat1, to-repeat0sep, to-repeat1sep, rule-head, rule-end, version-is}
 use Rattle.tokens.specs.Names.{nameAt}
-use Rattle.tidy.specs.Tidy.{quotedText, hexText}
-use Rattle.tidy.specs.Numbers.{signBy}
-
--- a mark's sign, `+` before an insertion, the words before a version
-unfoldable pub leadBy : ℕ → Text
-leadBy k = pick (ltb k 24) (signBy (k % 4)) (pick (ltb k 29) [] (pick (ltb k 31) (chars "+") (pick (eqb k 40) (chars "ixml version ") [])))
-
--- a character for each kind; `_` where there is none
-unfoldable pub signAt : List ℕ → ℕ → Text
-signAt s k = pick (ltb k (length s)) (pick (eqb (getD s k 0) 0x5f) [] (getD s k 0 ∷ [])) []
-
-unfoldable pub tailBy : ℕ → Text
-tailBy k = signAt (chars "____________[[[[~~~~::::____]__();?*+__..") k ++ signAt (chars "________________[[[[    _________ _____\n\n") k
-
--- a hex number as it stands in a table
-abbrev pub codedText : ℕ → Text
-codedText n = chars "#" ++ hexText (capped n)
+use Rattle.tidy.specs.Tidy.{quotedText}
+use Rattle.tidy_parts.specs.Parts.{codedText}
 
 -- an end of a range, and a class, at a place of the table
 unfoldable pub endAt : List ℕ → ℕ → Text

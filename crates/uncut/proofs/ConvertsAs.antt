@@ -23,8 +23,9 @@ use Rattle.job.specs.Parses.{IsChosen, Parses}
 use Rattle.opening.proofs.Texts.{got-part}
 use Rattle.convert.specs.declared.Converted.{Converted}
 use Rattle.convert.specs.Concluded.{Parsing, Ready, Concludes}
-use Rattle.outcome.specs.declared.Answer.{Answer}
-use Rattle.outcome.specs.Outcome.{shown, refusalOf, answerOf}
+use Rattle.exported.specs.declared.Answer.{Answer}
+use Rattle.exported.specs.Exported.{shown, refusalOf}
+use Rattle.outcome.specs.Outcome.{answerOf}
 use Rattle.outcome.specs.Given.{Named, GivesXml}
 use Rattle.outcome.specs.Calls.{ConvertedAs}
 use Rattle.outcome.proofs.Outcomes.{call-refused}

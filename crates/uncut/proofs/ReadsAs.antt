@@ -11,13 +11,13 @@ use Rattle.answer.specs.Answer.{Job, Reads, asNumbers}
 use Rattle.answer.specs.Compute.{Outcome, Test, longTest, readOf}
 use Rattle.answer.proofs.Settled.{read-answers}
 use Rattle.job.specs.declared.LeftParse.{LeftParse}
-use Rattle.job.specs.declared.Refusal.{Refusal}
+use Rattle.exported.specs.declared.Refusal.{Refusal}
 use Rattle.job.specs.declared.Parse.{Parse}
 use Rattle.job.specs.declared.Parse.the-variants.{Chosen, Refused}
 use Rattle.job.specs.Parses.{IsChosen, Parses}
-use Rattle.outcome.specs.declared.Answer.{Answer}
+use Rattle.exported.specs.declared.Answer.{Answer}
 use Rattle.text.specs.Stages.{plainly}
-use Rattle.outcome.specs.Outcome.{done, shown, refusalOf}
+use Rattle.exported.specs.Exported.{done, shown, refusalOf}
 use Rattle.outcome.specs.Given.{Counted, Fitting, GivesNumbers}
 use Rattle.outcome.specs.Calls.{ReadAs}
 use Rattle.outcome.proofs.Outcomes.{refusing, call-refused, call-answered, numbers-in, result-is, too-long, fitting, done-is}

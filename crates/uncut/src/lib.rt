@@ -2,8 +2,8 @@
 ghost use lib.ListN.{length};
 ghost use Rattle.answer.specs.Answer.{job};
 ghost use Rattle.outcome.specs.Calls.{ReadAs, ConvertedAs};
+use exported::Answer;
 use job::Lending;
-use outcome::Answer;
 use text::limits;
 
 // Reads a record, by the plain engine or the quick one.

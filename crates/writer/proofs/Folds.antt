@@ -8,17 +8,18 @@ use lib.ListN.{length}
 use Rattle.text.specs.Lists.{Text, chars, pick, concatMap}
 use Rattle.xml.specs.Document.{Xml, none, attr, elem, join, text}
 use Rattle.xml.specs.Bytes.{escape, attributes}
-use Rattle.markup.specs.Out.{State, state, puts, enc, Wrote}
+use Rattle.encode.specs.Out.{State, state, puts, enc, Wrote}
 use Rattle.markup.specs.Tags.{closing, leadOf, endOf, stateOf, noWords}
 use Rattle.markup.specs.declared.StateWords.{StateWords}
 use Rattle.text.specs.declared.BytePlace.{BytePlace}
-use Rattle.markup.proofs.Puts.{puts-none, enc-none, paid}
+use Rattle.encode.proofs.Puts.{puts-none, enc-none, paid}
 use Rattle.cursor.specs.Rest.{Rest, row, within, before}
 use Rattle.cursor.specs.Ahead.{Ahead, AtRow, SomeRow}
 use Rattle.cursor.specs.declared.Cursor.{Cursor}
 use Rattle.extent.proofs.Folds.{attributesAhead, attributes-before}
-use Rattle.writer.specs.Markup.{startOf, turned, May, Attributed, Came}
-use Rattle.writer.specs.declared.Output.{Output}
+use Rattle.tags.specs.Stated.{startOf, turned}
+use Rattle.writer.specs.Markup.{May, Attributed, Came}
+use Rattle.tags.specs.declared.Output.{Output}
 use Rattle.writer.proofs.Laws.{owed, owed-text, owed-attribute, owed-element, owed-closes, owed-over, plain, IsText, is-text}
 use Rattle.writer.proofs.Laws.{plain-text, plain-join, text-join, spells-append, attributes-past, Shape, exposed}
 

@@ -11,7 +11,8 @@ use Rattle.xml.specs.Bytes.{escape, attributes, content, closed}
 use Rattle.xml.proofs.Escapes.{Escaped, as-reference, as-itself, escaped}
 use Rattle.markup.specs.Tags.{closing, leadOf, endOf}
 use Rattle.cursor.specs.Rest.{Rest, row, within, before}
-use Rattle.writer.specs.Markup.{late, startOf, stated}
+use Rattle.tags.specs.Stated.{late, startOf, stated}
+use Rattle.tags.proofs.Laws.{late-closed, stated-none}
 
 -- every character is written as some
 some-escape : (v : Bool) (c : ℕ) → 0 < length (escape v c)
@@ -24,20 +25,6 @@ some-escape v c = go (escaped v c)
 some-text : (t : Text) → 0 < length t → 0 < length (concatMap (escape false) t)
 some-text [] h = absurd (omega arith)
 some-text (b ∷ bs) h = omega (arith, length-append (escape false b) (concatMap (escape false) bs), some-escape false b)
-
-pub late-closed : (n t : Text) → late true t (chars "/>") (closing n) ≡ closed n t
-late-closed n [] = refl
-late-closed n (c ∷ cs) = simp append-assoc
-
--- no state is the plain content
-pub stated-none : (x : Xml) → stated [] x ≡ content x
-stated-none none = refl
-stated-none (char c x) = ap (λ (t : Text). escape false c ++ t) (stated-none x)
-stated-none (attr n v x) = stated-none x
-stated-none (elem n i x) = ap (λ (t : Text). startOf n [] i ++ (t ++ content x)) (late-closed n (content i)) ∙ regroup (chars "<") n (attributes i) (closed n (content i)) (content x)
-  where
-    regroup : (o n a l y : Text) → (((o ++ n) ++ []) ++ a) ++ (l ++ y) ≡ (((o ++ n) ++ a) ++ l) ++ y
-    regroup o n a l y = simp (append-nil, append-assoc)
 
 stated-text : (st cs : Text) (y : Xml) → stated st (join (text cs) y) ≡ concatMap (escape false) cs ++ stated st y
 stated-text st [] y = refl

@@ -1,4 +1,3 @@
 pub mod Laws
 pub mod Folds
-pub mod Chars
 pub mod Whole

@@ -19,25 +19,26 @@ use Rattle.left_parse.specs.Noted.{Noted, Parsed, Room}
 use Rattle.left_parse.specs.Steps.{Found, Named}
 use Rattle.left_parse.proofs.Items.{tokens-in}
 use Rattle.left_parse.proofs.Notes.{begins}
-use Rattle.markup.specs.Out.{State, state, puts, enc, Wrote}
+use Rattle.encode.specs.Out.{State, state, puts, enc, Wrote}
 use Rattle.markup.specs.Tags.{closing, leadOf, endOf, stateOf, noWords}
 use Rattle.markup.specs.declared.StateWords.{StateWords}
-use Rattle.markup.proofs.Puts.{puts-none, enc-none, and-then, wrote-text, dry, room}
+use Rattle.encode.proofs.Puts.{puts-none, enc-none, and-then, wrote-text, dry, room}
 use Rattle.cursor.specs.Ahead.{AtRow, SomeRow, rootAt}
 use Rattle.cursor.specs.declared.Cursor.{Cursor}
 use Rattle.cursor.proofs.Nodes.{ahead-begin}
 use Rattle.extent.specs.Extent.{mostOf, attributesOf, Covers, Fits}
 use Rattle.extent.proofs.Sizes.{start-size, state-size, row-size, no-attributes}
-use Rattle.writer.specs.Markup.{late, startOf, stated, turned, freshAt, May, Attributed, Came}
+use Rattle.tags.specs.Stated.{late, startOf, stated, turned}
+use Rattle.writer.specs.Markup.{freshAt, May, Attributed, Came}
 use Rattle.writer.specs.Whole.{Job, Some, Writable, Documented, Answered}
 use Rattle.writer.specs.declared.Written.{Written}
 use Rattle.writer.specs.declared.Written.the-variants.{Xml as Fits′, TooLong}
 use Rattle.text.specs.declared.BytePlace.{BytePlace}
-use Rattle.writer.specs.declared.Output.{Output}
+use Rattle.tags.specs.declared.Output.{Output}
 use Rattle.writer.specs.declared.Plan.{Plan}
-use Rattle.writer.proofs.Laws.{late-closed, stated-none}
+use Rattle.tags.proofs.Laws.{stated-none, element-bytes}
 use Rattle.writer.proofs.Folds.{same-limit}
-use Rattle.writer.proofs.Chars.{ok, enc-ok, element-ok}
+use Rattle.tags.proofs.Chars.{ok, enc-ok, element-ok}
 
 -- what stands in an element has attributes only where it may
 may-inside : {o t : Output} {p : BytePlace} {u : Bool} {d : StateWords} {n : Text} {x : Xml} → t ≡ turned o p u d → May o (elem n x none) → May t x
@@ -133,15 +134,6 @@ one (elem n i none) h = (n, i, refl)
 one (elem n i (char c x)) h = absurd (let z : _≡_ {A = ℕ} 0 1 = cc in omega arith)
 one (elem n i (attr m v x)) h = absurd (let z : _≡_ {A = ℕ} 0 1 = cc in omega arith)
 one (elem n i (elem m j x)) h = absurd (let z : _≡_ {A = ℕ} 0 1 = cc in omega arith)
-
-element-bytes : (due : StateWords) (n : Text) (i : Xml) → misnamed (elem n i none) ≡ false → unwritable (elem n i none) ≡ false
-    → enc (stated (stateOf due) (elem n i none)) ≡ bytes (due .ambiguous) (due .mismatch) (elem n i none)
-unfolding bytes
-element-bytes due n i p q =
-    let t = chars "<" ++ n ++ stateOf due ++ attributes i ++ closed n (content i) in
-    let s : stated (stateOf due) (elem n i none) ≡ t = ap (λ (u : Text). startOf n (stateOf due) i ++ u)
-    (append-nil (late true (content i) (chars "/>") (closing n)) ∙ late-closed n (content i)) in
-    ap enc s ∙ enc-ok t (element-ok (due .ambiguous) (due .mismatch) n i none p q)
 
 pub document-bytes : {g : Grammar} {r : Text} {t : Row} (due : StateWords) → Writable g r t
     → enc (stated (stateOf due) (document g r t)) ≡ bytes (due .ambiguous) (due .mismatch) (document g r t)

@@ -12,11 +12,12 @@ use Rattle.items.specs.Items.{Reads}
 use Rattle.xml.specs.Document.{document, misnamed, unwritable, notOne}
 use Rattle.xml.specs.Bytes.{bytes}
 use Rattle.left_parse.specs.Noted.{Noted, Parsed}
-use Rattle.markup.specs.Out.{Wrote}
+use Rattle.encode.specs.Out.{Wrote}
 use Rattle.markup.specs.Tags.{stateOf}
 use Rattle.extent.specs.Extent.{Covers}
-use Rattle.writer.specs.Markup.{stated, May}
-use Rattle.writer.specs.declared.Output.{Output}
+use Rattle.tags.specs.Stated.{stated}
+use Rattle.writer.specs.Markup.{May}
+use Rattle.tags.specs.declared.Output.{Output}
 use Rattle.writer.specs.declared.Plan.{Plan}
 use Rattle.writer.specs.declared.Written.{Written}
 use Rattle.writer.specs.declared.Written.the-variants.{Xml, TooLong}

@@ -1,38 +1,21 @@
 // The XML of a left parse: measured and written by the same folds over the events of a cursor, with no recursion.
 ghost use mathlib.Core.Path.{_≡_};
-ghost use mathlib.Core.Bool.{true, false};
-ghost use mathlib.Core.List.{List, _++_};
-ghost use Prim.Native.Nat.{ℕ, _<_, _≤_};
+ghost use mathlib.Core.Bool.{false};
+ghost use Prim.Native.Nat.{_≤_};
 ghost use lib.ListN.{length};
-ghost use Rattle.text.specs.Lists.{Text, chars, pick, concatMap};
-ghost use Rattle.xml.specs.Bytes.{escape};
-ghost use Rattle.left_parse.specs.Steps.{Named};
-ghost use Rattle.markup.specs.Out.{Wrote};
-ghost use Rattle.markup.specs.Pieces.{Says};
-ghost use Rattle.markup.specs.Tags.{closing, leadOf, endOf, stateOf, noWords};
 ghost use Rattle.items.specs.Items.{kindAt};
 ghost use Rattle.cursor.specs.Ahead.{SomeRow, SomeNode};
 ghost use Rattle.extent.specs.Extent.{Fits};
 ghost use Rattle.left_parse.specs.Noted.{Room};
 ghost use Rattle.writer.specs.Whole.{Documented, Wrotes};
 ghost use Rattle.writer.specs.Whole.{Some as SomeJob};
-ghost use Rattle.writer.specs.Markup.{turned, freshAt, Attributed, Opened, Came};
+ghost use Rattle.writer.specs.Markup.{freshAt, Attributed, Opened, Came};
 use cursor::Cursor;
 use cursor::Event;
 use extent::Extent;
-use markup::Piece;
 use markup::StateWords;
+use tags::Output;
 use text::BytePlace;
-
-// Where writing stands: where the room ends, the next byte's place, whether a start tag is still open, whether start tags may have
-// attributes, and the state that the next start tag gets.
-pub struct Output {
-    pub limit: BytePlace,
-    pub pos: BytePlace,
-    pub unclosed: bool,
-    pub attributed: bool,
-    pub due: StateWords,
-}
 
 // What is written besides the document, and what is known of that.
 pub struct Plan {
@@ -42,57 +25,6 @@ pub struct Plan {
 
 // The head of a rule that is marked `-`.
 const DELETED_HEAD: usize = tokens::RULE_HEAD_DELETED as usize;
-
-// Text, if it stands in an attribute's value.
-fn put_quoted(
-    table: &[u32],
-    record: &[u32],
-    out: &mut [u8],
-    limit: BytePlace,
-    pos: BytePlace,
-    quoted: bool,
-    p: Piece,
-) -> BytePlace
-    requires { ⌜ limit .0 ≤ length (now out) ⌝ }
-    ensures { λ q. ⌜ ((t : Text) → Says (now (table .entry)) (now («record» .entry)) p t
-        → Wrote (limit .0) (pos .0) (now (out .entry)) (q .0) (now (out .exit)) (pick quoted (concatMap (escape true) t) (chars ""))) ⌝ }
-{
-    if quoted {
-        return markup::put_piece(out, limit, pos, markup::IN_VALUE, table, record, p);
-    }
-    pos
-}
-
-// An attribute up to its value.
-fn put_equals(
-    table: &[u32],
-    out: &mut [u8],
-    limit: BytePlace,
-    pos: BytePlace,
-    token: usize,
-) -> BytePlace
-    requires { ⌜ (limit .0 ≤ length (now out)) × (token < 4294967298) ⌝ }
-    ensures { λ q. ⌜ ((k : ℕ) (n : Text) → Named (now (table .entry)) token k n → Wrote (limit .0) (pos .0) (now (out .entry)) (q .0) (now (out .exit)) (chars " " ++ (n ++ chars "='"))) ⌝ }
-{
-    let q = markup::put(out, limit, pos, b' ');
-    let q = markup::put_name(out, limit, q, table, token);
-    markup::put_all(out, limit, q, b"='")
-}
-
-// The same output, at another place.
-fn moved(o: Output, pos: BytePlace) -> Output
-    ensures { λ r. ⌜ r ≡ turned o pos (o .unclosed) (o .due) ⌝ }
-{
-    let limit = o.limit;
-    let due = o.due;
-    Output {
-        limit,
-        pos,
-        unclosed: o.unclosed,
-        attributed: o.attributed,
-        due,
-    }
-}
 
 // The attributes that a row exposes.
 fn put_attributes(
@@ -117,65 +49,22 @@ fn put_attributes(
         match event {
             Event::Text(n) => {
                 let p = cursor::text_at(table, n);
-                pos = put_quoted(table, record, out, limit, pos, quoted, p);
+                pos = tags::put_quoted(table, record, out, limit, pos, quoted, p);
                 at = cursor::skip(table, parse, scratch, n);
             }
             Event::Open(_, n) => at = cursor::past(table, parse, scratch, n),
             Event::Attribute(token, n) => {
-                pos = put_equals(table, out, limit, pos, token);
+                pos = tags::put_equals(table, out, limit, pos, token);
                 quoted = true;
                 at = cursor::enter(table, parse, scratch, n);
             }
             Event::Close(_, n) => {
-                pos = markup::put(out, limit, pos, b'\'');
+                pos = encode::put(out, limit, pos, b'\'');
                 quoted = false;
                 at = n;
             }
-            Event::End => return moved(from, pos),
+            Event::End => return tags::moved(from, pos),
         }
-    }
-}
-
-// A start tag that is not shut yet, with the state that is due, in an element whose start tag it shuts.
-fn put_start(table: &[u32], out: &mut [u8], o: Output, token: usize) -> Output
-    requires { ⌜ (o .limit .0 ≤ length (now out)) × (token < 4294967298) ⌝ }
-    ensures { λ q. ⌜ (q ≡ turned o (q .pos) true noWords) × ((k : ℕ) (n : Text) → Named (now (table .entry)) token k n
-        → Wrote (o .limit .0) (o .pos .0) (now (out .entry)) (q .pos .0) (now (out .exit)) (leadOf (o .unclosed) ++ (chars "<" ++ (n ++ stateOf (o .due))))) ⌝ }
-{
-    let limit = o.limit;
-    let due = o.due;
-    let q = o.pos;
-    let q = markup::put_lead(out, limit, q, o.unclosed);
-    let q = markup::put(out, limit, q, b'<');
-    let q = markup::put_name(out, limit, q, table, token);
-    let pos = markup::put_state(out, limit, q, due);
-    let none = markup::no_words();
-    Output {
-        limit,
-        pos,
-        unclosed: true,
-        attributed: o.attributed,
-        due: none,
-    }
-}
-
-// Text in an element, whose start tag it shuts.
-fn put_text(table: &[u32], record: &[u32], out: &mut [u8], o: Output, p: Piece) -> Output
-    requires { ⌜ o .limit .0 ≤ length (now out) ⌝ }
-    ensures { λ q. ⌜ (q ≡ turned o (q .pos) false (o .due)) × ((t : Text) → Says (now (table .entry)) (now («record» .entry)) p t
-        → Wrote (o .limit .0) (o .pos .0) (now (out .entry)) (q .pos .0) (now (out .exit)) (leadOf (o .unclosed) ++ concatMap (escape false) t)) ⌝ }
-{
-    let limit = o.limit;
-    let due = o.due;
-    let q = o.pos;
-    let q = markup::put_lead(out, limit, q, o.unclosed);
-    let pos = markup::put_piece(out, limit, q, markup::IN_CONTENT, table, record, p);
-    Output {
-        limit,
-        pos,
-        unclosed: false,
-        attributed: o.attributed,
-        due,
     }
 }
 
@@ -196,31 +85,12 @@ fn put_open(
 {
     let h = c.at;
     let token = items::token_at(table, h.item);
-    let tag = put_start(table, out, o, token);
+    let tag = tags::put_start(table, out, o, token);
     if o.attributed {
         let first = cursor::inside(table, parse, scratch, c);
         return put_attributes(table, parse, record, scratch, out, tag, first);
     }
     tag
-}
-
-// The end of an element, by its token.
-fn put_close(table: &[u32], out: &mut [u8], o: Output, token: usize) -> Output
-    requires { ⌜ (o .limit .0 ≤ length (now out)) × (token < 4294967298) ⌝ }
-    ensures { λ q. ⌜ (q ≡ turned o (q .pos) false noWords) × ((k : ℕ) (n : Text) → Named (now (table .entry)) token k n
-        → Wrote (o .limit .0) (o .pos .0) (now (out .entry)) (q .pos .0) (now (out .exit)) (endOf (o .unclosed) (chars "/>") (closing n))) ⌝ }
-{
-    let limit = o.limit;
-    let q = o.pos;
-    let pos = markup::put_end(out, limit, q, o.unclosed, table, token);
-    let none = markup::no_words();
-    Output {
-        limit,
-        pos,
-        unclosed: false,
-        attributed: o.attributed,
-        due: none,
-    }
 }
 
 // What stands in elements.
@@ -243,7 +113,7 @@ fn put_content(
         let event = cursor::next(table, parse, scratch, at);
         match event {
             Event::Text(n) => {
-                o = put_text(table, record, out, o, cursor::text_at(table, n));
+                o = tags::put_text(table, record, out, o, cursor::text_at(table, n));
                 at = cursor::skip(table, parse, scratch, n);
             }
             Event::Open(_, n) => {
@@ -252,7 +122,7 @@ fn put_content(
             }
             Event::Attribute(_, n) => at = cursor::past(table, parse, scratch, n),
             Event::Close(item, n) => {
-                o = put_close(table, out, o, items::token_at(table, item));
+                o = tags::put_close(table, out, o, items::token_at(table, item));
                 at = n;
             }
             Event::End => return o,
@@ -283,10 +153,10 @@ fn put_document(
         let bare = put_content(table, parse, record, scratch, out, from, first);
         return bare.pos;
     }
-    let name = put_start(table, out, from, head);
+    let name = tags::put_start(table, out, from, head);
     let tag = put_attributes(table, parse, record, scratch, out, name, first);
     let inner = put_content(table, parse, record, scratch, out, tag, first);
-    let whole = put_close(table, out, inner, head);
+    let whole = tags::put_close(table, out, inner, head);
     whole.pos
 }
 

@@ -16,7 +16,7 @@ use Rattle.xml.specs.Names.{xmlChar, nameStart, nameChar, xmlName}
 use Rattle.left_parse.specs.Steps.{Named}
 use Rattle.left_parse.proofs.Items.{tokens-in}
 use Rattle.markup.proofs.Pieces.{token-text, named-count}
-use Rattle.markup.proofs.Texts.{stretch-cons, stretch-none}
+use Rattle.encode.proofs.Texts.{stretch-cons, stretch-none}
 use Rattle.xml_names.specs.Flags.{bad, odd}
 
 -- a number above all characters is bad

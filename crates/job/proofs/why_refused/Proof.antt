@@ -2,7 +2,7 @@ use mathlib.Core.Bool.{false}
 use mathlib.Core.Path.{_≡_, sym, ap, _∙_}
 use borrow.Author.Needs.{needs}
 use Rattle.text.specs.declared.Diagnostic.{Diagnostic}
-use Rattle.job.specs.declared.Refusal.{Refusal}
+use Rattle.exported.specs.declared.Refusal.{Refusal}
 use Rattle.job.specs.Parses.{whyRefused}
 use Rattle.job.proofs.why_refused.Statement.{statement}
 use Rattle.job.proofs.why_refused.Tie as tie

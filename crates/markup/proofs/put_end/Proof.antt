@@ -2,9 +2,9 @@ use mathlib.Core.Path.{_≡_, refl}
 use mathlib.Core.List.{_++_}
 use Rattle.text.specs.Lists.{chars}
 use Rattle.text.specs.Utf8.{utf8}
-use Rattle.markup.specs.Out.{enc, Wrote}
+use Rattle.encode.specs.Out.{enc, Wrote}
 use Rattle.markup.specs.Tags.{closing}
-use Rattle.markup.proofs.Puts.{wrote-bytes, wrote-text, and-then}
+use Rattle.encode.proofs.Puts.{wrote-bytes, wrote-text, and-then}
 use borrow.Author.Needs.{needs}
 use Rattle.markup.proofs.put_end.Statement.{statement}
 use Rattle.markup.proofs.put_end.Tie as tie

@@ -1,9 +1,9 @@
 use mathlib.Core.Path.{_≡_, refl}
 use mathlib.Core.List.{List, [], _∷_}
 use Rattle.text.specs.Utf8.{utf8}
-use Rattle.markup.specs.Out.{enc}
+use Rattle.encode.specs.Out.{enc}
 use Rattle.markup.specs.Tags.{leadOf}
-use Rattle.markup.proofs.Puts.{wrote-bytes, wrote-none, wrote-text}
+use Rattle.encode.proofs.Puts.{wrote-bytes, wrote-none, wrote-text}
 use borrow.Author.Needs.{needs}
 use Rattle.markup.proofs.put_lead.Statement.{statement}
 use Rattle.markup.proofs.put_lead.Tie as tie

@@ -3,9 +3,10 @@ use Prim.Native.Nat.{ℕ, _+_}
 use lib.ListN.{length, take, drop}
 use denote.Ref.{now}
 use Rattle.text.specs.Lists.{Text, concatMap}
-use Rattle.markup.specs.Out.{spelt}
-use Rattle.markup.proofs.Puts.{wrote-text}
-use Rattle.markup.proofs.Pieces.{named-count, named-text, spelt-plain}
+use Rattle.encode.specs.Out.{spelt}
+use Rattle.encode.proofs.Puts.{wrote-text}
+use Rattle.encode.proofs.Texts.{spelt-plain}
+use Rattle.markup.proofs.Pieces.{named-count, named-text}
 use borrow.Author.Needs.{needs}
 use Rattle.markup.proofs.put_name.Statement.{statement}
 use Rattle.markup.proofs.put_name.Tie as tie

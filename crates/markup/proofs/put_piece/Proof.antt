@@ -1,5 +1,5 @@
 use mathlib.Core.Path.{_≡_, refl}
-use Rattle.markup.proofs.Puts.{wrote-text}
+use Rattle.encode.proofs.Puts.{wrote-text}
 use borrow.Author.Needs.{needs}
 use Rattle.markup.proofs.put_piece.Statement.{statement}
 use Rattle.markup.proofs.put_piece.Tie as tie

@@ -1,8 +1,8 @@
 use mathlib.Core.Path.{_≡_, refl}
 use Rattle.text.specs.Lists.{chars}
 use Rattle.text.specs.Utf8.{utf8}
-use Rattle.markup.specs.Out.{enc}
-use Rattle.markup.proofs.Puts.{wrote-text, wrote-none}
+use Rattle.encode.specs.Out.{enc}
+use Rattle.encode.proofs.Puts.{wrote-text, wrote-none}
 use borrow.Author.Needs.{needs}
 use Rattle.markup.proofs.put_state.Statement.{statement}
 use Rattle.markup.proofs.put_state.Tie as tie

@@ -1,8 +1,8 @@
 use mathlib.Core.Path.{_≡_, refl, sym}
 use Rattle.text.specs.Lists.{chars}
 use Rattle.text.specs.Utf8.{utf8}
-use Rattle.markup.specs.Out.{enc, Wrote}
-use Rattle.markup.proofs.Puts.{wrote-bytes, and-then}
+use Rattle.encode.specs.Out.{enc, Wrote}
+use Rattle.encode.proofs.Puts.{wrote-bytes, and-then}
 use borrow.Author.Needs.{needs}
 use Rattle.markup.proofs.put_words.Statement.{statement}
 use Rattle.markup.proofs.put_words.Tie as tie

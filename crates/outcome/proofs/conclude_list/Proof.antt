@@ -1,6 +1,6 @@
 use mathlib.Core.Path.{_≡_, refl, ap, _∙_}
 use Rattle.text.specs.declared.Diagnostic.{Diagnostic}
-use Rattle.outcome.specs.Outcome.{refusalOf}
+use Rattle.exported.specs.Exported.{refusalOf}
 use Rattle.outcome.proofs.Lists.{asked, annotated, concluded-list, declined-list}
 use borrow.Author.Needs.{needs}
 use Rattle.outcome.proofs.conclude_list.Statement.{statement}

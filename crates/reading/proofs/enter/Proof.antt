@@ -5,7 +5,7 @@ use denote.Ref.{now}
 use Rattle.reading.specs.declared.Cursor.{Cursor}
 use Rattle.candidates.specs.Candidates.{SomeLow, FirstLow}
 use Rattle.reading.specs.Walk.{full, wrote}
-use Rattle.candidates.proofs.Values.{reads}
+use Rattle.splits.proofs.Values.{reads}
 use Rattle.candidates.proofs.Lines.{line-few}
 use borrow.Author.Needs.{needs}
 use Rattle.reading.proofs.enter.Statement.{statement}

@@ -4,7 +4,7 @@ use denote.Ref.{now}
 use lib.ListN.{length}
 use Rattle.text.specs.Limits.{mostSize}
 use Rattle.reading.specs.Answer.{Finished, no-reading, too-long}
-use Rattle.candidates.proofs.Values.{reads}
+use Rattle.splits.proofs.Values.{reads}
 use Rattle.reading.proofs.Tables.{small-of}
 use Rattle.reading.proofs.Course.{weight, unrooted, can-begin}
 use Rattle.reading.proofs.Underway.{with-small, Underway, set-out, place-inside, may-step, falls, go-on, arrive, arrive-long}

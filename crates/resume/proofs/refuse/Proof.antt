@@ -1,6 +1,6 @@
 use borrow.Author.Needs.{needs}
 use mathlib.Core.Path.{ap}
-use Rattle.outcome.specs.declared.Answer.{Answer}
+use Rattle.exported.specs.declared.Answer.{Answer}
 use Rattle.resume.specs.declared.Progress.{Progress}
 use Rattle.resume.proofs.refuse.Statement.{statement}
 use Rattle.resume.proofs.refuse.Tie as tie

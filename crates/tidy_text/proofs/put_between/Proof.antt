@@ -1,8 +1,8 @@
 use mathlib.Core.Path.{refl}
 use mathlib.Core.List.{_∷_}
 use Rattle.text.specs.Utf8.{utf8}
-use Rattle.markup.specs.Out.{enc}
-use Rattle.markup.proofs.Puts.{wrote-text, wrote-bytes, wrote-none}
+use Rattle.encode.specs.Out.{enc}
+use Rattle.encode.proofs.Puts.{wrote-text, wrote-bytes, wrote-none}
 use Rattle.tidy_text.proofs.Between.{before-factor, before-head, before-member, before-set-end, before-late, before-none}
 use Rattle.tidy_text.proofs.Owed.{lead-by, lead-first}
 use borrow.Author.Needs.{needs}

@@ -6,7 +6,7 @@ use native.Mathlib.Omega.{arith}
 use lib.ListN.{length}
 use Rattle.tree.specs.Tokens.{Token}
 use Rattle.tokens.specs.Lengths.{Left}
-use Rattle.markup.specs.Out.{state, puts, enc}
+use Rattle.encode.specs.Out.{state, puts, enc}
 use Rattle.tidy.specs.Scan.{scan}
 use Rattle.tidy_writer.specs.Walk.{SomeLeft}
 use Rattle.tidy_text.specs.Whole.{AllFit}

@@ -1,7 +1,7 @@
 use mathlib.Core.Path.{refl}
 use Rattle.text.specs.Utf8.{utf8}
-use Rattle.markup.specs.Out.{enc}
-use Rattle.markup.proofs.Puts.{wrote-text, wrote-bytes}
+use Rattle.encode.specs.Out.{enc}
+use Rattle.encode.proofs.Puts.{wrote-text, wrote-bytes}
 use Rattle.tidy_text.proofs.Between.{joint-0, joint-1, joint-comma}
 use borrow.Author.Needs.{needs}
 use Rattle.tidy_text.proofs.put_joint.Statement.{statement}

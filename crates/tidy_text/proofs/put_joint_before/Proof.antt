@@ -1,4 +1,4 @@
-use Rattle.markup.proofs.Puts.{wrote-text}
+use Rattle.encode.proofs.Puts.{wrote-text}
 use Rattle.tidy.specs.Scan.{past}
 use Rattle.tidy_text.proofs.Owed.{joint-end, joint-at}
 use borrow.Author.Needs.{needs}

@@ -1,5 +1,5 @@
 use denote.Ref.{now}
-use Rattle.markup.proofs.Puts.{and-then, wrote-text}
+use Rattle.encode.proofs.Puts.{and-then, wrote-text}
 use Rattle.tidy_writer.proofs.Tokens.{class-one, class-two}
 use borrow.Author.Needs.{needs}
 use Rattle.tidy_writer.proofs.put_class.Statement.{statement}

@@ -1,5 +1,5 @@
 use denote.Ref.{now}
-use Rattle.markup.proofs.Puts.{wrote-text}
+use Rattle.encode.proofs.Puts.{wrote-text}
 use Rattle.tidy_writer.proofs.Tokens.{end-quoted, end-coded}
 use borrow.Author.Needs.{needs}
 use Rattle.tidy_writer.proofs.put_end.Statement.{statement}

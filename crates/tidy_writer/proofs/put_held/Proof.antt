@@ -1,7 +1,7 @@
 use denote.Ref.{now}
 use native.Mathlib.Omega.{arith}
 use Rattle.tokens.proofs.Forms.{first-in, sized, length-text, length-range, length-class}
-use Rattle.markup.proofs.Puts.{wrote-none}
+use Rattle.encode.proofs.Puts.{wrote-none}
 use Rattle.tidy_writer.proofs.Tokens.{held-as, held-name, held-quoted, held-coded, held-range, held-class, held-none}
 use borrow.Author.Needs.{needs}
 use Rattle.tidy_writer.proofs.put_held.Statement.{statement}

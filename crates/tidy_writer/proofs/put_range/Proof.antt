@@ -3,9 +3,9 @@ use native.Mathlib.Omega.{arith}
 use Prim.Native.Nat.{_+_}
 use mathlib.Core.List.{_++_}
 use Rattle.text.specs.Lists.{chars}
-use Rattle.markup.proofs.Puts.{and-then, wrote-bytes}
+use Rattle.encode.proofs.Puts.{and-then, wrote-bytes}
 use Rattle.tidy_writer.specs.Parts.{endAt}
-use Rattle.tidy_writer.proofs.Parts.{enc-low}
+use Rattle.tidy_parts.proofs.Parts.{enc-low}
 use borrow.Author.Needs.{needs}
 use Rattle.tidy_writer.proofs.put_range.Statement.{statement}
 use Rattle.tidy_writer.proofs.put_range.Tie as tie

@@ -1,7 +1,7 @@
 use denote.Ref.{now}
 use native.Mathlib.Omega.{arith}
 use Rattle.tokens.proofs.Forms.{first-in}
-use Rattle.markup.proofs.Puts.{and-then, wrote-text}
+use Rattle.encode.proofs.Puts.{and-then, wrote-text}
 use Rattle.tidy_writer.proofs.Tokens.{token-text}
 use borrow.Author.Needs.{needs}
 use Rattle.tidy_writer.proofs.put_token.Statement.{statement}

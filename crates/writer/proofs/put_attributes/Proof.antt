@@ -4,8 +4,8 @@ use native.Mathlib.Omega.{arith}
 use lib.ListN.{length}
 use Rattle.text.specs.Lists.{chars}
 use Rattle.text.specs.Utf8.{utf8}
-use Rattle.markup.specs.Out.{state, enc, Wrote}
-use Rattle.markup.proofs.Puts.{wrote-bytes}
+use Rattle.encode.specs.Out.{state, enc, Wrote}
+use Rattle.encode.proofs.Puts.{wrote-bytes}
 use Rattle.cursor.specs.Events.{weight}
 use Rattle.cursor.proofs.Turns.{text-is, open-is, attribute-is, close-is}
 use Rattle.cursor.proofs.Folds.{Reached, reached-begin, reached-some, row-some, text-stands, on-text, on-close, on-end, open-node, open-past, attribute-node, attribute-enter}

@@ -6,7 +6,7 @@ use Rattle.cursor.specs.Events.{weight}
 use Rattle.cursor.proofs.Turns.{text-is, open-is, attribute-is, close-is}
 use Rattle.cursor.proofs.Folds.{Reached, reached-begin, reached-some, row-some, text-stands, on-text, on-close, on-end, open-node, open-enter, attribute-node, attribute-past}
 use Rattle.writer.proofs.Folds.{room-left, Owing, owing-begin, owing-text, owing-element, owing-attribute, owing-close, owing-end}
-use Rattle.writer.specs.declared.Output.{Output}
+use Rattle.tags.specs.declared.Output.{Output}
 use borrow.Author.Needs.{needs}
 use Rattle.writer.proofs.put_content.Statement.{statement}
 use Rattle.writer.proofs.put_content.Tie as tie

@@ -4,12 +4,12 @@ use lib.ListN.{getD}
 use denote.Ref.{now}
 use Rattle.left_parse.specs.Steps.{Found}
 use Rattle.markup.specs.Tags.{stateOf}
-use Rattle.markup.proofs.Puts.{wrote-text}
-use Rattle.writer.specs.Markup.{stated}
+use Rattle.encode.proofs.Puts.{wrote-text}
+use Rattle.tags.specs.Stated.{stated}
 use Rattle.writer.proofs.Whole.{rooted, root-row, head-number, document-deleted, document-element, wrote-deleted, wrote-element}
 use Rattle.writer.proofs.Whole.{row-again, came-at, attributed-at, started, started-is, unled, found-first}
 use Rattle.writer.proofs.Folds.{room-left}
-use Rattle.writer.specs.declared.Output.{Output}
+use Rattle.tags.specs.declared.Output.{Output}
 use borrow.Author.Needs.{needs}
 use Rattle.writer.proofs.put_document.Statement.{statement}
 use Rattle.writer.proofs.put_document.Tie as tie

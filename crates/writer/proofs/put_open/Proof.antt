@@ -1,7 +1,7 @@
 use mathlib.Core.Path.{_≡_, refl, ap}
 use native.Mathlib.Omega.{arith}
 use denote.Ref.{now}
-use Rattle.writer.specs.declared.Output.{Output}
+use Rattle.tags.specs.declared.Output.{Output}
 use Rattle.writer.proofs.Folds.{room-left}
 use Rattle.writer.proofs.Whole.{started, started-is, started-bare}
 use borrow.Author.Needs.{needs}

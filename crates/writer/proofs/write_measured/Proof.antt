@@ -3,7 +3,7 @@ use native.Mathlib.Omega.{arith}
 use denote.Ref.{now}
 use Rattle.xml.specs.Document.{document}
 use Rattle.xml.specs.Bytes.{bytes}
-use Rattle.writer.specs.declared.Output.{Output}
+use Rattle.tags.specs.declared.Output.{Output}
 use Rattle.writer.proofs.Whole.{documented, too-long, written, job-again, room-again}
 use borrow.Author.Needs.{needs}
 use Rattle.writer.proofs.write_measured.Statement.{statement}

@@ -4,7 +4,8 @@ use Prim.Native.Nat.{_+_, _-_}
 use denote.Ref.{now}
 use Rattle.candidates.specs.Candidates.{LowEnd}
 use Rattle.candidates.proofs.Searches.{Unmet, unmet-next, ahead, only-end}
-use Rattle.candidates.proofs.Values.{after-symbol, rest-in, unmet-from, unmet-barren}
+use Rattle.splits.proofs.Values.{after-symbol, rest-in}
+use Rattle.candidates.proofs.Passing.{unmet-from, unmet-barren}
 use Rattle.candidates.proofs.end_search.find_end.Statement.{statement}
 use Rattle.candidates.proofs.end_search.find_end.Tie as tie
 
