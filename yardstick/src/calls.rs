@@ -1,6 +1,5 @@
 //! The public calls on a grammar and a record.
 
-use crate::engine;
 use crate::judge::accepts;
 use crate::limits;
 use crate::plain::{plain, Plain};
@@ -116,7 +115,7 @@ pub fn judge(
 pub fn second(grammar: &[u8], record: &[u8]) -> Option<Vec<u32>> {
     let accepted = accept(grammar).ok()?;
     let record = text::record(record).ok()?;
-    crate::second::second(&engine::parse(&accepted.plain, &record).ok()?)
+    crate::second::second(&accepted.plain, &record)
 }
 
 /// Tidies a grammar: 0 to 11, 24, 28 and 23. The bytes of the tidy text fill
@@ -207,8 +206,7 @@ fn derive(
             return Err(Refusal::TableTooShort);
         }
         version = accepted.version;
-        let forest = engine::parse(&plain, &record).map_err(Refusal::NoReading)?;
-        let reading = reading::choose(&forest)?;
+        let reading = reading::read(&plain, &record)?;
         ambiguous = reading.ambiguous;
         let state = State {
             ambiguous,

@@ -15,6 +15,7 @@ pub mod gate;
 pub mod gen;
 pub mod judge;
 pub mod limits;
+mod lists;
 pub mod plain;
 pub mod productive;
 pub mod reading;

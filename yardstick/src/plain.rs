@@ -62,7 +62,13 @@ impl Terminal {
     /// Whether it matches at the start of these characters.
     pub fn matches(&self, characters: &[char]) -> bool {
         match self {
-            Terminal::Literal(string) => characters.starts_with(string),
+            Terminal::Literal(string) => {
+                // Most literals differ in the first character.
+                string
+                    .first()
+                    .is_none_or(|first| characters.first() == Some(first))
+                    && characters.starts_with(string)
+            }
             Terminal::Set(set) => characters.first().is_some_and(|&first| set.contains(first)),
         }
     }

@@ -1,5 +1,6 @@
 //! Rules that derive no text at all.
 
+use crate::lists::Lists;
 use crate::plain::{Plain, Symbol};
 
 /// Whether some rule, written or made, derives no text of characters that a
@@ -7,7 +8,7 @@ use crate::plain::{Plain, Symbol};
 /// is not known to derive one, so each symbol is passed once.
 pub fn some_unproductive(plain: &Plain) -> bool {
     let mut found = vec![false; plain.rules.len()];
-    let mut waiting = vec![Vec::new(); plain.rules.len()];
+    let mut waiting = Lists::new(plain.rules.len());
     let mut ready: Vec<(usize, &[Symbol])> = Vec::new();
     for (number, rule) in plain.rules.iter().enumerate() {
         ready.extend(
@@ -19,11 +20,11 @@ pub fn some_unproductive(plain: &Plain) -> bool {
     while let Some((rule, symbols)) = ready.pop() {
         match next(plain, &found, symbols) {
             Next::Dead => {}
-            Next::Rule(needed, rest) => waiting[needed].push((rule, rest)),
+            Next::Rule(needed, rest) => waiting.push(needed, (rule, rest)),
             Next::End if found[rule] => {}
             Next::End => {
                 found[rule] = true;
-                ready.append(&mut waiting[rule]);
+                ready.extend(waiting.iter(rule));
             }
         }
     }

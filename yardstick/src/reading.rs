@@ -4,9 +4,10 @@ use std::ops::Range;
 
 use crate::engine::dots::Dot;
 use crate::engine::heights::{least_heights, Heights};
-use crate::engine::places::Places;
-use crate::engine::Forest;
+use crate::engine::places::{words, Places, WORDS};
+use crate::engine::{self, Forest, Node};
 use crate::limits;
+use crate::plain::Plain;
 use crate::refusal::Refusal;
 
 #[derive(Debug)]
@@ -16,24 +17,43 @@ pub struct Reading {
     pub ambiguous: bool,
 }
 
+/// Reads a record: 16 and 29. Sets of places get as many words as it asks for.
+pub fn read(plain: &Plain, record: &[char]) -> Result<Reading, Refusal> {
+    match words(record.len()) {
+        1 => read_by::<1>(plain, record),
+        2 => read_by::<2>(plain, record),
+        3 => read_by::<3>(plain, record),
+        _ => read_by::<WORDS>(plain, record),
+    }
+}
+
+fn read_by<const W: usize>(plain: &Plain, record: &[char]) -> Result<Reading, Refusal> {
+    let forest = engine::parse::<W>(plain, record).map_err(Refusal::NoReading)?;
+    choose(&forest)
+}
+
 /// Walks the chosen derivation, with a stack instead of recursion. Each node
 /// on the stack will give at least one number, so a reading that is too long
 /// is noticed after at most as many steps as a reading may have numbers.
 ///
 /// A record has a second derivation exactly when some node of one derivation
 /// has a second way. Up to the first such node nothing is to be chosen; from
-/// there on the least heights decide.
-pub fn choose(forest: &Forest) -> Result<Reading, Refusal> {
+/// there on the least heights decide, of that node and of those that follow.
+fn choose<const W: usize>(forest: &Forest<W>) -> Result<Reading, Refusal> {
     let mut numbers = Vec::new();
     let mut heights = None;
-    let mut stack = vec![Node::root(forest)];
+    let mut stack = vec![forest.root()];
     let mut ways = Ways::new(forest);
     while let Some(node) = stack.pop() {
-        if heights.is_none() && ways.has_second(node) {
-            heights = Some(least_heights(forest));
-        }
-        let limit = heights.as_ref().map(|heights| Limit::of(heights, node));
-        numbers.push(ways.choose(node, limit, &mut stack));
+        let only = match heights {
+            None => ways.only(node, &mut stack),
+            Some(_) => None,
+        };
+        numbers.push(only.unwrap_or_else(|| {
+            let following = || least_heights(forest, &[&stack[..], &[node]].concat());
+            let heights = heights.get_or_insert_with(following);
+            ways.choose(node, heights, &mut stack)
+        }));
         if numbers.len() + stack.len() > limits::READING_NUMBERS {
             return Err(Refusal::ReadingTooLong);
         }
@@ -44,52 +64,22 @@ pub fn choose(forest: &Forest) -> Result<Reading, Refusal> {
     })
 }
 
-/// A nonterminal of the chosen derivation.
-#[derive(Clone, Copy, Debug, PartialEq, Eq)]
-pub struct Node {
-    rule: usize,
-    start: usize,
-    end: usize,
-}
-
-impl Node {
-    /// The root over the whole record.
-    pub fn root(forest: &Forest) -> Node {
-        Node {
-            rule: 0,
-            start: 0,
-            end: forest.length,
-        }
-    }
-}
-
 /// Admits children whose least height is below the node's.
 #[derive(Clone, Copy)]
-pub struct Limit<'a> {
-    heights: &'a Heights,
+struct Limit<'a, const W: usize> {
+    heights: &'a Heights<W>,
     height: u32,
 }
 
-impl<'a> Limit<'a> {
-    pub fn of(heights: &'a Heights, node: Node) -> Limit<'a> {
-        let height = heights.height(node.rule, node.start, node.end);
-        Limit { heights, height }
-    }
-
-    fn admits(self, rule: usize, start: usize, end: usize) -> bool {
-        self.heights.height(rule, start, end) < self.height
-    }
-}
-
 /// The ways of a node.
-pub struct Ways<'a> {
-    forest: &'a Forest,
+pub struct Ways<'a, const W: usize> {
+    forest: &'a Forest<W>,
     /// For each dot of the alternative last retraced, the places on its ways.
-    kept: Vec<Places>,
+    kept: Vec<Places<W>>,
 }
 
-impl<'a> Ways<'a> {
-    pub fn new(forest: &'a Forest) -> Ways<'a> {
+impl<'a, const W: usize> Ways<'a, W> {
+    pub fn new(forest: &'a Forest<W>) -> Ways<'a, W> {
         Ways {
             forest,
             kept: Vec::new(),
@@ -100,34 +90,56 @@ impl<'a> Ways<'a> {
     fn alternatives(&self, node: Node) -> impl Iterator<Item = (u32, Range<usize>)> + 'a {
         let forest = self.forest;
         let complete = move |(_, dots): &(u32, Range<usize>)| {
-            forest.useful.reached[(dots.end, node.start)].contains(node.end)
+            forest.chart.reached[(node.start, dots.end)].contains(node.end)
         };
-        let alternatives = forest.dots.alternatives[node.rule].iter().cloned();
+        let alternatives = forest.dots.alternatives(node.rule).iter().cloned();
         (0..).zip(alternatives).filter(complete)
     }
 
-    /// Whether a node has two ways: by two alternatives, or by different ends
-    /// of the children of one.
-    pub fn has_second(&mut self, node: Node) -> bool {
+    /// If a node has one way only, gives the number of its alternative and
+    /// pushes the nonterminal children, the leftmost on top. Two ways are two
+    /// alternatives, or different ends of the children of one.
+    pub fn only(&mut self, node: Node, stack: &mut Vec<Node>) -> Option<u32> {
         let mut alternatives = self.alternatives(node);
-        let Some((_, first)) = alternatives.next() else {
-            return false;
-        };
-        self.retrace(node, first, None);
-        alternatives.next().is_some() || self.kept.iter().any(|places| places.count() > 1)
+        let (number, dots) = alternatives.next().expect("a derived node has a way");
+        if alternatives.next().is_some() {
+            return None;
+        }
+        self.retrace(node, dots.clone(), None);
+        let mut kept = self.kept.iter();
+        if kept.any(|places| places.iter().nth(1).is_some()) {
+            return None;
+        }
+        self.push_children(node, dots, None, stack);
+        Some(number)
     }
 
-    /// Chooses the first alternative that has an admitted way, and of its ways
-    /// the one with the smallest ends. Gives the alternative's number and
-    /// pushes the nonterminal children, the leftmost on top.
-    pub fn choose(&mut self, node: Node, limit: Option<Limit>, stack: &mut Vec<Node>) -> u32 {
+    /// Chooses the first alternative that has a way of the node's least height,
+    /// and of its ways the one with the smallest ends. Gives the alternative's
+    /// number and pushes the nonterminal children, the leftmost on top.
+    pub fn choose(&mut self, node: Node, heights: &Heights<W>, stack: &mut Vec<Node>) -> u32 {
+        let height = heights.height(node);
+        let limit = Some(Limit { heights, height });
         let (number, dots) = self
             .alternatives(node)
             .find(|(_, dots)| {
                 self.retrace(node, dots.clone(), limit);
                 self.kept[0].contains(node.start)
             })
-            .expect("a useful node has a way of its least height");
+            .expect("a derived node has a way of its least height");
+        self.push_children(node, dots, limit, stack);
+        number
+    }
+
+    /// Pushes the nonterminal children of the way with the smallest ends in the
+    /// alternative last retraced.
+    fn push_children(
+        &self,
+        node: Node,
+        dots: Range<usize>,
+        limit: Option<Limit<W>>,
+        stack: &mut Vec<Node>,
+    ) {
         let below = stack.len();
         let mut place = node.start;
         for (dot, &later) in dots.zip(&self.kept[1..]) {
@@ -137,7 +149,7 @@ impl<'a> Ways<'a> {
                     let start = place;
                     place = self
                         .ends(rule, start, later, limit)
-                        .next()
+                        .first()
                         .expect("a kept place leads on to a kept place");
                     stack.push(Node {
                         rule,
@@ -149,7 +161,6 @@ impl<'a> Ways<'a> {
             }
         }
         stack[below..].reverse();
-        number
     }
 
     /// Ways of a node, each with its alternative's number and its nonterminal
@@ -175,7 +186,7 @@ impl<'a> Ways<'a> {
                 match self.forest.dots.all[dot] {
                     Dot::Terminal { length, .. } => open.push((dot + 1, place + length, children)),
                     Dot::Nonterminal(rule) => {
-                        for end in self.ends(rule, place, later, None) {
+                        for end in self.ends(rule, place, later, None).iter() {
                             let mut children: Vec<Node> = children.clone();
                             children.push(Node {
                                 rule,
@@ -194,18 +205,18 @@ impl<'a> Ways<'a> {
 
     /// Finds for each dot of an alternative the places on a way over the
     /// node's span that the limit admits.
-    fn retrace(&mut self, node: Node, dots: Range<usize>, limit: Option<Limit>) {
+    fn retrace(&mut self, node: Node, dots: Range<usize>, limit: Option<Limit<W>>) {
         let mut later = Places::one(node.end);
         self.kept.clear();
         self.kept.resize(dots.len() + 1, later);
         for (index, dot) in dots.enumerate().rev() {
-            let reached = self.forest.useful.reached[(dot, node.start)];
+            let reached = self.forest.chart.reached[(node.start, dot)];
             later = match self.forest.dots.all[dot] {
                 Dot::Terminal { matches, length } => later.earlier(length) & matches & reached,
                 Dot::Nonterminal(rule) => {
                     let mut places = Places::NONE;
                     for place in reached.iter() {
-                        if self.ends(rule, place, later, limit).next().is_some() {
+                        if !self.ends(rule, place, later, limit).is_empty() {
                             places.insert(place);
                         }
                     }
@@ -218,15 +229,19 @@ impl<'a> Ways<'a> {
     }
 
     /// The admitted ends, among some places, of a rule from a start.
-    fn ends<'s>(
-        &'s self,
+    fn ends(
+        &self,
         rule: usize,
         start: usize,
-        among: Places,
-        limit: Option<Limit<'s>>,
-    ) -> impl Iterator<Item = usize> + 's {
-        let ends = self.forest.useful.derived[(rule, start)] & among;
-        ends.iter()
-            .filter(move |&end| limit.is_none_or(|limit| limit.admits(rule, start, end)))
+        among: Places<W>,
+        limit: Option<Limit<W>>,
+    ) -> Places<W> {
+        let ends = self.forest.chart.derived[(rule, start)] & among;
+        match limit {
+            Some(limit) if !ends.is_empty() => {
+                ends & limit.heights.lower(rule, start, limit.height)
+            }
+            _ => ends,
+        }
     }
 }

@@ -81,7 +81,7 @@ impl<'t> Faults<'t> {
 fn faults(grammar: &Grammar, text: &str) -> Vec<Refusal> {
     let found = Vec::new();
     let mut faults = Faults { text, found };
-    let mut defined = HashSet::new();
+    let mut defined = HashSet::with_capacity(grammar.rules.len());
     for rule in &grammar.rules {
         if !defined.insert(rule.name) {
             faults.add_part(Refusal::RepeatedRule, rule.name);

@@ -7,91 +7,105 @@
 
 use super::dots::{Dot, Dots};
 use super::places::{Grid, Places};
+use super::Node;
+use crate::lists::Lists;
 
 /// Where the symbols of a grammar lead in a record.
-pub struct Chart {
-    /// For a dot and a start, the places that the symbols before the dot reach.
-    pub reached: Grid,
+pub struct Chart<const W: usize> {
+    /// For a start and a dot, the places that the symbols before the dot reach.
+    pub reached: Grid<W>,
     /// For a rule and a start, the places where it may end.
-    pub derived: Grid,
+    pub derived: Grid<W>,
 }
 
 /// Fills a chart that is exact for every rule and place that the root can come
 /// to from the left, and empty elsewhere.
-pub fn recognise(dots: &Dots, places: usize) -> Chart {
-    let rules = dots.uses.len();
+pub fn recognise<const W: usize>(dots: &Dots<W>, places: usize) -> Chart<W> {
+    let rules = dots.rules();
     let mut recogniser = Recogniser {
         dots,
-        reached: Grid::new(dots.all.len(), places),
-        derived: Grid::new(rules, places),
-        waiting: Grid::new(dots.all.len(), places),
-        fresh: Grid::new(rules, places),
+        chart: Chart {
+            reached: Grid::new(places, dots.all.len()),
+            derived: Grid::new(rules, places),
+        },
+        waiting: Lists::new(places * rules),
+        fresh: Grid::new(places, rules),
         predicted: vec![Places::NONE; rules],
-        to_predict: vec![Vec::new(); places],
-        to_propagate: vec![Vec::new(); places],
+        to_predict: Lists::new(places),
+        to_propagate: Lists::new(places),
         busy: Places::NONE,
     };
     recogniser.run();
-    Chart {
-        reached: recogniser.reached,
-        derived: recogniser.derived,
-    }
+    recogniser.chart
 }
 
-struct Recogniser<'a> {
-    dots: &'a Dots,
-    reached: Grid,
-    derived: Grid,
-    /// For a dot before a nonterminal and a place, the starts of the
-    /// alternatives that wait there for the nonterminal.
-    waiting: Grid,
-    /// The part of `derived` not yet passed on to the waiting alternatives.
-    fresh: Grid,
+struct Recogniser<'a, const W: usize> {
+    dots: &'a Dots<W>,
+    chart: Chart<W>,
+    /// For a place and a rule, the dots before the rule and the starts of the
+    /// alternatives that wait there for it.
+    waiting: Lists<(usize, usize)>,
+    /// For a start and a rule, the part of `derived` not yet passed on to the
+    /// waiting alternatives.
+    fresh: Grid<W>,
     /// For each rule the places at which it is or will be tried.
-    predicted: Vec<Places>,
+    predicted: Vec<Places<W>>,
     /// For each place the rules still to be tried there.
-    to_predict: Vec<Vec<usize>>,
+    to_predict: Lists<usize>,
     /// For each place the rules with fresh ends.
-    to_propagate: Vec<Vec<usize>>,
+    to_propagate: Lists<usize>,
     /// The places with anything to do.
-    busy: Places,
+    busy: Places<W>,
 }
 
-impl Recogniser<'_> {
+impl<const W: usize> Recogniser<'_, W> {
     fn run(&mut self) {
         self.predict(0, Places::one(0));
         while let Some(place) = self.busy.last() {
-            if let Some(rule) = self.to_predict[place].pop() {
-                for alternative in &self.dots.alternatives[rule] {
+            if let Some(rule) = self.to_predict.pop(place) {
+                for alternative in self.dots.alternatives(rule) {
                     self.advance(alternative.start, place, Places::one(place));
                 }
-            } else if let Some(rule) = self.to_propagate[place].pop() {
-                let ends = std::mem::take(&mut self.fresh[(rule, place)]);
-                for &dot in &self.dots.uses[rule] {
-                    for start in self.waiting[(dot, place)].iter() {
-                        self.advance(dot + 1, start, ends);
-                    }
-                }
+            } else if let Some(rule) = self.to_propagate.pop(place) {
+                self.propagate(rule, place);
             } else {
                 self.busy.remove(place);
             }
         }
     }
 
-    fn predict(&mut self, rule: usize, places: Places) {
+    /// Passes on the fresh ends of a rule. What comes to wait meanwhile has
+    /// them already.
+    fn propagate(&mut self, rule: usize, place: usize) {
+        let ends = std::mem::take(&mut self.fresh[(place, rule)]);
+        let mut entry = self.waiting.first(self.waiting_at(place, rule));
+        while let Some(((dot, start), behind)) = self.waiting.at(entry) {
+            self.advance(dot + 1, start, ends);
+            entry = behind;
+        }
+    }
+
+    /// The number of a list of `waiting`.
+    fn waiting_at(&self, place: usize, rule: usize) -> usize {
+        place * self.dots.rules() + rule
+    }
+
+    fn predict(&mut self, rule: usize, places: Places<W>) {
         let unknown = places & !self.predicted[rule];
         self.predicted[rule] |= unknown;
         self.busy |= unknown;
         for place in unknown.iter() {
-            self.to_predict[place].push(rule);
+            self.to_predict.push(place, rule);
         }
     }
 
     /// Notes that the symbols before a dot lead from `start` to these places,
-    /// and follows the alternative as far as possible.
-    fn advance(&mut self, mut dot: usize, start: usize, mut places: Places) {
+    /// and follows the alternative as far as possible. None of them is before
+    /// the place that is worked on, so the rules tried at those that are not
+    /// busy are complete: nothing has to wait there.
+    fn advance(&mut self, mut dot: usize, start: usize, mut places: Places<W>) {
         loop {
-            let reached = &mut self.reached[(dot, start)];
+            let reached = &mut self.chart.reached[(start, dot)];
             places = places & !*reached;
             if places.is_empty() {
                 return;
@@ -102,111 +116,146 @@ impl Recogniser<'_> {
                 Dot::Insertion => {}
                 Dot::Nonterminal(rule) => {
                     self.predict(rule, places);
-                    let mut ends = Places::NONE;
-                    for place in places.iter() {
-                        self.waiting[(dot, place)].insert(start);
-                        ends |= self.derived[(rule, place)];
+                    for place in (places & self.busy).iter() {
+                        let list = self.waiting_at(place, rule);
+                        self.waiting.push(list, (dot, start));
                     }
-                    places = ends;
+                    places = self.chart.derived.union(rule, places);
                 }
-                Dot::End(rule) => {
-                    let ends = places & !self.derived[(rule, start)];
-                    if ends.is_empty() {
-                        return;
-                    }
-                    self.derived[(rule, start)] |= ends;
-                    let fresh = &mut self.fresh[(rule, start)];
-                    if fresh.is_empty() {
-                        self.to_propagate[start].push(rule);
-                        self.busy.insert(start);
-                    }
-                    *fresh |= ends;
-                    return;
-                }
+                Dot::End(rule) => return self.complete(rule, start, places),
             }
             dot += 1;
         }
     }
+
+    fn complete(&mut self, rule: usize, start: usize, ends: Places<W>) {
+        let derived = &mut self.chart.derived[(rule, start)];
+        let ends = ends & !*derived;
+        if ends.is_empty() {
+            return;
+        }
+        *derived |= ends;
+        let fresh = &mut self.fresh[(start, rule)];
+        if fresh.is_empty() {
+            self.to_propagate.push(start, rule);
+            self.busy.insert(start);
+        }
+        *fresh |= ends;
+    }
 }
 
-/// Keeps, going down from the root over the whole record, what lies on a
-/// complete derivation. The root must derive the record.
-pub fn prune(dots: &Dots, chart: &Chart, places: usize) -> Chart {
-    let rules = dots.uses.len();
+/// What lies on the derivations of some nodes.
+pub struct Useful<const W: usize> {
+    /// For a dot and a start, the places that the symbols before the dot reach
+    /// and from which those behind it lead on.
+    pub reached: Grid<W>,
+    /// For a rule and a start, the places where it ends.
+    pub derived: Grid<W>,
+}
+
+/// Keeps of a chart, going down from some nodes that are derived, what lies on
+/// their derivations.
+pub fn prune<const W: usize>(
+    dots: &Dots<W>,
+    chart: &Chart<W>,
+    places: usize,
+    nodes: &[Node],
+) -> Useful<W> {
+    let rules = dots.rules();
+    let full = |rule: usize| chart.derived.full(rule);
     let mut pruner = Pruner {
         dots,
         chart,
-        reached: Grid::new(dots.all.len(), places),
-        derived: Grid::new(rules, places),
+        kept: Useful {
+            reached: Grid::new(dots.all.len(), places),
+            derived: Grid::new(rules, places),
+        },
+        full: (0..rules).map(full).collect(),
+        satisfied: vec![Places::NONE; rules],
         queued: vec![Places::NONE; rules],
-        queue: vec![Vec::new(); places],
+        queue: Lists::new(places),
     };
-    pruner.need(0, 0, Places::one(places - 1));
+    for node in nodes {
+        pruner.need(node.rule, node.start, Places::one(node.end));
+    }
     for start in 0..places {
-        while let Some(rule) = pruner.queue[start].pop() {
+        while let Some(rule) = pruner.queue.pop(start) {
             pruner.queued[rule].remove(start);
-            for alternative in &dots.alternatives[rule] {
+            for alternative in dots.alternatives(rule) {
                 pruner.retrace(alternative.start, alternative.end, rule, start);
             }
         }
     }
-    Chart {
-        reached: pruner.reached,
-        derived: pruner.derived,
-    }
+    pruner.kept
 }
 
-struct Pruner<'a> {
-    dots: &'a Dots,
-    chart: &'a Chart,
-    reached: Grid,
-    derived: Grid,
+struct Pruner<'a, const W: usize> {
+    dots: &'a Dots<W>,
+    chart: &'a Chart<W>,
+    kept: Useful<W>,
+    /// For each rule the starts from which it derives all that is longer than
+    /// nothing.
+    full: Vec<Places<W>>,
+    /// For each rule the starts at which all its ends are needed.
+    satisfied: Vec<Places<W>>,
     /// For each rule the starts at which it is queued.
-    queued: Vec<Places>,
+    queued: Vec<Places<W>>,
     /// For each start the rules whose needed ends have grown. A rule only asks
     /// for rules at its own or later places, so one sweep over the starts does.
-    queue: Vec<Vec<usize>>,
+    queue: Lists<usize>,
 }
 
-impl Pruner<'_> {
-    fn need(&mut self, rule: usize, start: usize, ends: Places) {
-        let needed = &mut self.derived[(rule, start)];
+impl<const W: usize> Pruner<'_, W> {
+    fn need(&mut self, rule: usize, start: usize, ends: Places<W>) {
+        let needed = &mut self.kept.derived[(rule, start)];
         if (ends & !*needed).is_empty() {
             return;
         }
         *needed |= ends;
+        if *needed == self.chart.derived[(rule, start)] {
+            self.satisfied[rule].insert(start);
+        }
         if !self.queued[rule].contains(start) {
             self.queued[rule].insert(start);
-            self.queue[start].push(rule);
+            self.queue.push(start, rule);
         }
     }
 
     /// Follows an alternative from its needed ends back to its start. A place
     /// kept at a dot is reached from the start and leads to a needed end.
     fn retrace(&mut self, first: usize, end: usize, rule: usize, start: usize) {
-        let mut kept = self.chart.reached[(end, start)] & self.derived[(rule, start)];
-        if (kept & !self.reached[(end, start)]).is_empty() {
+        let mut kept = self.chart.reached[(start, end)] & self.kept.derived[(rule, start)];
+        if (kept & !self.kept.reached[(end, start)]).is_empty() {
             return;
         }
-        self.reached[(end, start)] = kept;
+        self.kept.reached[(end, start)] = kept;
         for dot in (first..end).rev() {
-            let reached = self.chart.reached[(dot, start)];
+            let reached = self.chart.reached[(start, dot)];
             kept = match self.dots.all[dot] {
                 Dot::Terminal { matches, length } => kept.earlier(length) & matches & reached,
-                Dot::Nonterminal(rule) => {
-                    let mut places = Places::NONE;
-                    for place in reached.iter() {
-                        let ends = self.chart.derived[(rule, place)] & kept;
-                        if !ends.is_empty() {
-                            places.insert(place);
-                            self.need(rule, place, ends);
-                        }
-                    }
-                    places
-                }
+                Dot::Nonterminal(rule) => self.begins(rule, reached, kept),
                 Dot::Insertion | Dot::End(_) => kept & reached,
             };
-            self.reached[(dot, start)] = kept;
+            self.kept.reached[(dot, start)] = kept;
         }
+    }
+
+    /// The starts, among some places, from which a rule has any of these ends;
+    /// there it is needed. Where it derives everything and all of that is
+    /// needed already, there is nothing to look at but the last end.
+    fn begins(&mut self, rule: usize, among: Places<W>, ends: Places<W>) -> Places<W> {
+        let Some(last) = ends.last() else {
+            return Places::NONE;
+        };
+        let known = among & self.full[rule] & self.satisfied[rule] & Places::before(last);
+        let mut places = known;
+        for place in (among & !known).iter().take_while(|&place| place <= last) {
+            let ends = self.chart.derived[(rule, place)] & ends;
+            if !ends.is_empty() {
+                places.insert(place);
+                self.need(rule, place, ends);
+            }
+        }
+        places
     }
 }

@@ -11,7 +11,12 @@ use super::places::Places;
 use crate::plain::{Plain, Symbol, Terminal};
 
 /// The greatest number of characters, for a record without a derivation.
-pub fn place(plain: &Plain, record: &[char], dots: &Dots, chart: &Chart) -> usize {
+pub fn place<const W: usize>(
+    plain: &Plain,
+    record: &[char],
+    dots: &Dots<W>,
+    chart: &Chart<W>,
+) -> usize {
     let mut standing = Standing {
         dots,
         chart,
@@ -36,15 +41,15 @@ pub fn place(plain: &Plain, record: &[char], dots: &Dots, chart: &Chart) -> usiz
 }
 
 /// For each rule the first dots of the alternatives that can be finished.
-fn firsts(plain: &Plain, dots: &Dots) -> Vec<Vec<usize>> {
+fn firsts<const W: usize>(plain: &Plain, dots: &Dots<W>) -> Vec<Vec<usize>> {
     let live = |symbol: &Symbol| match *symbol {
         Symbol::Terminal { terminal, .. } => plain.terminals[terminal].is_live(),
         _ => true,
     };
-    let rules = plain.rules.iter().zip(&dots.alternatives);
+    let rules = plain.rules.iter().enumerate();
     rules
-        .map(|(rule, ranges)| {
-            let alternatives = rule.alternatives.iter().zip(ranges);
+        .map(|(number, rule)| {
+            let alternatives = rule.alternatives.iter().zip(dots.alternatives(number));
             alternatives
                 .filter(|(symbols, _)| symbols.iter().all(live))
                 .map(|(_, range)| range.start)
@@ -68,18 +73,18 @@ fn begun(plain: &Plain, symbol: Option<&Symbol>, record: &[char]) -> usize {
     }
 }
 
-struct Standing<'a> {
-    dots: &'a Dots,
-    chart: &'a Chart,
+struct Standing<'a, const W: usize> {
+    dots: &'a Dots<W>,
+    chart: &'a Chart<W>,
     firsts: Vec<Vec<usize>>,
     /// For each dot the places where it stands.
-    places: Vec<Places>,
+    places: Vec<Places<W>>,
     /// Those not yet followed, and the dots that have some.
-    fresh: Vec<Places>,
+    fresh: Vec<Places<W>>,
     queue: Vec<usize>,
 }
 
-impl Standing<'_> {
+impl<const W: usize> Standing<'_, W> {
     fn run(&mut self) {
         while let Some(dot) = self.queue.pop() {
             let places = std::mem::take(&mut self.fresh[dot]);
@@ -90,24 +95,20 @@ impl Standing<'_> {
                 Dot::Insertion => self.add(dot + 1, places),
                 Dot::Nonterminal(rule) => {
                     self.enter(rule, places);
-                    let mut ends = Places::NONE;
-                    for place in places.iter() {
-                        ends |= self.chart.derived[(rule, place)];
-                    }
-                    self.add(dot + 1, ends);
+                    self.add(dot + 1, self.chart.derived.union(rule, places));
                 }
                 Dot::End(_) => {}
             }
         }
     }
 
-    fn enter(&mut self, rule: usize, places: Places) {
+    fn enter(&mut self, rule: usize, places: Places<W>) {
         for at in 0..self.firsts[rule].len() {
             self.add(self.firsts[rule][at], places);
         }
     }
 
-    fn add(&mut self, dot: usize, places: Places) {
+    fn add(&mut self, dot: usize, places: Places<W>) {
         let fresh = places & !self.places[dot];
         if fresh.is_empty() {
             return;

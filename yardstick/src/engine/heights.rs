@@ -1,37 +1,76 @@
 //! Least heights, in rounds.
 //!
 //! Round h completes exactly the rules over spans whose least height is
-//! h, since it uses only what earlier rounds completed.
+//! h, since it uses only what earlier rounds completed. The rounds end with the
+//! highest of the nodes that are asked about: below them a chosen derivation
+//! has nothing higher.
 
-use super::dots::Dot;
+use super::chart::{self, Useful};
+use super::dots::{Dot, Dots};
 use super::places::{Grid, Places};
-use super::Forest;
+use super::{Forest, Node};
+use crate::lists::Lists;
 
-/// For each rule, start and end the least height among its derivations.
-pub struct Heights {
+/// The least heights of some nodes, and of what may stand below them, as far
+/// as these are not higher than the highest of the nodes.
+pub struct Heights<const W: usize> {
     places: usize,
-    heights: Vec<u32>,
+    /// For a rule and a start its steps, the last one first.
+    steps: Lists<Step<W>>,
 }
 
-impl Heights {
-    fn index(&self, rule: usize, start: usize, end: usize) -> usize {
-        (rule * self.places + start) * self.places + end
+/// What a round did for a rule and a start.
+#[derive(Clone, Copy)]
+struct Step<const W: usize> {
+    height: u32,
+    /// The ends completed in this round or before.
+    ends: Places<W>,
+}
+
+impl<const W: usize> Heights<W> {
+    fn new(rules: usize, places: usize) -> Heights<W> {
+        Heights {
+            places,
+            steps: Lists::new(rules * places),
+        }
     }
 
-    /// The least height of a rule over a span, which must be among the
-    /// useful ones.
-    pub fn height(&self, rule: usize, start: usize, end: usize) -> u32 {
-        self.heights[self.index(rule, start, end)]
+    fn push(&mut self, rule: usize, start: usize, height: u32, ends: Places<W>) {
+        let list = rule * self.places + start;
+        self.steps.push(list, Step { height, ends });
+    }
+
+    /// The steps of a rule and a start, the last one first.
+    fn steps(&self, rule: usize, start: usize) -> impl Iterator<Item = Step<W>> + '_ {
+        self.steps.iter(rule * self.places + start)
+    }
+
+    /// The least height of one of the nodes, or of one below them that is not
+    /// higher.
+    pub fn height(&self, node: Node) -> u32 {
+        let steps = self.steps(node.rule, node.start);
+        let within = steps.take_while(|step| step.ends.contains(node.end));
+        within.last().expect("a node with a height").height
+    }
+
+    /// The ends of a rule's derivations that are lower than this.
+    pub fn lower(&self, rule: usize, start: usize, height: u32) -> Places<W> {
+        let mut steps = self.steps(rule, start);
+        let step = steps.find(|step| step.height < height);
+        step.map_or(Places::NONE, |step| step.ends)
     }
 }
 
-/// The least heights of everything in a forest.
-pub fn least_heights(forest: &Forest) -> Heights {
+/// The least heights of some nodes that are derived, and below them.
+pub fn least_heights<const W: usize>(forest: &Forest<W>, nodes: &[Node]) -> Heights<W> {
     let dots = forest.dots.all.len();
-    let rules = forest.dots.uses.len();
+    let rules = forest.dots.rules();
     let places = forest.length + 1;
     let mut rounds = Rounds {
-        forest,
+        dots: &forest.dots,
+        uses: forest.dots.uses(),
+        useful: chart::prune(&forest.dots, &forest.chart, places, nodes),
+        places,
         round: 1,
         reached: Grid::new(dots, places),
         waiting: Grid::new(dots, places),
@@ -41,137 +80,179 @@ pub fn least_heights(forest: &Forest) -> Heights {
         completed: Vec::new(),
         news: Grid::new(rules, places),
         changed: vec![Places::NONE; rules],
-        heights: Heights {
-            places,
-            heights: vec![0; rules * places * places],
-        },
+        changed_rules: Vec::new(),
+        moves: Vec::new(),
+        heights: Heights::new(rules, places),
     };
     rounds.start();
-    while !rounds.completed.is_empty() {
-        rounds.step();
+    for node in nodes {
+        while !rounds.derived[(node.rule, node.start)].contains(node.end) {
+            rounds.step();
+        }
     }
     rounds.heights
 }
 
-struct Rounds<'a> {
-    forest: &'a Forest,
+struct Rounds<'a, const W: usize> {
+    dots: &'a Dots<W>,
+    uses: Lists<usize>,
+    /// What lies on derivations of the nodes.
+    useful: Useful<W>,
+    places: usize,
     round: u32,
     /// The part of the useful `reached` that heights below this round give.
-    reached: Grid,
+    reached: Grid<W>,
     /// For a dot before a nonterminal and a place, the starts that reached it.
-    waiting: Grid,
-    /// For each dot before a nonterminal, the starts for which the next dot
-    /// may still reach more.
-    unfinished: Vec<Places>,
+    waiting: Grid<W>,
+    /// For each dot the starts from which the dots behind it may still gain
+    /// something by what it reaches.
+    unfinished: Vec<Places<W>>,
     /// The part of the useful `derived` completed before this round.
-    derived: Grid,
+    derived: Grid<W>,
     /// The ends completed in this round.
-    fresh: Grid,
-    /// The rules and starts with fresh ends.
+    fresh: Grid<W>,
+    /// The rules and starts with fresh ends; between rounds those with news.
     completed: Vec<(usize, usize)>,
-    /// The ends completed in the last round; empty between rounds.
-    news: Grid,
-    /// For each rule the starts with news; empty between rounds.
-    changed: Vec<Places>,
-    heights: Heights,
+    /// The ends completed in the round before.
+    news: Grid<W>,
+    /// For each rule the starts with news.
+    changed: Vec<Places<W>>,
+    /// The rules with news.
+    changed_rules: Vec<usize>,
+    /// Dots with a start and places that they are to reach; empty between rounds.
+    moves: Vec<(usize, usize, Places<W>)>,
+    heights: Heights<W>,
 }
 
-impl Rounds<'_> {
+impl<const W: usize> Rounds<'_, W> {
     /// The first round: every useful alternative, up to its first nonterminal.
     fn start(&mut self) {
-        for (rule, alternatives) in self.forest.dots.alternatives.iter().enumerate() {
-            for start in 0..self.heights.places {
-                if self.forest.useful.derived[(rule, start)].is_empty() {
+        for rule in 0..self.dots.rules() {
+            for start in 0..self.places {
+                if self.useful.derived[(rule, start)].is_empty() {
                     continue;
                 }
-                for dots in alternatives {
+                for dots in self.dots.alternatives(rule) {
                     self.advance(dots.start, start, Places::one(start));
                 }
             }
         }
+        self.close();
     }
 
     /// One more round, which takes up what the last one completed.
     fn step(&mut self) {
         self.round += 1;
-        let completed = std::mem::take(&mut self.completed);
-        let mut rules = Vec::new();
-        for &(rule, start) in &completed {
-            if self.changed[rule].is_empty() {
-                rules.push(rule);
-            }
-            self.changed[rule].insert(start);
-            let ends = std::mem::take(&mut self.fresh[(rule, start)]);
-            self.derived[(rule, start)] |= ends;
-            self.news[(rule, start)] = ends;
-        }
-        for &rule in &rules {
-            for &dot in &self.forest.dots.uses[rule] {
-                self.take_up(dot, rule);
+        let mut moves = std::mem::take(&mut self.moves);
+        for index in 0..self.changed_rules.len() {
+            let rule = self.changed_rules[index];
+            let mut entry = self.uses.first(rule);
+            while let Some((dot, behind)) = self.uses.at(entry) {
+                self.take_up(dot, rule, &mut moves);
+                entry = behind;
             }
         }
-        for (rule, start) in completed {
+        self.forget_news();
+        for (dot, start, places) in moves.drain(..) {
+            self.advance(dot, start, places);
+        }
+        self.moves = moves;
+        self.close();
+    }
+
+    fn forget_news(&mut self) {
+        for (rule, start) in self.completed.drain(..) {
             self.news[(rule, start)] = Places::NONE;
+        }
+        for rule in self.changed_rules.drain(..) {
             self.changed[rule] = Places::NONE;
         }
     }
 
-    /// Moves the dot over `rule` wherever the last round completed it, unless
-    /// the next dot has already reached all that is useful.
-    fn take_up(&mut self, dot: usize, rule: usize) {
+    /// Ends a round: what it completed has its height, and is news for the next.
+    fn close(&mut self) {
+        for &(rule, start) in &self.completed {
+            let ends = std::mem::take(&mut self.fresh[(rule, start)]);
+            let derived = &mut self.derived[(rule, start)];
+            *derived |= ends;
+            self.heights.push(rule, start, self.round, *derived);
+            self.news[(rule, start)] = ends;
+            if self.changed[rule].is_empty() {
+                self.changed_rules.push(rule);
+            }
+            self.changed[rule].insert(start);
+        }
+    }
+
+    /// Moves the dot over `rule` wherever the last round completed it, from what
+    /// it has reached before this round, unless the next dot has already
+    /// reached all that is useful.
+    fn take_up(&mut self, dot: usize, rule: usize, moves: &mut Vec<(usize, usize, Places<W>)>) {
         if self.unfinished[dot].is_empty() {
             return;
         }
         let changed = self.changed[rule];
+        let waiting = self.waiting.row(dot);
         let mut starts = Places::NONE;
         for place in changed.iter() {
-            starts |= self.waiting[(dot, place)];
+            starts |= waiting[place];
         }
         for start in (starts & self.unfinished[dot]).iter() {
-            let next = (dot + 1, start);
-            if self.reached[next] == self.forest.useful.reached[next] {
-                self.unfinished[dot].remove(start);
+            if self.is_finished(dot, start) {
                 continue;
             }
+            let news = self.news.row(rule);
             let mut ends = Places::NONE;
             for place in (self.reached[(dot, start)] & changed).iter() {
-                ends |= self.news[(rule, place)];
+                ends |= news[place];
             }
-            self.advance(dot + 1, start, ends);
+            moves.push((dot + 1, start, ends));
         }
+    }
+
+    /// Whether from this start the dots behind a dot have nothing to gain.
+    fn is_finished(&mut self, dot: usize, start: usize) -> bool {
+        let next = (dot + 1, start);
+        let finished = !self.unfinished[dot + 1].contains(start)
+            || self.reached[next] == self.useful.reached[next];
+        if finished {
+            self.unfinished[dot].remove(start);
+        }
+        finished
     }
 
     /// Notes that the symbols before a dot lead from `start` to these places,
     /// and follows the alternative as far as this round goes.
-    fn advance(&mut self, mut dot: usize, start: usize, mut places: Places) {
+    fn advance(&mut self, mut dot: usize, start: usize, mut places: Places<W>) {
         loop {
             let reached = &mut self.reached[(dot, start)];
-            places = places & self.forest.useful.reached[(dot, start)] & !*reached;
+            places = places & self.useful.reached[(dot, start)] & !*reached;
             if places.is_empty() {
                 return;
             }
             *reached |= places;
-            match self.forest.dots.all[dot] {
+            match self.dots.all[dot] {
                 Dot::Terminal { matches, length } => places = (places & matches).later(length),
                 Dot::Insertion => {}
                 Dot::Nonterminal(rule) => {
+                    if self.is_finished(dot, start) {
+                        return;
+                    }
+                    let (waiting, derived) = (self.waiting.row_mut(dot), self.derived.row(rule));
                     let mut ends = Places::NONE;
                     for place in places.iter() {
-                        self.waiting[(dot, place)].insert(start);
-                        ends |= self.derived[(rule, place)];
+                        waiting[place].insert(start);
+                        ends |= derived[place];
                     }
                     places = ends;
                 }
-                Dot::End(rule) => {
-                    self.complete(rule, start, places);
-                    return;
-                }
+                Dot::End(rule) => return self.complete(rule, start, places),
             }
             dot += 1;
         }
     }
 
-    fn complete(&mut self, rule: usize, start: usize, ends: Places) {
+    fn complete(&mut self, rule: usize, start: usize, ends: Places<W>) {
         let fresh = &mut self.fresh[(rule, start)];
         let ends = ends & !self.derived[(rule, start)] & !*fresh;
         if ends.is_empty() {
@@ -181,9 +262,5 @@ impl Rounds<'_> {
             self.completed.push((rule, start));
         }
         *fresh |= ends;
-        for end in ends.iter() {
-            let index = self.heights.index(rule, start, end);
-            self.heights.heights[index] = self.round;
-        }
     }
 }

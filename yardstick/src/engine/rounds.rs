@@ -24,7 +24,7 @@ impl Rounds {
     /// Of a record with so many characters.
     pub fn new(dots: Dots, characters: usize) -> Rounds {
         let places = characters + 1;
-        let derived = Grid::new(dots.alternatives.len(), places);
+        let derived = Grid::new(dots.rules(), places);
         Rounds {
             dots,
             places,
@@ -45,7 +45,7 @@ impl Rounds {
 
     /// The rules, written and made.
     pub fn rules(&self) -> usize {
-        self.dots.alternatives.len()
+        self.dots.rules()
     }
 
     /// As many rounds as there may be.
@@ -78,9 +78,9 @@ impl Rounds {
     /// The ends with one height more.
     fn next(&self) -> Grid {
         let mut next = self.derived.clone();
-        for (rule, alternatives) in self.dots.alternatives.iter().enumerate() {
+        for rule in 0..self.rules() {
             for start in 0..self.places {
-                for alternative in alternatives {
+                for alternative in self.dots.alternatives(rule) {
                     next[(rule, start)] |= self.ends(alternative.clone(), start);
                 }
             }
