@@ -20,7 +20,7 @@ use Rattle.reach.specs.Work.{tailOf, Seen, Waits, Kept, Waking, Woken, Collects
 use Rattle.reach.specs.Lists.{keyOf, afterKey, Shape, Homes, Homed, Keying, Opened, Members}
 use Rattle.left_pass.specs.Left.{Rules, Closing, Closed, Given, Shifted, Lefting, Lefted}
 use Rattle.reach.proofs.Widths.{empty-fits}
-use Rattle.reach.proofs.Queue.{count-most}
+use Rattle.reach.proofs.Counts.{count-most}
 use Rattle.reach.proofs.Keys.{key-first, key-after, after-none, after-some, use-none}
 
 -- the place k is closed

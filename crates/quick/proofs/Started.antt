@@ -4,7 +4,7 @@ use Prim.Native.Nat.{ℕ, _+_, _≤_}
 use native.Mathlib.Omega.{arith}
 use lib.ListN.{replicate, length-replicate}
 use Rattle.chart.proofs.Users.{all-zero}
-use Rattle.reach.proofs.Queue.{count-most}
+use Rattle.reach.proofs.Counts.{count-most}
 use Rattle.queue.specs.Queue.{countOf, Queued}
 
 pub no-count : countOf (replicate 1026 0) ≡ 0

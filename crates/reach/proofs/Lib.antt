@@ -1,4 +1,5 @@
 pub mod Closed
+pub mod Counts
 pub mod Queue
 pub mod Keys
 pub mod Stays

@@ -15,7 +15,8 @@ use Rattle.reach.specs.Flags.{dotAt, beginAt, endAt, Reached, Fits, Continued, 
 use Rattle.reach.specs.Work.{tailOf, Seen, Kept, Raised, Waking, Woken, Collects, Collected}
 use Rattle.reach.specs.Lists.{keyOf, Shape, Homes, Homed, Opened, Members}
 use Rattle.right_pass.specs.Right.{Wants, Closing, Closed, Unshifted, Unshifting, Righting, Righted}
-use Rattle.reach.proofs.Queue.{raised-le, count-most}
+use Rattle.reach.proofs.Counts.{count-most}
+use Rattle.reach.proofs.Queue.{raised-le}
 use Rattle.reach.proofs.Keys.{home-below, key-end, key-use, use-none, end-some}
 use Rattle.left_pass.proofs.Steps.{stir-woken}
 use Rattle.right_pass.proofs.Back.{woken-ones, woken-twos}
