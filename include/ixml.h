@@ -21,8 +21,8 @@
  *
  * The calls allocate nothing, keep nothing from one call to the next and may
  * run on several threads at once. A stack of 1 MB is enough for each of them;
- * the least with which jobs at the limits were seen to work is 166 KB for
- * checking, 170 KB for tidying, 650 KB for reading and 700 KB for converting.
+ * the least with which jobs at the limits were seen to work is 180 KB for
+ * checking and for tidying, 650 KB for reading and 700 KB for converting.
  */
 #ifndef IXML_H
 #define IXML_H
