@@ -37,8 +37,12 @@ derive-requires c κs =
 
 wake-requires : tie.Need-wake-requires
 wake-requires c κs =
-    let start = c .before .before .before .before .before .before .before .before .before .before .before .before .before in
-    (start .pre .2, omega (arith, start .pre .0 .ground .marks-long, start .pre .0 .on), omega (arith, start .pre .0 .on, start .pre .0 .ground .short), omega (arith, start .pre .1, start .pre .0 .ground .shape .small))
+    let start = c .before .before .before .before .before .before .before .before .before .before .before .before .before in (
+      start .pre .2,
+      omega (arith, start .pre .0 .ground .marks-long, start .pre .0 .on),
+      omega (arith, start .pre .0 .on, start .pre .0 .ground .short),
+      omega (arith, start .pre .1, start .pre .0 .ground .shape .small),
+    )
 
 same-length : tie.Need-same-length
 same-length c = c .before .before .before .before .before .derive .ensures .settled .long

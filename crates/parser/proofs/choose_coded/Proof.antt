@@ -84,7 +84,8 @@ returns-2 c =
     let at-note-rules = at-flag .before .before .before in
     let start = at-note-rules .before .before .before .before .before .before .before .before in
     λ g k. as-answer g (start .args .text .now) (at-attempt .attempt .last .1 .1 .1 .1 .1 .0) true (at-attempt .attempt .result) (record { 0 = 0 }) (c .of-tried .ensures)
-    (sym (at-is-answer .is-answer .ensures) ∙ at-if2 .if2 .taken) (at-attempt .attempt .ensures (staged (start .pre .0) (at-note-rules .note-rules .ensures) k (at-flag .flag .ensures .both (not-false _ (at-if1 .if1 .left)))))
+    (sym (at-is-answer .is-answer .ensures) ∙ at-if2 .if2 .taken)
+    (at-attempt .attempt .ensures (staged (start .pre .0) (at-note-rules .note-rules .ensures) k (at-flag .flag .ensures .both (not-false _ (at-if1 .if1 .left)))))
 
 slice-aggregate-locate-2 : tie.Need-slice-aggregate-locate-2
 slice-aggregate-locate-2 c = search needs
@@ -124,8 +125,10 @@ returns-3 c =
     let at-flag = at-if1 .before .before .before in
     let at-note-rules = at-flag .before .before .before in
     let start = at-note-rules .before .before .before .before .before .before .before .before in
-    λ g k. as-refused g (start .args .text .now) (at-attempt .attempt .last .1 .1 .1 .1 .1 .0) (at-attempt .attempt .result) (at-locate2 .locate2 .result) (sym (at-is-answer .is-answer .ensures) ∙ at-if2 .if2 .left)
-    (sym (at-is-refused .is-refused .ensures) ∙ c .if3 .taken) (at-attempt .attempt .ensures (staged (start .pre .0) (at-note-rules .note-rules .ensures) k (at-flag .flag .ensures .both (not-false _ (at-if1 .if1 .left))))) (at-locate2 .locate2 .ensures g k)
+    λ g k. as-refused g (start .args .text .now) (at-attempt .attempt .last .1 .1 .1 .1 .1 .0) (at-attempt .attempt .result) (at-locate2 .locate2 .result)
+    (sym (at-is-answer .is-answer .ensures) ∙ at-if2 .if2 .left)
+    (sym (at-is-refused .is-refused .ensures) ∙ c .if3 .taken)
+    (at-attempt .attempt .ensures (staged (start .pre .0) (at-note-rules .note-rules .ensures) k (at-flag .flag .ensures .both (not-false _ (at-if1 .if1 .left))))) (at-locate2 .locate2 .ensures g k)
 
 slice-aggregate-attempt-2 : tie.Need-slice-aggregate-attempt-2
 slice-aggregate-attempt-2 c = search needs
@@ -148,7 +151,8 @@ of-tried-requires-2 c κs = search needs
 
 same-length-9 : tie.Need-same-length-9
 same-length-9 c =
-    let at-flag = c .before .before .before .before .before .before .before .before .before .before .before .before .before .before .before .before .before .before .before .before .before .before .before .before .before .before .before .before .before .before .before .before in
+    let half = c .before .before .before .before .before .before .before .before .before .before .before .before .before .before .before .before in
+    let at-flag = half .before .before .before .before .before .before .before .before .before .before .before .before .before .before .before .before in
     at-flag .flag .kept .1 .1 .1 .0
 
 same-length-10 : tie.Need-same-length-10

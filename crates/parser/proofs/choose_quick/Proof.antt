@@ -20,8 +20,11 @@ choose-short-requires : tie.Need-choose-short-requires
 choose-short-requires c κs =
     let at-if1 = c .before .before .before in
     let at-code-rules = at-if1 .before .before in
-    let start = at-code-rules .before .before .before .before .before .before in
-    (coded (locatable-anew (start .pre) refl) (at-code-rules .code-rules .ensures (start .pre .grammar) (start .pre .ready)) (at-code-rules .code-rules .kept .1 .1 .1 .0), start .pre .numbers, omega (arith, at-if1 .if1 .taken))
+    let start = at-code-rules .before .before .before .before .before .before in (
+      coded (locatable-anew (start .pre) refl) (at-code-rules .code-rules .ensures (start .pre .grammar) (start .pre .ready)) (at-code-rules .code-rules .kept .1 .1 .1 .0),
+      start .pre .numbers,
+      omega (arith, at-if1 .if1 .taken),
+    )
 
 same-length : tie.Need-same-length
 same-length c = search needs
@@ -42,8 +45,11 @@ choose-middle-requires : tie.Need-choose-middle-requires
 choose-middle-requires c κs =
     let at-if2 = c .before .before .before in
     let at-code-rules = at-if2 .before .before .before in
-    let start = at-code-rules .before .before .before .before .before .before in
-    (coded (locatable-anew (start .pre) refl) (at-code-rules .code-rules .ensures (start .pre .grammar) (start .pre .ready)) (at-code-rules .code-rules .kept .1 .1 .1 .0), start .pre .numbers, omega (arith, at-if2 .if2 .taken))
+    let start = at-code-rules .before .before .before .before .before .before in (
+      coded (locatable-anew (start .pre) refl) (at-code-rules .code-rules .ensures (start .pre .grammar) (start .pre .ready)) (at-code-rules .code-rules .kept .1 .1 .1 .0),
+      start .pre .numbers,
+      omega (arith, at-if2 .if2 .taken),
+    )
 
 same-length-3 : tie.Need-same-length-3
 same-length-3 c = search needs
@@ -63,8 +69,10 @@ slice-aggregate-choose-long c = search needs
 choose-long-requires : tie.Need-choose-long-requires
 choose-long-requires c κs =
     let at-code-rules = c .before .before .before .before .before .before in
-    let start = at-code-rules .before .before .before .before .before .before in
-    (coded (locatable-anew (start .pre) refl) (at-code-rules .code-rules .ensures (start .pre .grammar) (start .pre .ready)) (at-code-rules .code-rules .kept .1 .1 .1 .0), start .pre .numbers)
+    let start = at-code-rules .before .before .before .before .before .before in (
+      coded (locatable-anew (start .pre) refl) (at-code-rules .code-rules .ensures (start .pre .grammar) (start .pre .ready)) (at-code-rules .code-rules .kept .1 .1 .1 .0),
+      start .pre .numbers,
+    )
 
 same-length-5 : tie.Need-same-length-5
 same-length-5 c = search needs

@@ -45,7 +45,8 @@ left-requires c κs =
     let start = at-code-rules .before .before .before .before .before in
     let pre = start .pre in
     let code = at-code-rules .code-rules .ensures (pre .grammar) (pre .ready) in
-    lefting-of code (given-of code (pre .long) (pre .small) (omega (arith, pre .small, at-code-rules .code-rules .kept .1 .1 .1 .0)) (pre .short) (omega (arith, length-replicate {A = ℕ} 308736 0, pre .short)))
+    lefting-of code (given-of code (pre .long) (pre .small) (omega (arith, pre .small, at-code-rules .code-rules .kept .1 .1 .1 .0)) (pre .short)
+    (omega (arith, length-replicate {A = ℕ} 308736 0, pre .short)))
     (all-zero 308736)
 
 slice-aggregate-locate : tie.Need-slice-aggregate-locate

@@ -28,8 +28,11 @@ wanted-requires : tie.Need-wanted-requires
 wanted-requires c κs =
     let start = c .before .before .before .before .before .before .before in
     let a = start .args in
-    let g = start .pre .0 in
-    (omega (arith, g .marks-long, start .pre .1), omega (arith, c .wide .ensures, g .noted .homes (a .x) (start .pre .2), home-size (g .shape) (a .x) (start .pre .2), g .shape .small), omega (arith, start .pre .1, g .short))
+    let g = start .pre .0 in (
+      omega (arith, g .marks-long, start .pre .1),
+      omega (arith, c .wide .ensures, g .noted .homes (a .x) (start .pre .2), home-size (g .shape) (a .x) (start .pre .2), g .shape .small),
+      omega (arith, start .pre .1, g .short),
+    )
 
 returns : tie.Need-returns
 returns c =
