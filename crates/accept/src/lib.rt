@@ -1,4 +1,6 @@
 // A grammar's bytes to its plain rules in a table, or the refusal: 1 to 11, then 24.
+#![tactic(auto)]
+
 ghost use Rattle.std.specs.Prelude.{◌≡◌, length};
 ghost use Rattle.text.specs.Limits.{grammar_table};
 ghost use Rattle.text.specs.Stages.{diagnostic_of};
@@ -9,7 +11,7 @@ use text::{Diagnostic, refusals};
 
 // What the later stages need to know of an accepted grammar: the first item of the root's rule, its size, whether its version is another
 // one, and the place after its tokens.
-#[derive(Drop)]
+#[derive(Clone, Copy)]
 pub struct Rules {
     pub root: usize,
     pub size: usize,
@@ -17,7 +19,7 @@ pub struct Rules {
     pub end: usize,
 }
 
-#[derive(Drop)]
+#[derive(Clone, Copy)]
 pub enum Accepted {
     Grammar(Rules),
     Refused(Diagnostic),

@@ -1,4 +1,6 @@
 // One round of a read: a sweep of the plain engine over the whole main table.
+#![tactic(auto)]
+
 ghost use Rattle.std.specs.Prelude.{◌≡◌, ℕ, ◌+◌, ◌*◌, ◌<◌, ◌≤◌, length};
 ghost use Rattle.tree.specs.Tree.{Grammar};
 ghost use Rattle.chart.specs.Code.{flag};

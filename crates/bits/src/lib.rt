@@ -1,4 +1,6 @@
 // Sets of places: 32 in a number, a bit for each.
+#![tactic(auto)]
+
 ghost use Rattle.std.specs.Prelude.{true, ◌≡◌, ℕ, ◌+◌, ◌<◌, ◌^◌};
 ghost use Rattle.bits.specs.Bits.{Lit, Has, Union, Masking, Beyond, Spread, Adds};
 

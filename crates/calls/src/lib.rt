@@ -1,4 +1,6 @@
 // The public calls. None requires anything of its caller.
+#![tactic(auto)]
+
 ghost use Rattle.std.specs.Prelude.{length};
 ghost use Rattle.answer.specs.Answer.{job, Categorizes, Reads, Converts};
 ghost use Rattle.outcome.specs.Calls.{Checked, ReadAs, ConvertedAs, JudgedAs, TidiedAs};

@@ -1,1 +1,3 @@
 // Worked examples only: see specs/ and proofs/.
+
+#![tactic(auto)]

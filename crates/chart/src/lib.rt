@@ -1,4 +1,6 @@
 // The main table: where its cells stand, and what one holds that nothing derives. Where each rule is used.
+#![tactic(auto)]
+
 ghost use Rattle.std.specs.Prelude.{◌≡◌, ℕ, ◌*◌, ◌<◌, ◌≤◌, length, get_or};
 ghost use Rattle.text.specs.Limits.{most_size, record_chars};
 ghost use Rattle.chart.specs.Code.{next_kind, rule_at};

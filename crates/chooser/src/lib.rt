@@ -1,4 +1,6 @@
 // What both ways to choose a reading share: what they are given, and the walk with a stack of its own.
+#![tactic(auto)]
+
 ghost use Rattle.std.specs.Prelude.{◌≤◌, length};
 ghost use Rattle.text.specs.Limits.{reading_numbers};
 ghost use Rattle.reading.specs.Answer.{Finished, Answers};

@@ -4,14 +4,14 @@ ghost use Rattle.io.specs.Counts.{IsPrefixLen};
 ghost use Rattle.cli.specs.Output.{Chunked};
 
 // Whether a file can be read, and how many of its bytes were.
-#[derive(Drop)]
+#[derive(Clone, Copy)]
 pub struct Loaded {
     pub readable: bool,
     pub count: usize,
 }
 
 // What one read came to: the next place, the end of the file, or a failure.
-#[derive(Drop)]
+#[derive(Clone, Copy)]
 pub enum Chunk {
     More(usize),
     End,

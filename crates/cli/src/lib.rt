@@ -1,5 +1,7 @@
 // The program's files and output: files in, and the bytes that it writes for an answer. No contract can say
 // what the system reads; all that follows from the bytes read is proved.
+#![tactic(auto)]
+
 mod files;
 mod output;
 

@@ -1,4 +1,6 @@
 // The place of the fault: how far the dots reach that stand on the record.
+#![tactic(auto)]
+
 ghost use Rattle.std.specs.Prelude.{◌≡◌, ◌<◌, length};
 ghost use Rattle.fault.specs.Far.{Ranging};
 ghost use Rattle.confirm.specs.Find.{One, Words, Best, Confirming, Confirmed};
@@ -6,7 +8,7 @@ ghost use Rattle.confirm.specs.Find.{One, Words, Best, Confirming, Confirmed};
 use text::CharPlace;
 
 // A dot of a grammar with `size` dots, and a place, or the number of a set that holds places.
-#[derive(Drop)]
+#[derive(Clone, Copy)]
 pub struct Spot {
     pub size: usize,
     pub p: usize,

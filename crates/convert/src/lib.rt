@@ -1,4 +1,6 @@
 // A left parse as XML: what forbids it, and then its bytes.
+#![tactic(auto)]
+
 ghost use Rattle.std.specs.Prelude.{◌≡◌, ◌*◌, ◌≤◌, length};
 ghost use Rattle.tree.specs.Tree.{Grammar};
 ghost use Rattle.derive.specs.Derive.{Row};
@@ -18,7 +20,7 @@ const FEW_NUMBERS: usize = 512;
 const FEW_NOTES: usize = 2 * FEW_NUMBERS;
 
 // The count of the XML's bytes, or the refusal.
-#[derive(Drop)]
+#[derive(Clone, Copy)]
 pub enum Converted {
     Xml(usize),
     Refused(u32),

@@ -1,4 +1,6 @@
 // A cursor over the chosen derivation: what a left parse writes, one event at a time, with no recursion.
+#![tactic(auto)]
+
 ghost use Rattle.std.specs.Prelude.{◌≡◌, List, ℕ, ◌<◌, ◌≤◌};
 ghost use Rattle.text.specs.Lists.{Text};
 ghost use Rattle.items.specs.Items.{token_at};
@@ -22,7 +24,7 @@ const DELETED: usize = items::DELETED as usize;
 const ALTERNATIVE_END: usize = items::ALTERNATIVE_END as usize;
 
 // Where the walk stands; and, inside an attribute's value, one more than the attribute's entry (0: in no value).
-#[derive(Drop)]
+#[derive(Clone, Copy)]
 pub struct Cursor {
     pub at: Position,
     pub value: usize,
@@ -30,7 +32,7 @@ pub struct Cursor {
 
 // What comes next. Before text, an element or an attribute the cursor stands still: `skip` the text, `enter` the other two,
 // or go `past` them. Of an element and of an attribute the token is given; of an end, after which the cursor stands, the item.
-#[derive(Drop)]
+#[derive(Clone, Copy)]
 pub enum Event {
     Text(Cursor),
     Open(usize, Cursor),

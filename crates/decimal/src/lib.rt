@@ -1,4 +1,6 @@
 // The value of a number text, digit by digit, each operation rounded once.
+#![tactic(auto)]
+
 ghost use Rattle.std.specs.Prelude.{◌≡◌, ◌-◌, ◌^◌, ◌≤◌, length};
 ghost use Rattle.std.specs.Float.{binary64};
 ghost use Rattle.std.specs.Float.Ieee.{div};
@@ -18,7 +20,7 @@ const POWERS_OF_TEN: [u32; 10] = [
 ];
 
 // What a text says: a value, or nothing, since it is no number text.
-#[derive(Drop)]
+#[derive(Clone, Copy)]
 pub enum Number {
     Value(f64),
     Malformed,

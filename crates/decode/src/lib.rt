@@ -1,4 +1,6 @@
 // UTF-8, decoded strictly: a text from a byte place on, up to the first character that breaks a pattern; a whole text; a grammar's text.
+#![tactic(auto)]
+
 mod sequence;
 
 ghost use Rattle.std.specs.Prelude.{◌≡◌, ◌+◌, ◌<◌, ◌≤◌, length, set};
@@ -12,7 +14,7 @@ use text::Diagnostic;
 pub use text::{BytePlace, CharPlace};
 
 // What the characters of a text must be: scalar values, or characters of the alphabet.
-#[derive(Drop)]
+#[derive(Clone, Copy)]
 enum Pattern {
     Utf8,
     Alphabet,
@@ -20,7 +22,7 @@ enum Pattern {
 
 // A text: how many characters, all of the alphabet. Or the byte place of the first that breaks UTF-8, by what is wrong with it; or,
 // of UTF-8, that of the first outside the alphabet.
-#[derive(Drop)]
+#[derive(Clone, Copy)]
 pub enum Decoding {
     Of(CharPlace),
     CutShort(BytePlace),

@@ -5,7 +5,7 @@ ghost use Rattle.text.specs.Decode.{second_low, second_high};
 ghost use Rattle.decode.specs.Sequence.{lead as leadWith, lead_of, Takes, taking};
 
 // How many bytes follow, the limits of the next, and the bits so far.
-#[derive(Drop)]
+#[derive(Clone, Copy)]
 pub struct Sequence {
     pub more: usize,
     pub low: u8,

@@ -1,4 +1,6 @@
 // What forbids to write the document of a left parse: refusals 17 to 22.
+#![tactic(auto)]
+
 ghost use Rattle.std.specs.Prelude.{◌≡◌, ◌||◌, ℕ, ◌<◌, ◌≤◌, length};
 ghost use Rattle.text.specs.Lists.{Text, pick};
 ghost use Rattle.xml.specs.Document.{twice};
@@ -38,7 +40,7 @@ fn repeats_in(
 }
 
 // What is found in a row: the faults, and what its XML takes.
-#[derive(Drop)]
+#[derive(Clone, Copy)]
 pub struct Findings {
     pub faults: Faults,
     pub extent: Extent,
@@ -187,7 +189,7 @@ fn not_one_in(
 }
 
 // What is said of a document: it may be written, or what forbids it.
-#[derive(Drop)]
+#[derive(Clone, Copy)]
 pub enum Verdict {
     Allowed,
     RepeatedAttribute,
@@ -228,7 +230,7 @@ fn top_line(
 }
 
 // What is said of a document, and what its XML takes.
-#[derive(Drop)]
+#[derive(Clone, Copy)]
 pub struct Review {
     pub verdict: Verdict,
     pub extent: Extent,

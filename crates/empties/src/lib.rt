@@ -1,4 +1,6 @@
 // The least heights of empty stretches, which are the same at every place: of each rule, and of what stands after each dot.
+#![tactic(auto)]
+
 ghost use Rattle.std.specs.Prelude.{◌≡◌, ℕ, ◌<◌, ◌≤◌, length, get_or};
 ghost use Rattle.reach.specs.Lists.{HomesFrom};
 ghost use Rattle.sparse.specs.Cells.{Shape, Noted};

@@ -1,4 +1,6 @@
 // The bytes of characters, in UTF-8 and escaped as XML asks, put into a buffer up to a limit.
+#![tactic(auto)]
+
 ghost use Rattle.std.specs.Prelude.{◌≡◌, [], ◌∷◌, ◌<◌, ◌≤◌, length, take, drop};
 ghost use Rattle.text.specs.Utf8.{utf8};
 ghost use Rattle.text.specs.Lists.{concat_map};

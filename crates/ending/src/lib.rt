@@ -1,4 +1,6 @@
 // The end of a read in rounds: the left parse by the table that the rounds have left.
+#![tactic(auto)]
+
 ghost use Rattle.std.specs.Prelude.{◌≡◌, length};
 ghost use Rattle.answer.specs.Answer.{Job};
 ghost use Rattle.state.specs.State.{state_length};
@@ -16,7 +18,7 @@ use text::Diagnostic;
 pub const NOT_YET: u32 = 26;
 
 // What the end of a read comes to: what the stages of an uncut one do, or a refusal; and how many rounds it tells.
-#[derive(Drop)]
+#[derive(Clone, Copy)]
 pub struct Ending {
     pub parse: Parse,
     pub rounds: usize,

@@ -1,5 +1,7 @@
 // Where rules end that begin at a place of the record: for each rule and place a set of places, exactly, from the last place to the first. A
 // queue brings the sets of a place near to what they become, which promises nothing; rounds over all rules then close them.
+#![tactic(auto)]
+
 ghost use Rattle.std.specs.Prelude.{◌≡◌, ◌+◌, ◌*◌, ◌-◌, ◌/◌, ◌<◌, ◌≤◌, length};
 ghost use Rattle.chart.specs.Heights.{stretches};
 ghost use Rattle.reach.specs.Flags.{Begins};
@@ -25,7 +27,7 @@ const FEW: usize = 32;
 const FITS: u8 = 2;
 
 // A grammar with `size` dots on a record that ends at n, and a rule that begins at m.
-#[derive(Drop)]
+#[derive(Clone, Copy)]
 pub struct Start {
     pub size: usize,
     pub n: usize,
@@ -34,7 +36,7 @@ pub struct Start {
 }
 
 // The place x of the dot p.
-#[derive(Drop)]
+#[derive(Clone, Copy)]
 struct Spot {
     p: usize,
     x: usize,

@@ -1,11 +1,13 @@
 // The answer that the calls export: the record, what it is with 0 and with a refusal, and the numbers of a result.
+#![tactic(auto)]
+
 ghost use Rattle.std.specs.Prelude.{◌≡◌, ◌&&◌, ◌++◌, ◌≤◌, eqb, length, take, drop};
 ghost use Rattle.exported.specs.Exported.{done, refusal_of};
 
 use text::{Diagnostic, refusals};
 
 // A refusal, and whether the grammar's version is another one, as far as that is known.
-#[derive(Drop)]
+#[derive(Clone, Copy)]
 pub struct Refusal {
     pub why: Diagnostic,
     pub mismatch: bool,
@@ -13,7 +15,7 @@ pub struct Refusal {
 
 // Where a job is at fault: a byte, a character of the record, a character of the grammar. 0 where the number names no place.
 #[repr(C)]
-#[derive(Drop)]
+#[derive(Clone, Copy)]
 pub struct Places {
     pub byte: usize,
     pub fault: usize,
@@ -22,7 +24,7 @@ pub struct Places {
 
 // What a call answers: the number of the refusal, or 0; the length of the result; the two marks; the places.
 #[repr(C)]
-#[derive(Drop)]
+#[derive(Clone, Copy)]
 pub struct Answer {
     pub number: u32,
     pub length: usize,

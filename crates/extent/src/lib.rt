@@ -1,11 +1,13 @@
 // How many bytes the XML of a row takes at most, and whether it has attributes: gathered while the row is judged.
+#![tactic(auto)]
+
 ghost use Rattle.std.specs.Prelude.{◌≡◌, true, false, ℕ, ◌+◌, ◌*◌, ◌<◌, ◌≤◌};
 ghost use Rattle.text.specs.Lists.{Text};
 ghost use Rattle.left_parse.specs.Steps.{Named};
 ghost use Rattle.extent.specs.Extent.{tag, none_at, Grown, Fits};
 
 // What is known of a row: the bytes that it takes at most, if they are less than UNKNOWN; whether some element has an attribute.
-#[derive(Drop)]
+#[derive(Clone, Copy)]
 pub struct Extent {
     pub most: usize,
     pub attributed: bool,

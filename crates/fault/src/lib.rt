@@ -1,4 +1,6 @@
 // The place of the fault in a record that has no reading: how many of its first characters begin some text of the grammar.
+#![tactic(auto)]
+
 ghost use Rattle.std.specs.Prelude.{Bool, true, false, ◌≡◌, ℕ, ◌+◌, ◌*◌, ◌<◌, ◌≤◌, length, get_or, take, drop};
 ghost use Rattle.chart.specs.Code.{next_kind};
 ghost use Rattle.terminals.specs.Places.{Beside};
@@ -178,7 +180,7 @@ fn farthest(table: &[u32], code: &[u32], text: &[u32], flags: &[u8], size: usize
 }
 
 // What is needed of the root: the grammar's dots, the record's end, the rule.
-#[derive(Drop)]
+#[derive(Clone, Copy)]
 pub struct Root {
     pub size: usize,
     pub n: CharPlace,

@@ -1,4 +1,6 @@
 // Reading off a main table that is filled whole. Nothing is asked of the table: one that is no fixed point is found out.
+#![tactic(auto)]
+
 ghost use Rattle.std.specs.Prelude.{◌≤◌, length};
 ghost use Rattle.tree.specs.Tree.{Grammar};
 ghost use Rattle.chart.specs.Code.{Ruled};
@@ -12,7 +14,7 @@ use reading::{Root, Rule, Walked};
 use text::CharPlace;
 
 // The rules of a code: how many dots they have, the name of the root's rule and its first dot.
-#[derive(Drop)]
+#[derive(Clone, Copy)]
 pub struct Rules {
     pub size: usize,
     pub top: usize,
@@ -59,7 +61,7 @@ fn read_off(
 }
 
 // What a table gives at the end of a read.
-#[derive(Drop)]
+#[derive(Clone, Copy)]
 pub enum Ended {
     Found(Chosen),
     Altered,

@@ -1,5 +1,7 @@
 // Whether a main table is a fixed point: each cell holds the least height that the table gives it, or none where it gives none. Such a table
 // holds the least heights of the grammar and the record, whoever filled it.
+#![tactic(auto)]
+
 ghost use Rattle.std.specs.Prelude.{◌≡◌, ℕ, ◌+◌, ◌<◌, ◌≤◌, length, get_or};
 ghost use Rattle.text.specs.Limits.{most_size, record_chars};
 ghost use Rattle.chart.specs.Code.{next_kind};
@@ -16,7 +18,7 @@ use text::limits;
 const GREATEST: u32 = 4294967294;
 
 // A stretch, in a table of `size` positions and n characters.
-#[derive(Drop)]
+#[derive(Clone, Copy)]
 pub struct Stretch {
     pub size: usize,
     pub n: usize,

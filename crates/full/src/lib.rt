@@ -1,5 +1,7 @@
 // Flags for a main table that is filled whole: every dot is reached at every place, every rule may begin and is wanted to end there, and a
 // terminal is flagged where it fits.
+#![tactic(auto)]
+
 ghost use Rattle.std.specs.Prelude.{◌≡◌, ◌+◌, ◌<◌, length};
 ghost use Rattle.full.specs.Whole.{dot_flag, Markable, PlaceMarked, Marked};
 

@@ -1,5 +1,7 @@
 // The position gate: two attribute texts and a grower's gate come to a verdict, or to a refusal. None of the exported calls requires
 // anything of its caller.
+#![tactic(auto)]
+
 ghost use Rattle.std.specs.Prelude.{◌≡◌, ◌&&◌};
 ghost use Rattle.std.specs.Float.Ieee.{le};
 ghost use Rattle.decimal.specs.Nearest.{finite as is_finite};
@@ -33,20 +35,20 @@ const SWAPPED: u32 = 2;
 
 const SUSPECT: u32 = 3;
 
-#[derive(Drop)]
+#[derive(Clone, Copy)]
 pub struct Latitude(pub f64);
 
-#[derive(Drop)]
+#[derive(Clone, Copy)]
 pub struct Longitude(pub f64);
 
-#[derive(Drop)]
+#[derive(Clone, Copy)]
 pub struct Position {
     pub lat: Latitude,
     pub lon: Longitude,
 }
 
 // What a grower gives: limits of latitude, and in a box of longitude too.
-#[derive(Drop)]
+#[derive(Clone, Copy)]
 pub enum Gate {
     Box {
         south: f64,
@@ -61,7 +63,7 @@ pub enum Gate {
     Anywhere,
 }
 
-#[derive(Drop)]
+#[derive(Clone, Copy)]
 pub enum Verdict {
     Inside,
     Swapped,
@@ -69,7 +71,7 @@ pub enum Verdict {
 }
 
 // What two texts come to: a verdict, or the number of a refusal.
-#[derive(Drop)]
+#[derive(Clone, Copy)]
 pub enum Ruling {
     Judged(Verdict),
     Refused(u32),
@@ -77,7 +79,7 @@ pub enum Ruling {
 
 // A ruling as it is exported: 0 and a verdict by its number, or a refusal and no verdict.
 #[repr(C)]
-#[derive(Drop)]
+#[derive(Clone, Copy)]
 pub struct GateAnswer {
     pub number: u32,
     pub verdict: u32,
@@ -85,7 +87,7 @@ pub struct GateAnswer {
 
 // The value of a number text: 0 and the value, or a refusal and the value 0.
 #[repr(C)]
-#[derive(Drop)]
+#[derive(Clone, Copy)]
 pub struct NumberAnswer {
     pub number: u32,
     pub value: f64,

@@ -1,4 +1,6 @@
 // The plain rules of a grammar as items in the grammar table, one for each place of a dot, made from the tokens by a machine with a stack.
+#![tactic(auto)]
+
 mod link;
 mod machine;
 
@@ -39,7 +41,7 @@ const BEGINNING: u32 = 0;
 
 // Where the machine stands: how many items and rules are made, how many entries the stack has, and the entry at which the innermost
 // bracket or rule begins.
-#[derive(Drop)]
+#[derive(Clone, Copy)]
 pub struct State {
     pub items: usize,
     pub rules: usize,
@@ -48,7 +50,7 @@ pub struct State {
 }
 
 // What the machine does at a token.
-#[derive(Drop)]
+#[derive(Clone, Copy)]
 pub enum Action {
     Skip,
     Push(u32),

@@ -1,4 +1,6 @@
 // The stages of a job together, from its bytes to the chosen reading. The first stage that refuses ends it.
+#![tactic(auto)]
+
 ghost use Rattle.std.specs.Prelude.{◌≡◌, length};
 ghost use Rattle.answer.specs.Answer.{Job, job};
 ghost use Rattle.opening.specs.Stages.{Begins};
@@ -12,7 +14,7 @@ use text::{BytePlace, CharPlace, Diagnostic, Places, refusals};
 
 // What a result is made from: where the root's rule begins, how many numbers the left parse has, where the record's characters end,
 // and the two marks.
-#[derive(Drop)]
+#[derive(Clone, Copy)]
 pub struct LeftParse {
     pub root: usize,
     pub count: usize,
@@ -21,7 +23,7 @@ pub struct LeftParse {
     pub mismatch: bool,
 }
 
-#[derive(Drop)]
+#[derive(Clone, Copy)]
 pub enum Parse {
     Chosen(LeftParse),
     Refused(Refusal),
@@ -80,7 +82,7 @@ pub fn parse_of(chosen: Chosen, start: Start) -> Parse
 }
 
 // How long the second lent table is, and whether the plain engine fills the main one.
-#[derive(Drop)]
+#[derive(Clone, Copy)]
 pub struct Lending {
     pub second: usize,
     pub plain: bool,

@@ -1,4 +1,6 @@
 // Whether a list of numbers, whoever made it, names a derivation of a record; with no recursion, and two numbers for each entry.
+#![tactic(auto)]
+
 ghost use Rattle.std.specs.Prelude.{◌≡◌, ℕ, ◌+◌, ◌*◌, ◌<◌, ◌≤◌, length};
 ghost use Rattle.items.specs.Items.{kind_at};
 ghost use Rattle.left_parse.specs.Walk.{Over};
@@ -16,7 +18,7 @@ const ALTERNATIVE_END: usize = items::ALTERNATIVE_END as usize;
 const NOTE_PLACE: usize = 1;
 
 // A step: on to a position, or none.
-#[derive(Drop)]
+#[derive(Clone, Copy)]
 pub enum Went {
     On(Position),
     Stuck,

@@ -1,4 +1,6 @@
 // The way through a left parse, and what is noted of its entries: no recursion, and two numbers for each entry.
+#![tactic(auto)]
+
 ghost use Rattle.std.specs.Prelude.{◌≡◌, Bool, true, false, List, ℕ, ◌+◌, ◌*◌, ◌<◌, ◌≤◌, length, get_or};
 ghost use Rattle.text.specs.Lists.{Text};
 ghost use Rattle.tree.specs.Tree.{Grammar};
@@ -11,7 +13,7 @@ use text::CharPlace;
 
 // Where a walk stands: the item of the next symbol, the next entry, the place in the record, and one more than the innermost
 // open entry (0: none is open).
-#[derive(Drop)]
+#[derive(Clone, Copy)]
 pub struct Position {
     pub item: usize,
     pub entry: usize,
@@ -65,7 +67,7 @@ fn pass(table: &[u32], item: usize) -> usize
 }
 
 // An alternative of a rule: its first item, and whether there is one of that number.
-#[derive(Drop)]
+#[derive(Clone, Copy)]
 struct Sought {
     item: usize,
     there: bool,

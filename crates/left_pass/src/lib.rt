@@ -1,4 +1,6 @@
 // The pass from the left: where dots may stand, and where rules may begin and end.
+#![tactic(auto)]
+
 ghost use Rattle.std.specs.Prelude.{◌≡◌, ◌+◌, ◌<◌, ◌≤◌, length};
 ghost use Rattle.left_pass.specs.Left.{At, AtList, Stepped, SymbolDone, EndDone, EmptyDone, Closing, Closed, Given, Shifted, Lefting, Lefted};
 

@@ -1,4 +1,6 @@
 // The words of a grammar text: strings, hex numbers, names and marks. What is read goes into the table of tokens.
+#![tactic(auto)]
+
 mod names;
 mod numbers;
 mod strings;
@@ -15,18 +17,18 @@ pub use names::{name, used_name};
 use spacing::{Cell, NUMBER_SIGN, Past, Step, is_mark, mark_number, peek, skip};
 
 // Where a run of characters ends.
-#[derive(Drop)]
+#[derive(Clone, Copy)]
 pub struct Run(pub CharPlace, pub Cell);
 
 // A hex number, capped, and where it ends.
-#[derive(Drop)]
+#[derive(Clone, Copy)]
 pub enum Number {
     Value(CharPlace, u32),
     No,
 }
 
 // Characters: a string, which stands in the table, or a hex number.
-#[derive(Drop)]
+#[derive(Clone, Copy)]
 pub enum Characters {
     Quoted(CharPlace, Cell),
     Coded(CharPlace, u32),
@@ -34,7 +36,7 @@ pub enum Characters {
 }
 
 // The number of a mark, and where it ends.
-#[derive(Drop)]
+#[derive(Clone, Copy)]
 pub enum Marked {
     At(CharPlace, u32),
     No,

@@ -1,5 +1,7 @@
 // What the column of an end lists for the stretches that end there and are not empty: the rows that may lower others on the same stretch,
 // and the dots that hand on to longer ones. Starts that nothing touched are passed over.
+#![tactic(auto)]
+
 ghost use Rattle.std.specs.Prelude.{true, false, List, ◌≡◌, ℕ, ◌+◌, ◌*◌, ◌<◌, ◌≤◌, length, get_or};
 ghost use Rattle.sparse.specs.Cells.{Shape};
 ghost use Rattle.sparse.specs.Steps.{Listed};

@@ -1,4 +1,6 @@
 // A grammar's bytes to its tree in a table, checked by refusals 1 to 11.
+#![tactic(auto)]
+
 ghost use Rattle.std.specs.Prelude.{◌≡◌, length};
 ghost use Rattle.static_errors.specs.Held.{rule_number};
 ghost use Rattle.text.specs.Stages.{diagnostic_of};
@@ -14,14 +16,14 @@ use text::{BytePlace, CharPlace, Diagnostic, Places, limits, refusals};
 const LARGEST: u32 = limits::GRAMMAR_SIZE as u32;
 
 // What the later stages need to know of a grammar that passes.
-#[derive(Drop)]
+#[derive(Clone, Copy)]
 pub struct Passed {
     pub end: usize,
     pub size: u32,
     pub mismatch: bool,
 }
 
-#[derive(Drop)]
+#[derive(Clone, Copy)]
 pub enum Loaded {
     Grammar(Passed),
     Refused(Diagnostic),

@@ -1,5 +1,7 @@
 // The place in a grammar's text of what breaks a static rule: the places of all that is written, in an array of their own, and the first
 // that is at fault.
+#![tactic(auto)]
+
 mod faults;
 mod spots;
 

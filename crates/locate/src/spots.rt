@@ -16,7 +16,7 @@ const CLOSED: u32 = 3;
 const COMMENT: u32 = 4;
 
 // Where the scan stands: in what, and of a string its quote, of a comment how many are open around it.
-#[derive(Drop)]
+#[derive(Clone, Copy)]
 pub struct State {
     pub mode: u32,
     pub of: u32,

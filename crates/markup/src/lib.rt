@@ -1,4 +1,6 @@
 // The bytes of names, terminals' text, states and tags, put into a buffer up to a limit.
+#![tactic(auto)]
+
 ghost use Rattle.std.specs.Prelude.{◌≡◌, Bool, true, false, List, [], ◌∷◌, ◌++◌, ℕ, ◌+◌, ◌<◌, ◌≤◌, length, take, drop};
 ghost use Rattle.text.specs.Utf8.{utf8};
 ghost use Rattle.text.specs.Lists.{Text, chars, concat_map};
@@ -45,14 +47,14 @@ pub fn put_name(
 }
 
 // Where text stands: at a cell of the table, if it is inserted, or at a place in the record.
-#[derive(Drop)]
+#[derive(Clone, Copy)]
 pub enum Source {
     Table(usize),
     Record(CharPlace),
 }
 
 // The text of a terminal: so many characters from there on.
-#[derive(Drop)]
+#[derive(Clone, Copy)]
 pub struct Piece {
     pub from: Source,
     pub count: usize,
@@ -100,7 +102,7 @@ pub fn put_piece(
 }
 
 // The words of a state.
-#[derive(Drop)]
+#[derive(Clone, Copy)]
 pub struct StateWords {
     pub ambiguous: bool,
     pub mismatch: bool,

@@ -1,4 +1,6 @@
 // The size of a grammar, by one scan over its tokens.
+#![tactic(auto)]
+
 ghost use Rattle.std.specs.Prelude.{◌≡◌, ◌≤◌};
 ghost use Rattle.tree.specs.Tree.{Grammar};
 ghost use Rattle.plain.specs.Plain.{size};

@@ -1,5 +1,7 @@
 // From the places of a dot to those of the dot after it, by sets of places: over a terminal by the flags, over a symbol by a table of its rule's
 // ends.
+#![tactic(auto)]
+
 ghost use Rattle.std.specs.Prelude.{true, ◌≡◌, ℕ, ◌+◌, ◌*◌, ◌-◌, ◌/◌, ◌<◌, ◌≤◌, length};
 ghost use Rattle.bits.specs.Bits.{Has, Adds};
 ghost use Rattle.moves.specs.Moves.{column_of, Row, Masks, Gathered, Masked, Worded, Passed, Landed, Shifting, LandedBy, Shifted, Stepped, Stepping};
@@ -9,7 +11,7 @@ use chart::{AT_SYMBOL, AT_TERMINAL, CODE_COLUMNS, CODE_GOES, CODE_RULE};
 const FITS: u8 = 2;
 
 // A dot of a grammar with `size` dots, on a record that ends at n.
-#[derive(Drop)]
+#[derive(Clone, Copy)]
 pub struct Dot {
     pub size: usize,
     pub n: usize,

@@ -1,5 +1,7 @@
 // The first stages of a job: its grammar accepted, its record's characters, and whether the lent tables are long enough. The first stage
 // that refuses ends it.
+#![tactic(auto)]
+
 ghost use Rattle.std.specs.Prelude.{◌≡◌, ◌||◌, ◌*◌, ◌<◌, ltb, length};
 ghost use Rattle.text.specs.Limits.{grammar_table, record_chars};
 ghost use Rattle.answer.specs.Answer.{job};
@@ -14,7 +16,7 @@ use text::{CharPlace, Diagnostic, limits, refusals};
 const NOTE_COLUMNS: usize = 2;
 
 // Where the record's characters end.
-#[derive(Drop)]
+#[derive(Clone, Copy)]
 pub enum Taken {
     Chars(CharPlace),
     Refused(Diagnostic),
@@ -40,13 +42,13 @@ fn take_record(record: &[u8], text: &mut [u32]) -> Taken
 }
 
 // What the first stages find: the grammar's rules, and where the record's characters end.
-#[derive(Drop)]
+#[derive(Clone, Copy)]
 pub struct Start {
     pub rules: Rules,
     pub chars: CharPlace,
 }
 
-#[derive(Drop)]
+#[derive(Clone, Copy)]
 pub enum Begun {
     At(Start),
     Refused(Diagnostic),

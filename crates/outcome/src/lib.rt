@@ -1,4 +1,6 @@
 // What a call answers, by what its stages find.
+#![tactic(auto)]
+
 ghost use Rattle.std.specs.Prelude.{◌≡◌};
 ghost use Rattle.outcome.specs.Outcome.{answer_of};
 ghost use Rattle.outcome.specs.Given.{Counted, GivesNumbers, Named, GivesXml, Tokened, tidied_of, GivesTidy};

@@ -1,4 +1,6 @@
 // The chosen reading of a record by the items of a grammar, or the place of the fault.
+#![tactic(auto)]
+
 ghost use Rattle.std.specs.Prelude.{◌≤◌, length, ◌≡◌};
 ghost use Rattle.text.specs.Limits.{reading_numbers};
 ghost use Rattle.tree.specs.Tree.{Grammar};
@@ -16,7 +18,7 @@ use reading::{Root, Rule, Walked};
 use text::CharPlace;
 
 // The chosen reading, as the walk answers it; or the place of the fault.
-#[derive(Drop)]
+#[derive(Clone, Copy)]
 pub enum Chosen {
     Reading(usize, bool),
     TooLong,

@@ -1,4 +1,6 @@
 // The chosen reading of a record by the plain engine: the whole main table is filled, one height after the other, and every flag is set.
+#![tactic(auto)]
+
 ghost use Rattle.std.specs.Prelude.{length};
 ghost use Rattle.tree.specs.Tree.{Grammar};
 ghost use Rattle.rules.specs.Ready.{Ready};

@@ -1,4 +1,6 @@
 // What the engine is given of a grammar and a record: the code of the rules, and where terminals fit.
+#![tactic(auto)]
+
 ghost use Rattle.std.specs.Prelude.{◌≡◌, ◌<◌, length};
 ghost use Rattle.tree.specs.Tree.{Grammar};
 ghost use Rattle.chart.specs.Code.{flag, Fitting, Ruled};

@@ -1,6 +1,8 @@
 // Whether some rule of a grammar derives no text. A dot is good if what follows it derives some text: the end of an alternative is; so is the
 // dot before a live terminal, or before a symbol whose rule is found, if the dot after it is good. A rule is found once the first dot of an
 // alternative is good. Each dot is marked once at most, and each rule is found once at most: the work is linear in the rules.
+#![tactic(auto)]
+
 ghost use Rattle.std.specs.Prelude.{◌≡◌, ◌+◌, ◌<◌};
 ghost use Rattle.tree.specs.Tree.{Grammar};
 ghost use Rattle.derive.specs.Yield.{unproductive};

@@ -1,6 +1,8 @@
 // ixml GRAMMAR RECORD: writes what the record file is by the grammar file. More pairs of files are
 // run one after the other, so that one run tests many.
 
+#![tactic(auto)]
+
 ghost use Rattle.std.specs.Prelude.{◌+◌, ◌<◌};
 
 use libc::STDOUT_FILENO;

@@ -1,4 +1,6 @@
 // The rules that wait: each once, the first come first.
+#![tactic(auto)]
+
 ghost use Rattle.std.specs.Prelude.{◌≡◌, ◌-◌, ◌<◌, ltb};
 ghost use Rattle.text.specs.Lists.{pick};
 ghost use Rattle.queue.specs.Queue.{count_of, Queued, Put, Taken};

@@ -1,5 +1,7 @@
 // The quick engine: fills the part of the main table that derivations of the whole record can use, one end after the other, the stretches of
 // an end from the shortest on. Each is settled before it hands on to longer ones.
+#![tactic(auto)]
+
 ghost use Rattle.std.specs.Prelude.{true, false, List, ◌≡◌, ℕ, ◌+◌, ◌*◌, ◌<◌, ◌≤◌, length};
 ghost use Rattle.chart.specs.Heights.{stretches};
 ghost use Rattle.sparse.specs.Cells.{Shape, Tables};

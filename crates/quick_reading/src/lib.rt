@@ -1,4 +1,6 @@
 // The chosen reading of a record by the quick engine: the passes; then the engine and the walk.
+#![tactic(auto)]
+
 ghost use Rattle.std.specs.Prelude.{◌≡◌, ◌*◌, ◌≤◌, length};
 ghost use Rattle.text.specs.Limits.{reading_numbers};
 ghost use Rattle.chart.specs.Heights.{stretches};
@@ -8,7 +10,7 @@ use reading::{Root, Walked};
 use text::CharPlace;
 
 // What the walk answers; or the engine stopped, since the record is likely to have no reading.
-#[derive(Drop)]
+#[derive(Clone, Copy)]
 pub enum Tried {
     Walked(Walked),
     Doubtful,

@@ -70,7 +70,7 @@ pub fn spread(
 }
 
 // Which byte of a rule is lifted above `low`; the dots of its list are lifted above `dots`.
-#[derive(Drop)]
+#[derive(Clone, Copy)]
 pub struct Step {
     pub column: usize,
     pub low: u8,

@@ -1,4 +1,6 @@
 // The reader of a grammar text: its tree as tokens in a table, or that the text is none.
+#![tactic(auto)]
+
 mod closing;
 mod prolog;
 
@@ -298,7 +300,7 @@ fn rules(text: &[u32], p: CharPlace, out: &mut [u32], at: Cell) -> Step
     }
 }
 
-#[derive(Drop)]
+#[derive(Clone, Copy)]
 pub enum Reading {
     Grammar(Cell),
     NoGrammar,

@@ -5,6 +5,8 @@
 // of the least height, at a symbol the smallest end place that lets the rest of its row derive what is left. First dots of alternatives
 // have no cells: their heights are computed from what stands after them. Rows that are not finished wait on a stack.
 // The reading is ambiguous where another alternative or another end place, of whatever height, derives the same stretch.
+#![tactic(auto)]
+
 ghost use Rattle.std.specs.Prelude.{◌≡◌, true, false, ◌+◌, ◌*◌, ◌<◌, ◌≤◌, length};
 ghost use Rattle.chart.specs.Code.{next_kind};
 ghost use Rattle.text.specs.Limits.{reading_numbers};
@@ -19,7 +21,7 @@ use text::{CharPlace, limits};
 
 // What the walk comes to: the count of the left parse's numbers and the ambiguous mark; more numbers than a reading may have; the
 // root does not derive the record.
-#[derive(Drop)]
+#[derive(Clone, Copy)]
 pub enum Walked {
     Reading(usize, bool),
     TooLong,
@@ -27,7 +29,7 @@ pub enum Walked {
 }
 
 // The root's rule, of a grammar with `size` dots, and the end of the record.
-#[derive(Drop)]
+#[derive(Clone, Copy)]
 pub struct Root {
     pub size: usize,
     pub n: CharPlace,
@@ -35,7 +37,7 @@ pub struct Root {
 }
 
 // A rule: the end that names it, and its first position.
-#[derive(Drop)]
+#[derive(Clone, Copy)]
 pub struct Rule {
     pub name: usize,
     pub first: usize,
@@ -44,7 +46,7 @@ pub struct Rule {
 // Where the walk stands. The symbols after the dot position p derive the characters from i to j, in trees of heights at most k.
 // The tables are those of a grammar with `size` dots and a record that ends at n. Written are `at` numbers, `depth` rows wait on the
 // stack, and the mark tells whether another derivation was met.
-#[derive(Drop)]
+#[derive(Clone, Copy)]
 pub struct Cursor {
     pub size: usize,
     pub n: CharPlace,

@@ -1,4 +1,6 @@
 // Items in the grammar table: their columns and kinds, and those of the rules that repetitions make, laid down one after the other.
+#![tactic(auto)]
+
 ghost use Rattle.std.specs.Prelude.{◌≡◌, [], ◌∷◌, ◌++◌, ◌+◌, ◌<◌, ◌≤◌, ◌^◌, length, get_or};
 ghost use Rattle.std.proofs.lemmas.List.Edits.{sets};
 ghost use Rattle.repetitions.specs.Blocks.{entry, nums, entry_at, both_ends, once_block, option_block, star_block, rest_block, list_block};
@@ -31,7 +33,7 @@ pub const ALTERNATIVE_END: u32 = 5;
 pub const RULE_END: u32 = 6;
 
 // Rules are made: the first item of the operator's own, and the item after.
-#[derive(Drop)]
+#[derive(Clone, Copy)]
 pub struct Made {
     pub first: usize,
     pub next: usize,

@@ -1,4 +1,6 @@
 // What the program writes for two files: the answer to the job that they are, or why there is none.
+#![tactic(auto)]
+
 ghost use Rattle.cli.specs.Output.{Holds, job_text, Replies};
 
 use calls::ixml_convert;

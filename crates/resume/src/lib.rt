@@ -1,4 +1,6 @@
 // A read in rounds: what its calls answer, and how a later call takes it up. The main table and the state are the caller's between the calls.
+#![tactic(auto)]
+
 ghost use Rattle.std.specs.Prelude.{◌≡◌, length};
 ghost use Rattle.text.specs.Limits.{grammar_table, record_chars};
 ghost use Rattle.answer.specs.Answer.{job};
@@ -15,7 +17,7 @@ pub const OTHER_STATE: u32 = 27;
 
 // What these calls answer: the common answer, and how many rounds were done.
 #[repr(C)]
-#[derive(Drop)]
+#[derive(Clone, Copy)]
 pub struct Progress {
     pub answer: Answer,
     pub rounds: usize,

@@ -1,4 +1,6 @@
 // The pass from the right: which rules are wanted to end where, of what is reached from the left.
+#![tactic(auto)]
+
 ghost use Rattle.std.specs.Prelude.{◌≡◌, ◌+◌, ◌<◌, ◌≤◌};
 ghost use Rattle.right_pass.specs.Right.{At, AtList, Stepped, FirstDone, SymbolDone, EmptyDone, Closing, Closed};
 ghost use Rattle.right_pass.specs.Right.{Unshifting, Unshifted, Righting, Righted};

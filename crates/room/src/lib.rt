@@ -1,4 +1,6 @@
 // The room that a job asks for: what the main table needs, and whether the lent tables are long enough.
+#![tactic(auto)]
+
 ghost use Rattle.std.specs.Prelude.{◌≡◌, ◌||◌, ◌≤◌, ltb};
 ghost use Rattle.text.specs.Limits.{grammar_table, record_chars, most_size};
 ghost use Rattle.answer.specs.Answer.{table_need};

@@ -1,1 +1,3 @@
 // Reading in rounds: definitions and laws.
+
+#![tactic(auto)]

@@ -1,4 +1,6 @@
 // The rules of a grammar as the parser's code: four numbers for each item, by which a dot moves.
+#![tactic(auto)]
+
 ghost use Rattle.std.specs.Prelude.{◌≡◌, ℕ, ◌+◌, ◌*◌, ◌-◌, ◌<◌, ◌≤◌, length};
 ghost use Rattle.text.specs.Limits.{grammar_table};
 ghost use Rattle.tree.specs.Tree.{Grammar};

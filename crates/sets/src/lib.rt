@@ -1,4 +1,6 @@
 // Sets of characters: strings, hex numbers, ranges and classes between square brackets.
+#![tactic(auto)]
+
 ghost use Rattle.std.specs.Prelude.{◌≡◌, true, false, ◌+◌, ◌-◌, ◌<◌, ◌≤◌, length, drop, set};
 ghost use Rattle.syntax.specs.Syntax.{capital as Capital};
 ghost use Rattle.syntax.specs.Result.{hd};

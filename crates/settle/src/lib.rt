@@ -1,5 +1,7 @@
 // Settles a stretch: its rows take the least heights that follow from each other. What a dot gets, the dot before it gets too where its
 // symbol takes nothing, up to the rule; a rule that is lowered is put into a queue, and its uses are looked at when its turn comes.
+#![tactic(auto)]
+
 ghost use Rattle.std.specs.Prelude.{◌≡◌, ◌<◌, length};
 ghost use Rattle.chart.specs.Code.{next_kind};
 ghost use Rattle.chart.specs.Heights.{none};

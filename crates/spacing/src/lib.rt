@@ -1,4 +1,6 @@
 // Spacing and comments of a grammar text, and the single numbers that are written for its characters in the table of tokens.
+#![tactic(auto)]
+
 mod characters;
 
 ghost use Rattle.std.specs.Prelude.{◌-◌, ◌<◌, ◌≤◌, length};
@@ -11,18 +13,18 @@ pub use characters::{
 use decode::{CharPlace, after};
 
 // A cell of the table. Places of the text are the decoder's: neither is taken for the other.
-#[derive(Drop)]
+#[derive(Clone, Copy)]
 pub struct Cell(pub usize);
 
 // Where something ends in the text.
-#[derive(Drop)]
+#[derive(Clone, Copy)]
 pub enum Past {
     At(CharPlace),
     No,
 }
 
 // Where something ends in the text, and what was written for it in the table.
-#[derive(Drop)]
+#[derive(Clone, Copy)]
 pub enum Step {
     At(CharPlace, Cell),
     No,

@@ -1,4 +1,6 @@
 // The part of the main table that is filled: its rows, and the heights that are read off it.
+#![tactic(auto)]
+
 ghost use Rattle.std.specs.Prelude.{◌≡◌, ℕ, ◌+◌, ◌*◌, ◌<◌, ◌≤◌, max, List, leb, length};
 ghost use Rattle.chart.specs.Heights.{cell_at, stretches, none};
 ghost use Rattle.heights.specs.Table.{up_of};
@@ -56,7 +58,7 @@ const FITS: u8 = 2;
 const WANTED: u8 = 2;
 
 // The characters from place i to place j, of a record that ends at n, in the table of a grammar with `size` dots.
-#[derive(Drop)]
+#[derive(Clone, Copy)]
 pub struct Stretch {
     pub size: usize,
     pub n: CharPlace,
@@ -65,7 +67,7 @@ pub struct Stretch {
 }
 
 // A dot, and a height of what stands after it.
-#[derive(Drop)]
+#[derive(Clone, Copy)]
 pub struct Offer {
     pub dot: usize,
     pub height: u32,

@@ -1,4 +1,6 @@
 // What the coded grammar has for a dot position (crates/chart/specs), and the heights of alternatives in the filled part of a main table.
+#![tactic(auto)]
+
 ghost use Rattle.std.specs.Prelude.{◌⊎◌, ◌≡◌, ◌+◌, ◌*◌, ◌-◌, ◌<◌, ◌≤◌, min, length, get_or};
 ghost use Rattle.chart.specs.Code.{next_kind};
 ghost use Rattle.text.specs.Limits.{record_chars};

@@ -1,4 +1,6 @@
 // What a settled stretch hands on to longer ones with the same end: each dot has a height from m to j, and the symbol before it ends at m.
+#![tactic(auto)]
+
 ghost use Rattle.std.specs.Prelude.{◌≡◌, List, ℕ, ◌+◌, ◌*◌, ◌-◌, ◌<◌, ◌≤◌, length};
 ghost use Rattle.chart.specs.Code.{next_kind, rule_at};
 ghost use Rattle.chart.specs.Heights.{none};

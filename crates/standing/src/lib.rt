@@ -1,5 +1,7 @@
 // Where dots stand on the record, by sets of places, exactly. A queue brings the sets near to what they become, which promises only that they are
 // sound; rounds over all dots and rules then close them.
+#![tactic(auto)]
+
 ghost use Rattle.std.specs.Prelude.{◌≡◌, ℕ, ◌<◌, ◌≤◌, length};
 ghost use Rattle.bits.specs.Bits.{Has};
 ghost use Rattle.reach.specs.Work.{Linked};
@@ -17,7 +19,7 @@ const RULES: usize = text::limits::GRAMMAR_SIZE;
 const TURNS: usize = 262144;
 
 // A grammar with `size` dots on a record that ends at n, and a rule.
-#[derive(Drop)]
+#[derive(Clone, Copy)]
 pub struct Task {
     pub size: usize,
     pub n: usize,

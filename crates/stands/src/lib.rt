@@ -1,5 +1,7 @@
 // Which dots stand at which places of the record: exactly those that the root's rule leads to, over what derives the record's beginning.
 // Each dot waits at a place at most once, and is then followed once.
+#![tactic(auto)]
+
 ghost use Rattle.std.specs.Prelude.{◌≡◌, ◌+◌, ◌<◌, ◌≤◌, length};
 ghost use Rattle.stands.specs.State.{Is, Bare, Entering, Entered, Passing, PassedAt, Passed, Following, Followed, Stepped, Standing, Closed, Exact};
 
@@ -20,7 +22,7 @@ const WAITING: u8 = 1;
 const FOLLOWED: u8 = 0;
 
 // The dot p at the place i of a record that ends at n, in a grammar with `size` dots.
-#[derive(Drop)]
+#[derive(Clone, Copy)]
 pub struct Spot {
     pub size: usize,
     pub n: CharPlace,

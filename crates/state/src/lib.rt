@@ -1,4 +1,6 @@
 // The state of a read in rounds: one array of fixed length that keeps grammar and record whole, a number for each byte.
+#![tactic(auto)]
+
 ghost use Rattle.std.specs.Prelude.{◌≡◌, true, ℕ, ◌+◌, ◌≤◌, length, get_or};
 ghost use Rattle.tells.specs.Tells.{Tells};
 ghost use Rattle.state.specs.State.{state_length, rounds_of, BytesAt, Head, Keeps, Kept, headed, Counted, Blank};

@@ -1,4 +1,6 @@
 // The static rules 5 to 10, judged on the tokens of a syntax tree in a table.
+#![tactic(auto)]
+
 ghost use Rattle.std.specs.Prelude.{true, ◌≡◌, List, ℕ, ◌+◌, ◌≤◌, length, take};
 ghost use Rattle.std.proofs.Math.Seq.{slice};
 ghost use Rattle.text.specs.Lists.{any, same, repeats, chars};
@@ -239,7 +241,7 @@ pub fn heads(table: &[u32], end: usize, index: &mut [u32]) -> usize
 }
 
 // What is said of a syntax tree: it keeps the static rules, or the first that it breaks.
-#[derive(Drop)]
+#[derive(Clone, Copy)]
 pub enum Ruling {
     Kept,
     UndefinedName,

@@ -1,4 +1,6 @@
 // The start of a read in rounds, and each of its rounds.
+#![tactic(auto)]
+
 ghost use Rattle.std.specs.Prelude.{◌≡◌, length};
 ghost use Rattle.answer.specs.Answer.{job};
 ghost use Rattle.chart.specs.Code.{flag};

@@ -4,6 +4,8 @@
 //
 // Ends go up, starts go down from the end, dots go down: what a dot needs of the sweep's own height, the dot after it on a part of its
 // stretch with the same end, was visited before. The symbols that it needs have lower heights.
+#![tactic(auto)]
+
 ghost use Rattle.std.specs.Prelude.{◌≡◌, ℕ, ◌+◌, ◌<◌, ◌≤◌, List, length};
 ghost use Rattle.chart.specs.Code.{next_kind};
 ghost use Rattle.chart.specs.Heights.{none};
@@ -17,7 +19,7 @@ use chart::{
 };
 
 // What a sweep adds: the cells of one height, in a table of `size` positions and n characters.
-#[derive(Drop)]
+#[derive(Clone, Copy)]
 pub struct Layer {
     pub size: usize,
     pub n: usize,

@@ -1,4 +1,6 @@
 // Start tags, attributes, text and end tags, put one after the other into a buffer up to a limit.
+#![tactic(auto)]
+
 ghost use Rattle.std.specs.Prelude.{◌≡◌, true, false, ◌++◌, ℕ, ◌<◌, ◌≤◌, length};
 ghost use Rattle.text.specs.Lists.{Text, chars, pick, concat_map};
 ghost use Rattle.xml.specs.Bytes.{escape};
@@ -13,7 +15,7 @@ use text::BytePlace;
 
 // Where writing stands: where the room ends, the next byte's place, whether a start tag is still open, whether start tags may have
 // attributes, and the state that the next start tag gets.
-#[derive(Drop)]
+#[derive(Clone, Copy)]
 pub struct Output {
     pub limit: BytePlace,
     pub pos: BytePlace,

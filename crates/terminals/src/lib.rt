@@ -1,4 +1,6 @@
 // Whether a terminal, by its tokens in the grammar table, fits a text, and whether it fits any.
+#![tactic(auto)]
+
 ghost use Rattle.std.specs.Prelude.{List, ◌≡◌, ℕ, ◌+◌, ◌-◌, ◌<◌, ◌≤◌, length, take, drop};
 ghost use Rattle.text.specs.Lists.{any, begins, among};
 ghost use Rattle.tree.specs.Tree.{Member, Terminal};

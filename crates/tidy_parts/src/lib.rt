@@ -1,4 +1,6 @@
 // The parts of a token in the tidy text: signs, hex numbers, quoted text, put into a buffer up to a limit.
+#![tactic(auto)]
+
 ghost use Rattle.std.specs.Prelude.{◌≡◌, [], ◌∷◌, ◌+◌, ◌<◌, ◌≤◌, length, take, drop};
 ghost use Rattle.encode.specs.Out.{Wrote};
 ghost use Rattle.tidy.specs.Tidy.{quoted_char, quoted_text, lower_digit, hex_text};

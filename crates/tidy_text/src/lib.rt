@@ -1,4 +1,6 @@
 // The tidy text of a grammar, by one scan over its tokens in the grammar table.
+#![tactic(auto)]
+
 ghost use Rattle.std.specs.Prelude.{◌≡◌, true, List, [], ◌∷◌, ◌<◌, ◌≤◌, length};
 ghost use Rattle.text.specs.Lists.{pick};
 ghost use Rattle.tree.specs.Tokens.{Token};
@@ -122,7 +124,7 @@ pub fn put_grammar(out: &mut [u8], limit: BytePlace, t: &[u32], end: usize) -> B
 }
 
 // The count of the text's bytes, or the refusal.
-#[derive(Drop)]
+#[derive(Clone, Copy)]
 pub enum Tidied {
     Text(usize),
     Refused(u32),

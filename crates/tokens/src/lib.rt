@@ -1,5 +1,7 @@
 // The tokens of a grammar in the grammar table: their kinds, how many numbers each takes, the names and terminals that they hold.
 // A token is its kind, with its mark, and then what it holds; characters stand after their count (crates/tree/specs/Tokens.antt).
+#![tactic(auto)]
+
 ghost use Rattle.std.specs.Prelude.{◌≡◌, true, false, ℕ, ◌+◌, ◌<◌, ◌≤◌, length, get_or};
 ghost use Rattle.text.specs.Lists.{Text, same};
 ghost use Rattle.tokens.specs.Lengths.{form_of, late_form, length_at, width_at};

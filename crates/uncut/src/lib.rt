@@ -1,4 +1,6 @@
 // A record read or converted in one call: all stages, and what is given of what they find.
+#![tactic(auto)]
+
 ghost use Rattle.std.specs.Prelude.{length};
 ghost use Rattle.answer.specs.Answer.{job};
 ghost use Rattle.outcome.specs.Calls.{ReadAs, ConvertedAs};

@@ -1,4 +1,6 @@
 // The XML of a left parse: measured and written by the same folds over the events of a cursor, with no recursion.
+#![tactic(auto)]
+
 ghost use Rattle.std.specs.Prelude.{◌≡◌, false, ◌≤◌, length};
 ghost use Rattle.items.specs.Items.{kind_at};
 ghost use Rattle.cursor.specs.Ahead.{SomeRow, SomeNode};
@@ -15,7 +17,7 @@ use tags::Output;
 use text::BytePlace;
 
 // What is written besides the document, and what is known of that.
-#[derive(Drop)]
+#[derive(Clone, Copy)]
 pub struct Plan {
     pub due: StateWords,
     pub extent: Extent,
@@ -159,7 +161,7 @@ fn put_document(
 }
 
 // The count of bytes that were written, or that they do not fit.
-#[derive(Drop)]
+#[derive(Clone, Copy)]
 pub enum Written {
     Xml(usize),
     TooLong,

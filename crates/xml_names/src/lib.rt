@@ -1,4 +1,6 @@
 // What forbids to write the XML of a left parse: bad names, bad characters, attributes named xmlns.
+#![tactic(auto)]
+
 ghost use Rattle.std.specs.Prelude.{◌≡◌, true, false, not, ◌&&◌, ◌||◌, ℕ, ◌<◌, eqb, get_or, take, drop};
 ghost use Rattle.text.specs.Lists.{Text, chars, any, same, span, inside};
 ghost use Rattle.xml.specs.Names.{xml_char, name_start, name_char, xml_name};
@@ -9,7 +11,7 @@ ghost use Rattle.xml_names.specs.Flags.{both, bad, odd, of_text, of_name, of_att
 use markup::{Piece, Source};
 
 // Lines 18, 19 and 22 of the table: a name that is no XML name, a character that is no XML character, an attribute named xmlns.
-#[derive(Drop)]
+#[derive(Clone, Copy)]
 pub struct Faults {
     pub misnamed: bool,
     pub unwritable: bool,

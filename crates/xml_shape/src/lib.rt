@@ -1,4 +1,6 @@
 // Judges of what a row of a left parse comes to: an attribute twice, and anything but one element.
+#![tactic(auto)]
+
 ghost use Rattle.std.specs.Prelude.{◌≡◌, ◌||◌, ℕ, ◌+◌, ◌<◌, ◌≤◌, length, set};
 ghost use Rattle.text.specs.Lists.{Text, pick};
 ghost use Rattle.xml.specs.Document.{not_one};

@@ -1,0 +1,64 @@
+use mathlib.Core.Path.{refl, ◌∙◌}
+use Prim.Native.Nat.{ℕ, ◌+◌, ◌*◌}
+use lib.ListN.{length}
+use Rattle.heights.proofs.Exact.{safe}
+use Rattle.full.proofs.Whole.{coded}
+use Rattle.fixpoint.proofs.Tests.{most-by}
+use Rattle.advance.proofs.Readies.{few-rounds, round-late, round_by}
+use borrow.Author.Rules.{rules}
+use native.Mathlib.Omega.{arith}
+use Rattle.advance.proofs.round.Goals as goal
+
+pub prepare-requires : goal.prepare-requires
+prepare-requires c =
+    record {
+      grammar = c.requires.grammar;
+      ready = c.requires.ready;
+      long = c.requires.long;
+      small = c.requires.small;
+      short = c.requires.short;
+      room = omega (arith, c.requires.small);
+      fits-room = omega (arith, c.requires.small);
+    }
+
+pub count_rules-requires : goal.count_rules-requires
+count_rules-requires c =
+    (c.requires.small, omega (arith, c.requires.small, c.prepare.auto.1.1.1.1.0))
+
+pub overflow_mul-most : goal.overflow_mul-most
+overflow_mul-most c =
+    omega (
+      arith,
+      few-rounds c.count_rules.result (length c.args.text.now + 1) (omega (arith, c.count_rules.ensures.1, c.requires.small))
+          (omega (arith, c.requires.short)),
+    )
+
+pub returns-then-most-done : goal.returns-then-most-done
+returns-then-most-done c =
+    λ g ready. round-late c.prepare.new.1.1.1.1.1.0 (c.prepare.ensures g ready) ready c.requires.small
+    (omega (arith, c.requires.small, c.prepare.auto.1.1.1.1.0)) c.requires.short
+    (omega (arith, c.requires.small, c.prepare.auto.1.1.1.1.1.0)) c.count_rules.result c.count_rules.ensures.0
+    c.count_rules.ensures.1 c.args.done c.args.main.now (omega (arith, c.if-most-done.true))
+
+pub advance-requires : goal.advance-requires
+advance-requires c =
+    let x = coded {f = c.prepare.new.1.1.1.1.1.0} (c.prepare.ensures c.requires.grammar c.requires.ready) c.requires.small
+    (omega (arith, c.requires.small, c.prepare.auto.1.1.1.1.0)) c.requires.short
+    (omega (arith, c.requires.small, c.prepare.auto.1.1.1.1.1.0)) in (
+      safe _ _ _ _ _ _ _ _ x c.requires.room,
+      omega (arith, c.if-most-done.false),
+      few-rounds c.count_rules.result (length c.args.text.now + 1)
+          (omega (arith, c.count_rules.ensures.1, c.requires.small)) (omega (arith, c.requires.short)),
+    )
+
+pub shape_of-main : goal.shape_of-main
+shape_of-main c =
+    c.advance.auto.1.1.1.1.1.1.0
+
+pub returns : goal.returns
+returns c =
+    λ g ready. round_by c.prepare.new.1.1.1.1.1.0 (c.prepare.ensures g ready) ready c.requires.small
+    (omega (arith, c.requires.small, c.prepare.auto.1.1.1.1.0)) c.requires.short
+    (omega (arith, c.requires.small, c.prepare.auto.1.1.1.1.1.0)) c.count_rules.result c.count_rules.ensures.0
+    c.count_rules.ensures.1 c.args.done c.args.main.now _ _
+    c.requires.room (λ x. most-by (c.type_inv.main x)) (omega (arith, c.if-most-done.false)) c.advance.ensures

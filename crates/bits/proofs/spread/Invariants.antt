@@ -1,0 +1,16 @@
+use borrow.Author.Rules.{rules}
+use native.Mathlib.Omega.{arith}
+use mathlib.Core.Path.{◌≡◌, refl, sym, ap, subst, ◌∙◌}
+use mathlib.Core.Logic.{◌⊎◌, inl, inr, ⊎_elim}
+use Prim.Native.Nat.{ℕ, ◌+◌, ◌*◌, ◌-◌, ◌/◌, ◌%◌, ◌^◌, ◌<◌, ◌≤◌}
+use lib.ListN.{length, get_or, length-set}
+use Rattle.bits.specs.Bits.{bit_of, Lit, Has}
+use Rattle.bits.proofs.Laws.{masked-next, spread-next}
+use Rattle.bits.proofs.spread.Given as goal
+
+abbrev pub invariant-loop-b : goal.invariant-loop-b
+invariant-loop-b l = (l.b ≤ 32) × ((x : ℕ) → x < l.b → (get_or l.on x 0 ≡ 0 → ⊥) → Lit l.word x) × (length l.on ≡ length l.initial.on)
+    × (length l.initial.on ≡ 32 → (x : ℕ) → x < l.b → Lit l.word x → get_or l.on x 0 ≡ 4294967295)
+
+abbrev pub decreases-loop-b : goal.decreases-loop-b
+decreases-loop-b l = 32 - l.b

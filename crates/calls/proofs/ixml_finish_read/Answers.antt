@@ -1,0 +1,23 @@
+use mathlib.Core.Path.{refl}
+use lib.ListN.{length}
+use Rattle.answer.specs.Answer.{job}
+use Rattle.ending.proofs.Ended.{prepared}
+use Rattle.calls.proofs.Ended.{counted-end, read-end}
+use borrow.Author.Rules.{rules}
+use Rattle.calls.proofs.ixml_finish_read.Goals as goal
+
+pub end_read-ended-requires : goal.end_read-ended-requires
+end_read-ended-requires c =
+    let j = job c.args.grammar.now c.args.record.now (length c.args.main.now) (length c.args.second.now) in
+    let done = c.resume-begun in
+    (prepared j c.args.state.now done.new.1.1.1.1.1.0 done.new.1.1.1.1.1.1.0 _ _ done.result done.ensures refl (search rules) (search rules), search rules)
+
+pub give_numbers-answer-requires : goal.give_numbers-answer-requires
+give_numbers-answer-requires c =
+    let j = job c.args.grammar.now c.args.record.now (length c.args.main.now) (length c.args.second.now) in
+    counted-end (c.end_read-ended.ensures j c.resume-begun.ensures)
+
+pub returns : goal.returns
+returns c =
+    let j = job c.args.grammar.now c.args.record.now (length c.args.main.now) (length c.args.second.now) in
+    read-end c.args.res.now _ _ (c.end_read-ended.ensures j c.resume-begun.ensures) c.give_numbers-answer.ensures

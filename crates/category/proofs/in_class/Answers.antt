@@ -1,0 +1,10 @@
+use mathlib.Core.Path.{sym, ◌∙◌, ap}
+use borrow.Author.Rules.{rules}
+use native.Mathlib.Omega.{arith}
+use Rattle.category.proofs.Agree.{spans, class-spans}
+use Rattle.category.proofs.in_class.Goals as goal
+
+pub returns : goal.returns
+unfolding spans
+returns c =
+    c.both.ensures ∙ sym (class-spans c.args.class c.args.code (search rules) ∙ rw (sym c.category_of-category.ensures))

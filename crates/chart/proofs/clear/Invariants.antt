@@ -1,0 +1,13 @@
+use mathlib.Core.Path.{◌≡◌, refl, ◌∙◌}
+use Prim.Native.Nat.{ℕ, ◌-◌, ◌<◌, ◌≤◌}
+use native.Mathlib.Omega.{arith}
+use lib.ListN.{length, get_or, length-set}
+use Rattle.chart.specs.Heights.{none}
+use Rattle.chart.proofs.Cells.{clear_next}
+use Rattle.chart.proofs.clear.Given as goal
+
+abbrev pub invariant-loop-x : goal.invariant-loop-x
+invariant-loop-x l = (l.x ≤ l.k) × (length l.main ≡ length l.initial.main) × ((y : ℕ) → y < l.x → get_or l.main y 0 ≡ none)
+
+abbrev pub decreases-loop-x : goal.decreases-loop-x
+decreases-loop-x l = l.k - l.x

@@ -1,0 +1,30 @@
+use borrow.Author.Rules.{rules}
+use native.Mathlib.Omega.{arith}
+use mathlib.Core.Bool.{Bool, true, false}
+use mathlib.Core.Path.{◌≡◌, refl, sym, ap, subst, ◌∙◌}
+use mathlib.Core.List.{List}
+use mathlib.Core.Logic.{◌⊎◌, inl, inr, ⊎_elim}
+use Prim.Native.Nat.{ℕ, ◌+◌, ◌*◌, ◌-◌, ◌/◌, ◌%◌, ◌^◌, ◌<◌, ◌≤◌}
+use lib.ListN.{length, get_or}
+use Rattle.bits.specs.Bits.{Lit, Has}
+use Rattle.confirm.specs.Find.{Best}
+use Rattle.confirm.proofs.Reaches.{best-start, rows_next, rows_end}
+use Rattle.confirm.proofs.sure.Goals as goal
+
+pub loop-p-init : goal.loop-p-init
+loop-p-init c = best-start (λ q i z. omega (arith, z))
+
+pub far_row-far-requires : goal.far_row-far-requires
+far_row-far-requires c = (c.requires, c.loop-p-test.true)
+
+pub overflow_add-p : goal.overflow_add-p
+overflow_add-p c = omega (arith, c.loop-p-test.true, c.requires.tokened.shape.small)
+
+pub loop-p-smaller : goal.loop-p-smaller
+loop-p-smaller c = omega (arith, c.loop-p-test.true)
+
+pub loop-p-preserved : goal.loop-p-preserved
+loop-p-preserved c = rows_next c.loop-p.invariant c.far_row-far.ensures
+
+pub returns : goal.returns
+returns c = rows_end c.loop-p-test.false c.loop-p.invariant

@@ -1,0 +1,14 @@
+use mathlib.Core.Path.{ap, ◌∙◌}
+use Prim.Native.Nat.{ℕ}
+use lib.Ieee.{Float, binary64, add, mul}
+use borrow.Author.Rules.{rules}
+use Rattle.decimal.specs.Value.{num, next_digit}
+use Rattle.decimal.proofs.Constants.{ten}
+use Rattle.decimal.proofs.next_digit.Goals as goal
+
+pub returns : goal.returns
+unfolding next_digit
+returns c =
+    let digit = c.digit_of in
+    let v = c.args.value in
+    ap (λ (t : Float). add binary64 (mul binary64 t v) (num digit.result)) ten ∙ ap (λ (d : ℕ). add binary64 (mul binary64 (num 10) v) (num d)) digit.ensures

@@ -1,0 +1,5 @@
+use borrow.Author.Rules.{rules}
+use Rattle.decimal.proofs.signed.Goals as goal
+
+pub returns-then-minus : goal.returns-then-minus
+returns-then-minus c = rw c.if-minus.true

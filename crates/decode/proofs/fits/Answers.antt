@@ -1,0 +1,6 @@
+use mathlib.Core.Path.{◌∙◌}
+use borrow.Author.Rules.{rules}
+use Rattle.decode.proofs.fits.Goals as goal
+
+pub returns-in-Alphabet : goal.returns-in-Alphabet
+returns-in-Alphabet c = c.known.ensures ∙ rw c.in-Alphabet.is

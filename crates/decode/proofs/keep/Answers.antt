@@ -1,0 +1,7 @@
+use mathlib.Core.Path.{sym}
+use lib.Seq.{set_out}
+use borrow.Author.Rules.{rules}
+use Rattle.decode.proofs.keep.Goals as goal
+
+pub returns-else-n-out : goal.returns-else-n-out
+returns-else-n-out c = sym (set_out _ _ _ c.if-n-out.false)

@@ -1,0 +1,22 @@
+use mathlib.Core.Path.{refl, sym, ◌∙◌}
+use Prim.Native.Nat.{◌-◌}
+use native.Mathlib.Omega.{arith}
+use lib.ListN.{length}
+use borrow.Author.Rules.{rules}
+use borrow.Author.Tests.{not-true, not-false}
+use Rattle.decode.specs.Scan.{test_of}
+use Rattle.decode.proofs.Bytes as bytes
+use Rattle.decode.proofs.Scans as law
+use Rattle.decode.proofs.scan.Given as goal
+
+abbrev pub invariant-loop-s : goal.invariant-loop-s
+invariant-loop-s l = bytes.In l.bytes l.i l.next.0 l.s
+
+abbrev pub decreases-loop-s : goal.decreases-loop-s
+decreases-loop-s l = l.s.more
+
+abbrev pub invariant-characters : goal.invariant-characters
+invariant-characters l = law.At (test_of l.pattern) l.bytes l.initial.at.0 l.initial.out l.out l.at.0 l.n.0
+
+abbrev pub decreases-characters : goal.decreases-characters
+decreases-characters l = length l.bytes - l.at.0

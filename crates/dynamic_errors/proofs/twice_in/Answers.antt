@@ -1,0 +1,7 @@
+use Rattle.dynamic_errors.proofs.Roots.{twice-bare}
+use borrow.Author.Rules.{rules}
+use Rattle.dynamic_errors.proofs.twice_in.Goals as goal
+
+pub returns : goal.returns
+returns c =
+    twice-bare c.args.deleted c.requires.0 c.if-attributed.false

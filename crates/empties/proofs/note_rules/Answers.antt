@@ -1,0 +1,16 @@
+use native.Mathlib.Omega.{arith}
+use borrow.Author.Rules.{rules}
+use Rattle.empties.proofs.Noted.{noted_of}
+use Rattle.empties.proofs.note_rules.Goals as goal
+
+pub list_uses-requires : goal.list_uses-requires
+list_uses-requires c =
+    let pre = c.requires in
+    let shape = pre.0 in
+    (shape.small, shape.room, omega (arith, pre.1, shape.small), λ p h z. (shape.names p h z).0, pre.2)
+
+pub returns : goal.returns
+returns c =
+    let pre = c.requires in
+    let found = c.empty_heights.ensures in
+    (noted_of pre.0.small (omega (arith, c.list_uses.auto.1.0, pre.1)) c.list_uses.ensures c.note_homes.ensures found, found.empties)

@@ -1,0 +1,12 @@
+use mathlib.Core.List.{List, [], ◌∷◌}
+use Prim.Native.Nat.{ℕ, ◌+◌, ◌/◌, ◌%◌}
+use Rattle.encode.specs.Out.{last_two}
+use Rattle.encode.proofs.Puts.{then}
+use borrow.Author.Rules.{rules}
+use Rattle.encode.proofs.put_last.Goals as goal
+
+pub returns : goal.returns
+returns c =
+    let a = c.args in
+    let x = a.c in
+    then a.limit.0 _ ((0x80 + x / 64 % 64) ∷ []) ((0x80 + x % 64) ∷ []) c.put-q.ensures c.put.ensures

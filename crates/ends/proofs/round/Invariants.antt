@@ -1,0 +1,14 @@
+use borrow.Author.Rules.{rules}
+use native.Mathlib.Omega.{arith}
+use mathlib.Core.Path.{◌≡◌, refl, sym, subst}
+use Prim.Native.Nat.{ℕ, ◌+◌, ◌*◌, ◌-◌, ◌<◌, ◌≤◌}
+use Rattle.ends.specs.Table.{Rounded}
+use Rattle.ends.proofs.Laws.{settling-as}
+use Rattle.ends.proofs.Rounds.{rounded-start, rounded-next}
+use Rattle.ends.proofs.round.Given as goal
+
+abbrev pub invariant-loop-rule : goal.invariant-loop-rule
+invariant-loop-rule l = (l.rule ≤ l.size) × Rounded l.code l.firsts l.marks l.size l.n l.m l.rule l.initial.main l.main l.grew
+
+abbrev pub decreases-loop-rule : goal.decreases-loop-rule
+decreases-loop-rule l = l.rule

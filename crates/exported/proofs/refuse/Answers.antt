@@ -1,0 +1,5 @@
+use borrow.Author.Rules.{rules}
+use Rattle.exported.proofs.refuse.Goals as goal
+
+pub returns : goal.returns
+returns c = rw c.version_of.ensures

@@ -1,0 +1,11 @@
+use native.Mathlib.Omega.{arith}
+use Prim.Native.Nat.{◌+◌, ◌-◌, ◌≤◌}
+use Rattle.fault.specs.Far.{Reach}
+use Rattle.fault.proofs.Ranges.{reach-none, reach-join, reach-end, ranging-at}
+use Rattle.fault.proofs.farthest.Given as goal
+
+abbrev pub invariant-loop-i : goal.invariant-loop-i
+invariant-loop-i l = Reach l.table l.code l.text l.flags l.size l.i l.far × (l.i ≤ l.n.0 + 1)
+
+abbrev pub decreases-loop-i : goal.decreases-loop-i
+decreases-loop-i l = l.n.0 + 1 - l.i

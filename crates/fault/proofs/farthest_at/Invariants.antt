@@ -1,0 +1,11 @@
+use native.Mathlib.Omega.{arith}
+use Prim.Native.Nat.{◌-◌, ◌≤◌}
+use Rattle.fault.specs.Far.{Ranged}
+use Rattle.fault.proofs.Ranges.{ranged-none, ranged-join, ranged-end}
+use Rattle.fault.proofs.farthest_at.Given as goal
+
+abbrev pub invariant-loop-p : goal.invariant-loop-p
+invariant-loop-p l = Ranged l.table l.code l.text l.flags l.size l.i.0 0 l.p l.best l.far × (l.p ≤ l.size)
+
+abbrev pub decreases-loop-p : goal.decreases-loop-p
+decreases-loop-p l = l.size - l.p

@@ -1,0 +1,11 @@
+use native.Mathlib.Omega.{arith}
+use Prim.Native.Nat.{◌+◌, ◌-◌, ◌≤◌}
+use Rattle.full.specs.Whole.{Marked}
+use Rattle.full.proofs.Marks.{marked_start, marked_next, marked-end}
+use Rattle.full.proofs.mark_all.Given as goal
+
+abbrev pub invariant-loop-i : goal.invariant-loop-i
+invariant-loop-i l = Marked l.code l.fits l.size l.i l.marks × (l.i ≤ l.n + 1)
+
+abbrev pub decreases-loop-i : goal.decreases-loop-i
+decreases-loop-i l = l.n + 1 - l.i

@@ -1,0 +1,22 @@
+use native.Mathlib.Omega.{arith}
+use mathlib.Core.Path.{◌≡◌, refl, sym, ap, ◌∙◌}
+use Prim.Native.Nat.{ℕ, ◌+◌, ◌*◌, ◌-◌, ◌<◌, ◌≤◌}
+use lib.ListN.{length, get_or}
+use Rattle.items.proofs.Finals.{scanned-linkable, scanned-built, scanned-tokens}
+use borrow.Author.Rules.{rules}
+use Rattle.items.proofs.build_items.Goals as goal
+
+pub link-requires : goal.link-requires
+link-requires c =
+    scanned-linkable (c.scan-s.ensures c.requires.tree c.requires.readable)
+
+pub overflow_cast-result : goal.overflow_cast-result
+overflow_cast-result c = omega (arith, c.type_inv.table 13825)
+
+pub returns : goal.returns
+returns c =
+    λ g r. (
+      scanned-tokens (c.scan-s.ensures g r) c.link.ensures c.args.table.now c.args.end refl
+          c.requires.inside,
+      scanned-built (c.scan-s.ensures g r) c.link.ensures _ refl,
+    )

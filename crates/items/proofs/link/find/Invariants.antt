@@ -1,0 +1,16 @@
+use native.Mathlib.Omega.{arith}
+use mathlib.Core.Bool.{true, false}
+use mathlib.Core.Path.{◌≡◌, refl, sym, ap, ◌∙◌}
+use Prim.Native.Nat.{ℕ, ◌+◌, ◌*◌, ◌-◌, ◌<◌, ◌≤◌}
+use lib.ListN.{length, get_or}
+use Rattle.text.specs.Lists.{Text, same}
+use Rattle.tokens.proofs.Names.{held_whole}
+use Rattle.items.specs.Linked.{NameAt, head_at, Found}
+use Rattle.items.proofs.Names.{not_yet, found-there, found_none}
+use Rattle.items.proofs.link.find.Given as goal
+
+abbrev pub invariant-loop-i : goal.invariant-loop-i
+invariant-loop-i l = (l.i ≤ l.rules) × ((j : ℕ) → j < l.i → (x y : Text) → NameAt l.table l.at x → NameAt l.table (head_at l.table j) y → same x y ≡ false)
+
+abbrev pub decreases-loop-i : goal.decreases-loop-i
+decreases-loop-i l = l.rules - l.i

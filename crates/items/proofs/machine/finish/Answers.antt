@@ -1,0 +1,33 @@
+use native.Mathlib.Omega.{arith}
+use mathlib.Core.List.{List, [], ◌∷◌, ◌++◌}
+use mathlib.Core.Path.{◌≡◌, sym, ap, ◌∙◌, refl, subst}
+use Prim.Native.Nat.{ℕ, suc, ◌+◌, ◌*◌, ◌-◌, ◌≤◌}
+use native.Mathlib.Numerals.{add-one}
+use lib.ListN.{length-set}
+use lib.Seq.{sets}
+use lib.ListN.{set, get_or}
+use Rattle.repetitions.specs.Blocks.{Entry, entry, nums, entry_at, laid, one_count, two_count, one_first, two_first}
+use Rattle.items.specs.Machine.{Abs, Has, Rep, Fit, One, Two}
+use Rattle.items.proofs.Reps.{rep-pushed, rep-one', rep-two', rep-closed, rep-finished, one-bounds, two-bounds, block-bounds, finished-items, mark-old}
+use borrow.Author.Rules.{rules}
+use Rattle.items.proofs.machine.finish.Goals as goal
+
+pub overflow_cast-old : goal.overflow_cast-old
+overflow_cast-old c =
+    omega (arith, mark-old c.requires.rep c.requires.act.block, subst (λ (z : Abs). z.base ≤ 512) c.requires.act.result c.requires.fit.base)
+
+pub block-next-requires : goal.block-next-requires
+block-next-requires c =
+    block-bounds c.requires.act.block (finished-items c.requires.act c.requires.fit).0 c.requires.rep.has.fit.depth _ _ _ _
+    c.requires.rep.has.size c.requires.rep.items c.requires.rep.base c.requires.rep.depth
+
+pub bounds-table-r-2 : goal.bounds-table-r-2
+bounds-table-r-2 c =
+    simp length-set (omega (arith, c.block-next.auto.0, c.requires.rep.has.size, c.requires.rep.rules, (finished-items c.requires.act c.requires.fit).1))
+
+pub returns : goal.returns
+returns c =
+    λ a b rep act fit. rep-finished rep fit act c.block-next.ensures
+    (ap (λ (n : ℕ). set (set c.block-next.new.0 (13824 + 2 * c.args.s.rules)
+    (get_or c.args.table.now (14850 + 3 * c.args.s.base) 0)) n c.args.s.items)
+    (let z : 13825 + 2 * c.args.s.rules ≡ suc (13824 + 2 * c.args.s.rules) = omega arith in z)) refl refl refl refl

@@ -1,0 +1,9 @@
+use native.Mathlib.Omega.{arith}
+use mathlib.Core.Path.{◌≡◌, refl, sym}
+use Prim.Native.Nat.{◌+◌, ◌*◌}
+use lib.ListN.{get_or-eq_default}
+use borrow.Author.Rules.{rules}
+use Rattle.items.proofs.target_at.Goals as goal
+
+pub returns : goal.returns
+returns c = sym (get_or-eq_default c.args.table.now 0 {n = 12289 + 3 * c.args.item} (omega (arith, c.if-item-table.false)))

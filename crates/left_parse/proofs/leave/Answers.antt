@@ -1,0 +1,12 @@
+use native.Mathlib.Omega.{arith}
+use mathlib.Core.Path.{◌≡◌, refl, sym, ◌∙◌}
+use lib.ListN.{length-set}
+use borrow.Author.Rules.{rules}
+use Rattle.left_parse.proofs.leave.Goals as goal
+
+pub bounds-scratch-at-2 : goal.bounds-scratch-at-2
+bounds-scratch-at-2 c =
+    simp length-set (omega (arith, c.requires.room, c.requires.some))
+
+pub returns : goal.returns
+returns c = record { scratch = refl; spot = rw (c.note_at-link.ensures, c.note_at-item.ensures) }

@@ -1,0 +1,9 @@
+use mathlib.Core.Path.{◌≡◌, refl}
+use borrow.Author.Rules.{rules}
+use Rattle.left_parse.proofs.Items.{wide_of}
+use Rattle.left_parse.proofs.skip.Goals as goal
+
+pub returns : goal.returns
+returns c =
+    let w = c.terminal_width-w in
+    record { w = w.result; wide = wide_of _ w.ensures.0 c.token_at.ensures.0 w.ensures.1; spot = refl }

@@ -1,0 +1,13 @@
+use native.Mathlib.Omega.{arith}
+use Prim.Native.Nat.{◌-◌, ◌≤◌}
+use mathlib.Core.Path.{◌∙◌, sym}
+use borrow.Author.Rules.{rules}
+use Rattle.left_pass.specs.Left.{Shifted}
+use Rattle.left_pass.proofs.Shifts.{given-next, shift-start, shift-join, shift-all}
+use Rattle.left_pass.proofs.shift.Given as goal
+
+abbrev pub invariant-loop-p : goal.invariant-loop-p
+invariant-loop-p l = Shifted l.table l.code l.text l.size l.initial.marks l.marks l.i 0 l.p × (l.p ≤ l.size)
+
+abbrev pub decreases-loop-p : goal.decreases-loop-p
+decreases-loop-p l = l.size - l.p

@@ -1,0 +1,70 @@
+use native.Mathlib.Omega.{arith}
+use mathlib.Core.Path.{refl}
+use Prim.Native.Nat.{◌+◌, ◌≤◌}
+use lib.ListN.{length, length-set}
+use borrow.Author.Rules.{rules}
+use Rattle.lexical.proofs.chars_token.Goals as goal
+
+pub head-requires : goal.head-requires
+head-requires c =
+    let chars = c.c-1 in
+    let pre = c.requires in
+    rw chars.given.1 at (pre)
+
+pub offset_bounds-out-j : goal.offset_bounds-out-j
+offset_bounds-out-j c =
+    let args = c.args in
+    let good = c.well_formed in
+    let pre = c.requires in
+    let h : args.at.0 + 2 ≤ length args.out.now = rw c.in-Coded.is at (pre) in
+    omega (arith, good.1.1.1.0)
+
+pub bounds-out-j : goal.bounds-out-j
+bounds-out-j c =
+    let args = c.args in
+    let pre = c.requires in
+    let h : args.at.0 + 2 ≤ length args.out.now = rw c.in-Coded.is at (pre) in
+    omega arith
+
+pub overflow_add-out : goal.overflow_add-out
+overflow_add-out c =
+    let args = c.args in
+    let good = c.well_formed in
+    let pre = c.requires in
+    let h : args.at.0 + 2 ≤ length args.out.now = rw c.in-Coded.is at (pre) in
+    omega (arith, good.1.1.1.0)
+
+pub offset_bounds-out-j-in-Coded : goal.offset_bounds-out-j-in-Coded
+offset_bounds-out-j-in-Coded c =
+    let args = c.args in
+    let good = c.well_formed in
+    let pre = c.requires in
+    let h : args.at.0 + 2 ≤ length args.out.now = rw c.in-Coded.is at (pre) in
+    omega (arith, good.1.1.1.0)
+
+pub bounds-out-j-in-Coded : goal.bounds-out-j-in-Coded
+bounds-out-j-in-Coded c =
+    let args = c.args in
+    let pre = c.requires in
+    let h : args.at.0 + 2 ≤ length args.out.now = rw c.in-Coded.is at (pre) in
+    simp length-set (omega arith)
+
+pub overflow_add-result : goal.overflow_add-result
+overflow_add-result c =
+    let args = c.args in
+    let good = c.well_formed in
+    let pre = c.requires in
+    let h : args.at.0 + 2 ≤ length args.out.now = rw c.in-Coded.is at (pre) in
+    omega (arith, good.1.1.1.0)
+
+pub returns-in-Quoted : goal.returns-in-Quoted
+returns-in-Quoted c =
+    let head = c.head in
+    let chars = c.c-1 in
+    rw chars.given.1 (record { step = (refl, refl); table = head.ensures })
+
+pub returns-in-Coded : goal.returns-in-Coded
+returns-in-Coded c = rw c.in-Coded.is (record { step = (refl, refl); table = refl })
+
+pub returns-in-No : goal.returns-in-No
+returns-in-No c = rw c.in-No.is tt

@@ -1,0 +1,40 @@
+use mathlib.Core.Path.{sym, ◌∙◌}
+use native.Mathlib.Omega.{arith}
+use borrow.Author.Tests.{not-true, not-false}
+use Rattle.lexical.proofs.Words.{no-mark, mark-in, mark-bad, mark-read}
+use borrow.Author.Rules.{rules}
+use Rattle.lexical.proofs.mark.Goals as goal
+
+pub returns-then-not-is_mark : goal.returns-then-not-is_mark
+returns-then-not-is_mark c =
+    let peek = c.peek-c in
+    let pre = c.requires in
+    no-mark _ _ _ peek.ensures (sym c.is_mark.ensures ∙ not-true _ c.if-not-is_mark.true) (pre)
+
+pub skip-requires : goal.skip-requires
+skip-requires c =
+    let peek = c.peek-c in
+    let args = c.args in
+    let h = mark-in args.text.now args.p.0 _ peek.ensures (sym c.is_mark.ensures ∙ not-false _ c.if-not-is_mark.false) in
+    omega (arith, c.after.ensures)
+
+pub returns-in_default : goal.returns-in_default
+returns-in_default c =
+    let skip = c.skip in
+    let if1 = c.if-not-is_mark in
+    let is-mark = c.is_mark in
+    let peek = c.peek-c in
+    let args = c.args in
+    mark-bad args.text.now args.p.0 _ peek.ensures (sym is-mark.ensures ∙ not-false _ if1.false)
+    (rw (c.after.ensures, c.in_default.is) at skip.ensures)
+
+pub returns : goal.returns
+returns c =
+    let q = c.q-1 in
+    let skip = c.skip in
+    let if1 = c.if-not-is_mark in
+    let is-mark = c.is_mark in
+    let peek = c.peek-c in
+    let args = c.args in
+    mark-read args.text.now args.p.0 _ peek.ensures (sym is-mark.ensures ∙ not-false _ if1.false) _ _
+    (rw (c.after.ensures, q.given.1) at skip.ensures) c.mark_number.ensures

@@ -1,0 +1,20 @@
+use mathlib.Core.Path.{sym, ◌∙◌}
+use borrow.Author.Tests.{not-true, not-false}
+use Rattle.syntax.specs.Syntax.{namestart}
+use Rattle.spacing.proofs.Places.{tested}
+use borrow.Author.Rules.{rules}
+use Rattle.lexical.proofs.names.name_run.Goals as goal
+
+pub returns-then-not-name_start : goal.returns-then-not-name_start
+returns-then-not-name_start c = tested c.peek.ensures namestart (sym c.name_start.ensures ∙ not-true _ c.if-not-name_start.true)
+
+pub returns : goal.returns
+returns c =
+    let copy_run = c.copy_run-run in
+    let name-start = c.name_start in
+    let peek = c.peek in
+    record {
+      starts = tested peek.ensures namestart (sym name-start.ensures ∙ not-false _
+          c.if-not-name_start.false);
+      copied = copy_run.ensures;
+    }

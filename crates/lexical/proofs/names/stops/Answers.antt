@@ -1,0 +1,36 @@
+use Rattle.lexical.proofs.Uses.{stops-short, stops-no-dot, stops-open, stops_then}
+use borrow.Author.Rules.{rules}
+use Rattle.lexical.proofs.names.stops.Goals as goal
+
+pub returns-then-n-i : goal.returns-then-n-i
+returns-then-n-i c =
+    let args = c.args in
+    let pre = c.requires in
+    stops-short args.text.now args.p.0 args.q.0 pre.0 pre.1 c.if-n-i.true
+
+pub returns-then-text-n-ne-FULL_STOP : goal.returns-then-text-n-ne-FULL_STOP
+returns-then-text-n-ne-FULL_STOP c =
+    let if1 = c.if-n-i in
+    let args = c.args in
+    let pre = c.requires in
+    stops-no-dot args.text.now args.p.0 args.q.0 pre.0 pre.1 if1.false c.if-text-n-ne-FULL_STOP.true
+
+pub returns-in_default : goal.returns-in_default
+returns-in_default c =
+    let skip = c.skip in
+    let if2 = c.if-text-n-ne-FULL_STOP in
+    let if1 = c.if-n-i in
+    let args = c.args in
+    let pre = c.requires in
+    stops-open args.text.now args.p.0 args.q.0 pre.0 pre.1 if1.false if2.false (rw c.in_default.is at skip.ensures)
+
+pub returns : goal.returns
+returns c =
+    let w = c.w-1 in
+    let skip = c.skip in
+    let if2 = c.if-text-n-ne-FULL_STOP in
+    let if1 = c.if-n-i in
+    let args = c.args in
+    let pre = c.requires in
+    stops_then args.text.now args.p.0 args.q.0 pre.0 pre.1 if1.false if2.false _ c.ended.result
+    (rw w.given.1 at skip.ensures) c.ended.ensures

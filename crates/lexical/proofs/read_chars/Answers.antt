@@ -1,0 +1,16 @@
+use Rattle.lexical.proofs.Words.{tokenable, chars-tokened}
+use borrow.Author.Rules.{rules}
+use Rattle.lexical.proofs.read_chars.Goals as goal
+
+pub chars_token-requires : goal.chars_token-requires
+chars_token-requires c =
+    let chars = c.chars-c in
+    let pre = c.requires in
+    tokenable _ _ _ _ (pre) _ chars.auto.1.1.0 chars.result chars.ensures
+
+pub returns : goal.returns
+returns c =
+    let chars-token = c.chars_token in
+    let chars = c.chars-c in
+    let pre = c.requires in
+    chars-tokened _ _ _ _ (pre) _ chars.auto.1.1.0 _ _ chars.result chars.ensures chars-token.result _ chars-token.ensures

@@ -1,0 +1,54 @@
+use mathlib.Core.Path.{sym, ◌∙◌}
+use borrow.Author.Tests.{not-true, not-false}
+use Rattle.syntax.specs.Syntax.{quote}
+use Rattle.spacing.proofs.Places.{tested}
+use Rattle.lexical.proofs.Words.{string-none, string-space, string-bad, string-empty, string-read}
+use borrow.Author.Rules.{rules}
+use Rattle.lexical.proofs.strings.string.Goals as goal
+
+pub returns-then-not-quote : goal.returns-then-not-quote
+returns-then-not-quote c =
+    let peek = c.peek-q in
+    let args = c.args in
+    string-none args.text.now args.p.0 (tested peek.ensures quote (sym c.quote.ensures ∙ not-true _ c.if-not-quote.true))
+
+pub copy_quoted-requires : goal.copy_quoted-requires
+copy_quoted-requires c =
+    let quote = c.quote in
+    let peek = c.peek-q in
+    let pre = c.requires in (
+      rw c.after.ensures (string-space _ _ _ peek.ensures (sym quote.ensures ∙ not-false _ c.if-not-quote.false) _ _ (pre)),
+      sym quote.ensures ∙ not-false _ c.if-not-quote.false,
+    )
+
+pub returns-in_default : goal.returns-in_default
+returns-in_default c =
+    let copy-quoted = c.copy_quoted in
+    let if1 = c.if-not-quote in
+    let quote = c.quote in
+    let peek = c.peek-q in
+    let args = c.args in
+    string-bad args.text.now args.p.0 _ peek.ensures (sym quote.ensures ∙ not-false _ if1.false)
+    (rw (c.after.ensures, c.in_default.is) at copy-quoted.ensures)
+
+pub returns-then-b-at : goal.returns-then-b-at
+returns-then-b-at c =
+    let u = c.u-1 in
+    let copy-quoted = c.copy_quoted in
+    let if1 = c.if-not-quote in
+    let quote = c.quote in
+    let peek = c.peek-q in
+    let args = c.args in
+    string-empty args.text.now args.p.0 _ peek.ensures (sym quote.ensures ∙ not-false _ if1.false) _ _ _ _ _
+    (rw (c.after.ensures, u.given.1) at copy-quoted.ensures) c.if-b-at.true
+
+pub returns : goal.returns
+returns c =
+    let u = c.u-1 in
+    let copy-quoted = c.copy_quoted in
+    let if1 = c.if-not-quote in
+    let quote = c.quote in
+    let peek = c.peek-q in
+    let args = c.args in
+    string-read args.text.now args.p.0 _ peek.ensures (sym quote.ensures ∙ not-false _ if1.false) _ _ _ _ _
+    (rw (c.after.ensures, u.given.1) at copy-quoted.ensures) c.if-b-at.false

@@ -1,0 +1,13 @@
+use mathlib.Core.Path.{◌≡◌, subst, ◌∙◌}
+use Prim.Native.Nat.{ℕ, ◌-◌, ◌≤◌}
+use native.Mathlib.Omega.{arith}
+use lib.ListN.{length}
+use Rattle.sparse.specs.Column.{UnitsTo}
+use borrow.Author.Rules.{rules}
+use Rattle.listing.proofs.note_units.Given as goal
+
+abbrev pub invariant-loop-p : goal.invariant-loop-p
+invariant-loop-p l = (l.p ≤ l.size) × UnitsTo l.code l.notes l.p l.column × (length l.column ≡ 3789)
+
+abbrev pub decreases-loop-p : goal.decreases-loop-p
+decreases-loop-p l = l.size - l.p

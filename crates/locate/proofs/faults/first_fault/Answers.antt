@@ -1,0 +1,21 @@
+use Rattle.static_errors.proofs.Top.{some-tokens}
+use Rattle.locate.proofs.Found as law
+use borrow.Author.Rules.{rules}
+use Rattle.locate.proofs.faults.first_fault.Goals as goal
+
+pub heads-n-requires : goal.heads-n-requires
+heads-n-requires c =
+    record { some = some-tokens c.args.table.now c.args.end c.requires; short = c.requires.short; room = c.requires.short }
+
+pub search-requires : goal.search-requires
+search-requires c =
+    record {
+      scanning = record { some = some-tokens c.args.table.now c.args.end c.requires; listing = c.heads-n.ensures.listing };
+      indexed = c.heads-n.ensures;
+      short = c.requires.short;
+    }
+
+pub returns : goal.returns
+returns c =
+    law.fault-at c.args.table.now c.args.end _ c.heads-n.result c.args.rule c.search.result c.heads-n.ensures
+    c.search.ensures

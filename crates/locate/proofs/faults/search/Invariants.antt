@@ -1,0 +1,13 @@
+use Prim.Native.Nat.{◌-◌}
+use native.Mathlib.Omega.{arith}
+use lib.ListN.{get_or}
+use borrow.Author.Rules.{rules}
+use Rattle.locate.proofs.Search as law
+use Rattle.locate.proofs.AtToken.{offset-low}
+use Rattle.locate.proofs.faults.search.Given as goal
+
+abbrev pub invariant-loop-k : goal.invariant-loop-k
+invariant-loop-k l = law.Sought l.table l.end l.index l.n l.rule l.k l.spot l.before
+
+abbrev pub decreases-loop-k : goal.decreases-loop-k
+decreases-loop-k l = l.end - l.k

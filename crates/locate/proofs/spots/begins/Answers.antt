@@ -1,0 +1,6 @@
+use borrow.Author.Rules.{rules}
+use Rattle.locate.proofs.spots.begins.Goals as goal
+
+pub returns : goal.returns
+returns c =
+    rw c.if-on.false c.opens.ensures

@@ -1,0 +1,13 @@
+use Prim.Native.Nat.{◌-◌}
+use native.Mathlib.Omega.{arith}
+use lib.ListN.{length}
+use borrow.Author.Rules.{rules}
+use Rattle.locate.specs.Spots.{shown, meant}
+use Rattle.locate.proofs.Walk as law
+use Rattle.locate.proofs.spots.locate.Given as goal
+
+abbrev pub invariant-loop-i : goal.invariant-loop-i
+invariant-loop-i l = law.Walked l.text l.initial.places l.places l.n l.i (shown l.mode l.of)
+
+abbrev pub decreases-loop-i : goal.decreases-loop-i
+decreases-loop-i l = length l.text - l.i

@@ -1,0 +1,6 @@
+use mathlib.Core.Path.{refl}
+use borrow.Author.Rules.{rules}
+use Rattle.locate.proofs.spots.put.Goals as goal
+
+pub returns-then-there : goal.returns-then-there
+returns-then-there c = rw c.if-there.true (refl, refl)

@@ -1,0 +1,37 @@
+use borrow.Author.Rules.{rules}
+use native.Mathlib.Omega.{arith}
+use mathlib.Core.Bool.{Bool, true, false, true≢false}
+use mathlib.Core.Path.{◌≡◌, refl, sym, ap, subst, ◌∙◌}
+use mathlib.Core.List.{List}
+use mathlib.Core.Logic.{◌⊎◌, inl, inr, ⊎_elim}
+use Prim.Native.Nat.{ℕ, ◌+◌, ◌*◌, ◌-◌, ◌/◌, ◌%◌, ◌^◌, ◌<◌, ◌≤◌}
+use lib.ListN.{length, get_or}
+use Rattle.bits.specs.Bits.{Lit, Has, Adds}
+use borrow.Author.Tests.{not-true, not-false}
+use Rattle.bits.proofs.Laws.{adds_none, adds-as}
+use Rattle.moves.proofs.land.Goals as goal
+
+pub returns-then-not-on : goal.returns-then-not-on
+returns-then-not-on c = adds_none (λ z h. true≢false (sym h.0 ∙ not-true _ c.if-not-on.true))
+
+pub returns-then-n-width : goal.returns-then-n-width
+returns-then-n-width c = adds_none (λ z h. omega (arith, h.1.within, c.if-n-width.true))
+
+pub returns-then-n-width-2 : goal.returns-then-n-width-2
+returns-then-n-width-2 c = adds_none (λ z h. omega (arith, h.1.within, c.if-n-width-2.true, c.if-n-width.false))
+
+pub bounds-marks-x : goal.bounds-marks-x
+bounds-marks-x c =
+    omega (arith, c.if-n-width-2.false, c.if-n-width.false, c.requires.0.short, c.requires.0.small, c.requires.0.long)
+
+pub returns-then-marks-x-lt-FITS : goal.returns-then-marks-x-lt-FITS
+returns-then-marks-x-lt-FITS c = adds_none (λ z h. omega (arith, h.1.fits, c.if-marks-x-lt-FITS.true))
+
+pub put-requires : goal.put-requires
+put-requires c =
+    omega (arith, c.if-n-width-2.false, c.if-n-width.false, c.requires.0.short)
+
+pub returns : goal.returns
+returns c =
+    adds-as _ c.put.ensures
+    (λ z e. (not-false _ c.if-not-on.false, record { fits = c.if-marks-x-lt-FITS.false; within = omega (arith, c.if-n-width-2.false, c.if-n-width.false); is = e })) (λ z h. h.1.is)

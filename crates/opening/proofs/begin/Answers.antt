@@ -1,0 +1,18 @@
+use Rattle.answer.specs.Answer.{job, main_need}
+use Rattle.opening.proofs.Starts.{small, begins-lent, need-is}
+use borrow.Author.Rules.{rules}
+use Rattle.opening.proofs.begin.Goals as goal
+
+pub need_of-need-requires : goal.need_of-need-requires
+need_of-need-requires c =
+    let done = c.open_job-opened in
+    let args = c.args in
+    small args.grammar.now args.record.now done.new.1.1.0 done.new.1.1.1.0 done.result done.ensures
+
+pub returns : goal.returns
+returns c =
+    let args = c.args in
+    let done = c.open_job-opened in
+    let j = job args.grammar.now args.record.now args.main args.second in
+    let need = c.need_of-need in
+    begins-lent main_need j done.new.1.1.0 done.new.1.1.1.0 need.result done.result done.ensures (need-is done.result need.result need.ensures) _ c.lend.ensures

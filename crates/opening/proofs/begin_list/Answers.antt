@@ -1,0 +1,13 @@
+use mathlib.Core.Path.{◌≡◌, refl}
+use Prim.Native.Nat.{◌*◌}
+use Rattle.answer.specs.Answer.{job}
+use Rattle.opening.proofs.Starts.{begins-lent}
+use borrow.Author.Rules.{rules}
+use Rattle.opening.proofs.begin_list.Goals as goal
+
+pub returns : goal.returns
+returns c =
+    let args = c.args in
+    let done = c.open_job-opened in
+    let j = job args.grammar.now args.record.now args.scratch args.second in
+    begins-lent (λ g r. 2 * args.numbers) j done.new.1.1.0 done.new.1.1.1.0 (2 * args.numbers) done.result done.ensures (λ s o e. refl) _ c.lend.ensures

@@ -1,0 +1,17 @@
+use native.Mathlib.Omega.{arith}
+use Rattle.opening.proofs.Texts.{not_taken, too_many, taken}
+use borrow.Author.Rules.{rules}
+use Rattle.opening.proofs.take_record.Goals as goal
+
+pub returns-in_default : goal.returns-in_default
+returns-in_default c = not_taken _ _ _ _ c.decode_text-decoded.ensures c.in_default.keys2 _ c.why_refused.ensures
+
+pub returns-then-end-gt-RECORD_CHARACTERS : goal.returns-then-end-gt-RECORD_CHARACTERS
+returns-then-end-gt-RECORD_CHARACTERS c =
+    too_many _ _ _ _ c.decode_text-decoded.ensures _ c.in-Of.is
+    _ c.plain.ensures c.if-end-gt-RECORD_CHARACTERS.true
+
+pub returns : goal.returns
+returns c =
+    taken _ _ _ _ c.decode_text-decoded.ensures _ c.in-Of.is
+    (omega (arith, c.if-end-gt-RECORD_CHARACTERS.false)) c.requires

@@ -1,0 +1,11 @@
+use native.Mathlib.Omega.{arith}
+use Prim.Native.Nat.{◌-◌}
+use borrow.Author.Rules.{rules}
+use Rattle.productive.proofs.Scan.{Scanned, scanned-next, scan-some, scan-every}
+use Rattle.productive.proofs.any_missing.Given as goal
+
+abbrev pub invariant-loop-dot : goal.invariant-loop-dot
+invariant-loop-dot l = Scanned l.code l.missing l.dot
+
+abbrev pub decreases-loop-dot : goal.decreases-loop-dot
+decreases-loop-dot l = l.size - l.dot

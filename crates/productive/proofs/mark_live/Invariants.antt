@@ -1,0 +1,10 @@
+use native.Mathlib.Omega.{arith}
+use Prim.Native.Nat.{◌-◌}
+use Rattle.productive.proofs.Items.{Marking, marking-start, marking-terminals, marking-next, marking-end}
+use Rattle.productive.proofs.mark_live.Given as goal
+
+abbrev pub invariant-loop-p : goal.invariant-loop-p
+invariant-loop-p l = Marking l.table l.code l.size l.initial.marks l.marks l.p
+
+abbrev pub decreases-loop-p : goal.decreases-loop-p
+decreases-loop-p l = l.size - l.p

@@ -1,0 +1,18 @@
+use mathlib.Core.Path.{◌≡◌, refl, sym, subst, ◌∙◌}
+use Prim.Native.Nat.{ℕ, ◌-◌, ◌≤◌}
+use native.Mathlib.Omega.{arith}
+use lib.ListN.{length}
+use lib.Seq.{get_or-set_other}
+use Rattle.sparse.specs.Steps.{Listed}
+use Rattle.quick.specs.Quick.{AfterDots, ListedTo, ClearedTo}
+use Rattle.quick.proofs.Columns.{listed-none, cleared-none, cleared-next}
+use borrow.Author.Rules.{rules}
+use Rattle.quick.proofs.list_column.Given as goal
+
+abbrev pub invariant-loop-x : goal.invariant-loop-x
+invariant-loop-x l =
+    (l.x ≤ l.s.size) × ListedTo l.code l.marks l.s.n.0 l.s.j.0 l.x l.column × ClearedTo l.code l.marks l.s.n.0 l.s.j.0 l.x l.initial.main l.main
+    × AfterDots l.initial.column l.column
+
+abbrev pub decreases-loop-x : goal.decreases-loop-x
+decreases-loop-x l = l.s.size - l.x

@@ -1,0 +1,15 @@
+use mathlib.Core.Path.{subst, ◌∙◌}
+use Prim.Native.Nat.{ℕ, ◌-◌, ◌≤◌}
+use native.Mathlib.Omega.{arith}
+use lib.ListN.{set, length-set}
+use lib.Seq.{get_or-set_same}
+use Rattle.quick.specs.Quick.{Untouched}
+use Rattle.quick.proofs.Flags.{untouched-none, untouched-from, untouched-next}
+use borrow.Author.Rules.{rules}
+use Rattle.quick.proofs.untouch.Given as goal
+
+abbrev pub invariant-loop-i : goal.invariant-loop-i
+invariant-loop-i l = (l.i ≤ l.j) × Untouched l.i l.initial.column l.column
+
+abbrev pub decreases-loop-i : goal.decreases-loop-i
+decreases-loop-i l = l.j - l.i

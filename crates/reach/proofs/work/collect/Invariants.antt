@@ -1,0 +1,13 @@
+use native.Mathlib.Omega.{arith}
+use Prim.Native.Nat.{◌-◌}
+use mathlib.Core.Path.{sym, ◌∙◌}
+use borrow.Author.Rules.{rules}
+use Rattle.reach.specs.Work.{Collecting}
+use Rattle.reach.proofs.Queue.{collect-start, collect-here, collect-join, collect-end}
+use Rattle.reach.proofs.work.collect.Given as goal
+
+abbrev pub invariant-loop-p : goal.invariant-loop-p
+invariant-loop-p l = Collecting l.size l.low l.marks l.initial.work l.work l.i l.p
+
+abbrev pub decreases-loop-p : goal.decreases-loop-p
+decreases-loop-p l = l.size - l.p

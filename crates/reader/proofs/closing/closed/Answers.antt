@@ -1,0 +1,70 @@
+use Rattle.reader.proofs.Closings.{one-of-end, closed-unspaced, closed-no, closed-bad, closed-got}
+use native.Mathlib.Omega.{arith}
+use mathlib.Core.Path.{sym, ◌∙◌}
+use borrow.Author.Tests.{not-true, not-false}
+use Rattle.spacing.proofs.Places.{tested, in-text}
+use Rattle.reader.specs.Answers.{one_of}
+use borrow.Author.Rules.{rules}
+use Rattle.reader.proofs.closing.closed.Goals as goal
+
+pub returns-in_default : goal.returns-in_default
+returns-in_default c =
+    let spaced = c.spaced in
+    let args = c.args in
+    closed-unspaced (one_of args.first args.second) args.text.now args.word _ c.in_default.is spaced.ensures
+
+pub returns-then-not-one_of : goal.returns-then-not-one_of
+returns-then-not-one_of c =
+    let peek = c.peek in
+    let w = c.w-1 in
+    let spaced = c.spaced in
+    let args = c.args in
+    closed-no (one_of args.first args.second) args.text.now args.word _ _ _ w.given.1 spaced.ensures
+    (tested peek.ensures (one_of args.first args.second) (sym c.one_of.ensures ∙ not-true _ c.if-not-one_of.true))
+
+pub after-requires : goal.after-requires
+after-requires c =
+    let peek = c.peek in
+    let w = c.w-1 in
+    let args = c.args in
+    let good = c.well_formed in
+    let pre = c.requires in
+    let h = in-text args.text.now w.given.0.0.0 (one_of args.first args.second) (one-of-end _ _ pre.1.0 pre.1.1)
+    (tested peek.ensures (one_of args.first args.second) (sym c.one_of.ensures ∙ not-false _ c.if-not-one_of.false)) in
+    omega (arith, h, good.0)
+
+pub skip-requires : goal.skip-requires
+skip-requires c =
+    let peek = c.peek in
+    let w = c.w-1 in
+    let args = c.args in
+    let pre = c.requires in
+    let h = in-text args.text.now w.given.0.0.0 (one_of args.first args.second) (one-of-end _ _ pre.1.0 pre.1.1)
+    (tested peek.ensures (one_of args.first args.second) (sym c.one_of.ensures ∙ not-false _ c.if-not-one_of.false)) in
+    omega (arith, h, c.after.ensures)
+
+pub returns-in_default-skip : goal.returns-in_default-skip
+returns-in_default-skip c =
+    let skip = c.skip in
+    let if1 = c.if-not-one_of in
+    let one-of = c.one_of in
+    let peek = c.peek in
+    let w = c.w-1 in
+    let spaced = c.spaced in
+    let args = c.args in
+    closed-bad (one_of args.first args.second) args.text.now args.word _ _ _ w.given.1 spaced.ensures
+    (tested peek.ensures (one_of args.first args.second) (sym one-of.ensures ∙ not-false _ if1.false))
+    (rw (c.after.ensures, c.in_default-skip.is) at skip.ensures)
+
+pub returns : goal.returns
+returns c =
+    let skip = c.skip in
+    let if1 = c.if-not-one_of in
+    let one-of = c.one_of in
+    let peek = c.peek in
+    let w = c.w-1 in
+    let spaced = c.spaced in
+    let args = c.args in
+    closed-got (one_of args.first args.second) args.text.now args.word _ _ _ w.given.1 spaced.ensures
+    (tested peek.ensures (one_of args.first args.second) (sym one-of.ensures ∙ not-false _ if1.false)) _
+    (rw (c.after.ensures, c.in-At-skip.is) at skip.ensures)

@@ -1,0 +1,47 @@
+use native.Mathlib.Omega.{arith}
+use Rattle.reader.proofs.Terminals.{chars-step, room-past, insertion-in, insertion-bad, inserted}
+use borrow.Author.Rules.{rules}
+use Rattle.reader.proofs.insertion.Goals as goal
+
+)
+
+pub skip-requires : goal.skip-requires
+skip-requires c = omega (
+  arith,
+  insertion-in c.args.text.now c.args.p.0
+      c.requires.1,
+  c.after.ensures,
+
+pub returns-in_default : goal.returns-in_default
+returns-in_default c =
+    let skip = c.skip in
+    let args = c.args in
+    let pre = c.requires in
+    insertion-bad args.text.now args.p.0 pre.1 (rw (c.after.ensures, c.in_default.is) at skip.ensures)
+
+pub read_chars-requires : goal.read_chars-requires
+read_chars-requires c =
+    let q = c.q-1 in
+    let skip = c.skip in
+    let args = c.args in
+    let pre = c.requires in
+    room-past args.text.now args.p.0 _ _ _ pre.0 (rw (c.after.ensures, q.given.1) at skip.ensures)
+
+pub spaced-requires : goal.spaced-requires
+spaced-requires c =
+    let read-chars = c.read_chars in
+    let q = c.q-1 in
+    let args = c.args in
+    chars-step 29 30 args.text.now q.given.0.0.0 _ _ read-chars.result _ read-chars.ensures
+
+pub returns : goal.returns
+returns c =
+    let read-chars = c.read_chars in
+    let q = c.q-1 in
+    let skip = c.skip in
+    let args = c.args in
+    let pre = c.requires in
+    inserted args.text.now args.p.0 pre.1 _ (rw
+    (c.after.ensures, q.given.1) at skip.ensures) _ _
+    read-chars.result _ c.spaced.result
+    read-chars.ensures c.spaced.ensures

@@ -1,0 +1,97 @@
+use mathlib.Core.Path.{sym, ◌∙◌}
+use Rattle.syntax.specs.Syntax.{namestart}
+use Rattle.spacing.proofs.Places.{is-ch, not-ch, tested}
+use Rattle.reader.proofs.Terminals.{name-step, room-mark, plain-insertion, plain-bad, mark-small, plain-name, plain-attribute, plain-terminal}
+use borrow.Author.Rules.{rules}
+use Rattle.reader.proofs.plain_factor.Goals as goal
+
+pub insertion-requires : goal.insertion-requires
+insertion-requires c =
+    let peek = c.peek in
+    let pre = c.requires in
+    (pre, (is-ch peek.ensures 0x2b c.if-peek-eq-PLUS.true))
+
+pub returns-then-peek-eq-PLUS : goal.returns-then-peek-eq-PLUS
+returns-then-peek-eq-PLUS c =
+    let insertion = c.insertion in
+    let if1 = c.if-peek-eq-PLUS in
+    let peek = c.peek in
+    let args = c.args in
+    plain-insertion args.text.now args.p.0 _ _ (is-ch peek.ensures 0x2b if1.true) insertion.result _ insertion.ensures
+
+pub returns-in_default : goal.returns-in_default
+returns-in_default c =
+    let mark = c.mark in
+    let if1 = c.if-peek-eq-PLUS in
+    let peek = c.peek in
+    let args = c.args in
+    plain-bad args.text.now args.p.0 (not-ch peek.ensures 0x2b if1.false) (rw c.in_default.is at mark.ensures)
+
+pub used_name-requires : goal.used_name-requires
+used_name-requires c =
+    let q = c.q-1 in
+    let mark = c.mark in
+    let args = c.args in
+    let pre = c.requires in
+    room-mark args.text.now args.p.0 _ _ _ _ (pre) (rw q.given.1 at mark.ensures)
+
+pub spaced-requires : goal.spaced-requires
+spaced-requires c =
+    let used-name = c.used_name in
+    let q = c.q-1 in
+    let args = c.args in
+    name-step q.given.0.1.0 args.text.now q.given.0.0.0 _ _ used-name.result _ used-name.ensures
+
+pub returns-then-name_start : goal.returns-then-name_start
+returns-then-name_start c =
+    let used-name = c.used_name in
+    let if2 = c.if-name_start in
+    let name-start = c.name_start in
+    let peek2 = c.peek-2 in
+    let q = c.q-1 in
+    let mark = c.mark in
+    let if1 = c.if-peek-eq-PLUS in
+    let peek = c.peek in
+    let args = c.args in
+    plain-name args.text.now args.p.0 (not-ch peek.ensures 0x2b if1.false) _ _ (rw q.given.1 at mark.ensures)
+    (tested peek2.ensures namestart (sym name-start.ensures ∙ if2.true)) _ _ used-name.result _ c.spaced.result
+    used-name.ensures c.spaced.ensures
+
+pub returns-then-m-eq-ATTRIBUTE : goal.returns-then-m-eq-ATTRIBUTE
+returns-then-m-eq-ATTRIBUTE c =
+    let name-start = c.name_start in
+    let peek2 = c.peek-2 in
+    let q = c.q-1 in
+    let mark = c.mark in
+    let if1 = c.if-peek-eq-PLUS in
+    let peek = c.peek in
+    let args = c.args in
+    plain-attribute args.text.now args.p.0 (not-ch peek.ensures 0x2b if1.false) _ _ (rw q.given.1 at mark.ensures)
+    (tested peek2.ensures namestart (sym name-start.ensures ∙ c.if-name_start.false)) c.if-m-eq-ATTRIBUTE.true
+
+pub terminal-requires : goal.terminal-requires
+terminal-requires c =
+    let q = c.q-1 in
+    let mark = c.mark in
+    let if1 = c.if-peek-eq-PLUS in
+    let peek = c.peek in
+    let args = c.args in
+    let pre = c.requires in (
+      room-mark args.text.now args.p.0 _ _ _ _ (pre) (rw q.given.1 at mark.ensures),
+      mark-small args.text.now args.p.0 (not-ch peek.ensures 0x2b if1.false) _ _ (rw q.given.1 at mark.ensures),
+    )
+
+pub returns : goal.returns
+returns c =
+    let terminal = c.terminal in
+    let if3 = c.if-m-eq-ATTRIBUTE in
+    let if2 = c.if-name_start in
+    let name-start = c.name_start in
+    let peek2 = c.peek-2 in
+    let q = c.q-1 in
+    let mark = c.mark in
+    let if1 = c.if-peek-eq-PLUS in
+    let peek = c.peek in
+    let args = c.args in
+    plain-terminal args.text.now args.p.0 (not-ch peek.ensures 0x2b if1.false) _ _ (rw q.given.1 at mark.ensures)
+    (tested peek2.ensures namestart (sym name-start.ensures ∙ if2.false)) if3.false _ _ terminal.result _ terminal.ensures

@@ -1,0 +1,56 @@
+use mathlib.Core.Path.{◌≡◌}
+use lib.ListN.{drop}
+use Rattle.text.specs.Lists.{chars}
+use Rattle.syntax.specs.Spacing as spacing
+use Rattle.syntax.specs.Lexical.{read_word}
+use Rattle.reader.specs.Answers.{Passed}
+use Rattle.reader.proofs.PrologParts.{heading-no-ixml, heading-no-space, heading-word}
+use borrow.Author.Rules.{rules}
+use Rattle.reader.proofs.prolog.heading.Goals as goal
+
+pub returns-in_default : goal.returns-in_default
+returns-in_default c =
+    let word = c.word in
+    let args = c.args in
+    heading-no-ixml args.text.now args.p.0 (rw c.in_default.is at word.ensures)
+
+pub required-requires : goal.required-requires
+required-requires c =
+    let word = c.word in
+    let args = c.args in
+    let a : Passed (λ x. read_word (chars "ixml") (drop args.p.0 args.text.now) ≡ x) args.text.now args.p.0
+    c.in-At.u.0 = rw c.in-At.is at word.ensures in
+    a.onward.within
+
+pub returns-in_default-required : goal.returns-in_default-required
+returns-in_default-required c =
+    let required = c.required in
+    let u = c.u-1 in
+    let word = c.word in
+    let args = c.args in
+    let a : Passed (λ x. read_word (chars "ixml") (drop args.p.0 args.text.now) ≡ x) args.text.now args.p.0 u.given.0.0.0 =
+    rw u.given.1 at word.ensures in
+    heading-no-space args.text.now args.p.0 u.given.0.0.0 a (rw c.in_default-required.is at required.ensures)
+
+pub word-requires-2 : goal.word-requires-2
+word-requires-2 c =
+    let v = c.v-1 in
+    let required = c.required in
+    let u = c.u-1 in
+    let args = c.args in
+    let b : Passed (λ x. spacing.required (drop u.given.0.0.0 args.text.now) ≡ x) args.text.now u.given.0.0.0
+    v.given.0.0.0 = rw v.given.1 at required.ensures in
+    b.onward.within
+
+pub returns : goal.returns
+returns c =
+    let v = c.v-1 in
+    let required = c.required in
+    let u = c.u-1 in
+    let word = c.word in
+    let args = c.args in
+    let a : Passed (λ x. read_word (chars "ixml") (drop args.p.0 args.text.now) ≡ x) args.text.now args.p.0 u.given.0.0.0 =
+    rw u.given.1 at word.ensures in
+    let b : Passed (λ x. spacing.required (drop u.given.0.0.0 args.text.now) ≡ x) args.text.now u.given.0.0.0
+    v.given.0.0.0 = rw v.given.1 at required.ensures in
+    heading-word args.text.now args.p.0 u.given.0.0.0 a v.given.0.0.0 b c.word-2.result c.word-2.ensures

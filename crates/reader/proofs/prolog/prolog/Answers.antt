@@ -1,0 +1,36 @@
+use mathlib.Core.Path.{◌≡◌}
+use lib.ListN.{drop}
+use Rattle.syntax.specs.Parser as parser
+use Rattle.reader.specs.Answers.{Passed}
+use Rattle.reader.proofs.RulesHead.{room-on}
+use Rattle.reader.proofs.PrologParts.{prolog-none, prolog-some}
+use borrow.Author.Rules.{rules}
+use Rattle.reader.proofs.prolog.prolog.Goals as goal
+
+pub returns-in_default : goal.returns-in_default
+returns-in_default c =
+    let heading = c.heading in
+    let args = c.args in
+    let pre = c.requires in
+    prolog-none args.text.now args.p.0 args.out.now args.at.0 pre.place (rw c.in_default.is at heading.ensures)
+
+pub version-requires : goal.version-requires
+version-requires c =
+    let u = c.u-1 in
+    let heading = c.heading in
+    let args = c.args in
+    let pre = c.requires in
+    let a : Passed (λ x. parser.heading (drop args.p.0 args.text.now) ≡ x) args.text.now args.p.0 u.given.0.0.0 = rw
+    u.given.1 at heading.ensures in
+    room-on args.text.now args.p.0 u.given.0.0.0 args.out.now args.at.0 (pre) a.onward
+
+pub returns : goal.returns
+returns c =
+    let version = c.version in
+    let u = c.u-1 in
+    let heading = c.heading in
+    let args = c.args in
+    let a : Passed (λ x. parser.heading (drop args.p.0 args.text.now) ≡ x) args.text.now args.p.0 u.given.0.0.0 = rw
+    u.given.1 at heading.ensures in
+    prolog-some args.text.now args.p.0 u.given.0.0.0 a args.out.now args.at.0 version.result version.new.1.1.0
+    version.ensures

@@ -1,0 +1,60 @@
+use Prim.Native.Nat.{◌-◌, ◌<◌}
+use native.Mathlib.Omega.{arith}
+use lib.ListN.{length, get_or}
+use borrow.Author.Rules.{rules}
+use Rattle.reader.proofs.PrologParts.{Spelled, spelled-start, spelled-end, spelled-no, spelled-in, spelled-on}
+use Rattle.reader.proofs.prolog.word.Goals as goal
+
+pub loop-k-init : goal.loop-k-init
+loop-k-init c = spelled-start _ _ _ c.requires
+
+pub bounds-w-k : goal.bounds-w-k
+bounds-w-k c = omega arith
+
+pub overflow_cast-w : goal.overflow_cast-w
+overflow_cast-w c = omega (arith, c.type_inv.w c.loop-k.k)
+
+pub returns-then-peek-w : goal.returns-then-peek-w
+returns-then-peek-w c =
+    let peek = c.peek in
+    let loop-test = c.loop-k-test in
+    let loop = c.loop-k in
+    let args = c.args in
+    spelled-no args.w.now args.text.now args.p.0 loop.at.0 loop.k loop.invariant loop-test.true _ peek.ensures c.if-peek-w.true
+
+pub after-at-requires : goal.after-at-requires
+after-at-requires c =
+    let peek = c.peek in
+    let loop-test = c.loop-k-test in
+    let loop = c.loop-k in
+    let args = c.args in
+    let good = c.well_formed in
+    let l : get_or args.w.now loop.k 0 < 256 = omega (arith, c.type_inv.w loop.k) in
+    omega (
+      arith,
+      spelled-in args.w.now args.text.now args.p.0 loop.at.0 loop.k loop.invariant loop-test.true _ peek.ensures
+          c.if-peek-w.false l,
+      good.0,
+    )
+
+pub overflow_add-k : goal.overflow_add-k
+overflow_add-k c = omega arith
+
+pub loop-k-smaller : goal.loop-k-smaller
+loop-k-smaller c = omega arith
+
+pub loop-k-preserved : goal.loop-k-preserved
+loop-k-preserved c =
+    let peek = c.peek in
+    let loop-test = c.loop-k-test in
+    let loop = c.loop-k in
+    let args = c.args in
+    let l : get_or args.w.now loop.k 0 < 256 = omega (arith, c.type_inv.w loop.k) in
+    rw c.after-at.ensures
+    (spelled-on args.w.now args.text.now args.p.0 loop.at.0 loop.k loop.invariant loop-test.true _ peek.ensures c.if-peek-w.false l)
+
+pub returns : goal.returns
+returns c =
+    let loop = c.loop-k in
+    let args = c.args in
+    spelled-end args.w.now args.text.now args.p.0 loop.at.0 loop.k loop.invariant c.loop-k-test.false

@@ -1,0 +1,92 @@
+use mathlib.Core.Path.{◌∙◌}
+use native.Mathlib.Omega.{arith}
+use lib.ListN.{length-set}
+use Rattle.spacing.proofs.Places.{is-ch, not-ch}
+use Rattle.reader.specs.Answers.{head_code}
+use Rattle.reader.proofs.Loops.{got}
+use Rattle.reader.proofs.RulesHead.{room_after, rule-no-head, rule-no-body, rule-no-stop, stop-in, stop-cell, rule-got}
+use borrow.Author.Rules.{rules}
+use Rattle.reader.proofs.rule.Goals as goal
+
+pub returns-in_default : goal.returns-in_default
+returns-in_default c =
+    let rule-head = c.rule_head in
+    let args = c.args in
+    rule-no-head args.text.now args.p.0 (rw c.in_default.is at rule-head.ensures)
+
+pub alternatives-requires : goal.alternatives-requires
+alternatives-requires c =
+    let y = c.y-1 in
+    let rule-head = c.rule_head in
+    let pre = c.requires in
+    let a = got y.given.1 rule-head.ensures in
+    room_after _ head_code _ _ _ _ _ _ _ _ (pre) rule-head.auto.1.1.0 a
+
+pub returns-in_default-alternatives : goal.returns-in_default-alternatives
+returns-in_default-alternatives c =
+    let alternatives = c.alternatives in
+    let y = c.y-1 in
+    let rule-head = c.rule_head in
+    let pre = c.requires in
+    let a = got y.given.1 rule-head.ensures in
+    rule-no-body _ _ _ _ (pre) _ _ _ a (rw c.in_default-alternatives.is at alternatives.ensures)
+
+pub returns-then-peek-ne-FULL_STOP : goal.returns-then-peek-ne-FULL_STOP
+returns-then-peek-ne-FULL_STOP c =
+    let z = c.z-1 in
+    let alternatives = c.alternatives in
+    let y = c.y-1 in
+    let rule-head = c.rule_head in
+    let pre = c.requires in
+    let a = got y.given.1 rule-head.ensures in
+    let v = got z.given.1 alternatives.ensures in
+    rule-no-stop _ _ _ _ (pre) _ _ _ a _ (alternatives.auto.1.1.1.0 ∙ rule-head.auto.1.1.0) _ _ v
+    (not-ch c.peek.ensures 46 c.if-peek-ne-FULL_STOP.true)
+
+pub put-end-requires : goal.put-end-requires
+put-end-requires c =
+    let z = c.z-1 in
+    let alternatives = c.alternatives in
+    let y = c.y-1 in
+    let rule-head = c.rule_head in
+    let pre = c.requires in
+    let a = got y.given.1 rule-head.ensures in
+    let v = got z.given.1 alternatives.ensures in
+    stop-cell _ _ _ _ (pre) _ _ _ a _ (alternatives.auto.1.1.1.0 ∙ rule-head.auto.1.1.0) _ _ v
+    (is-ch c.peek.ensures 46 c.if-peek-ne-FULL_STOP.false)
+
+pub after-requires : goal.after-requires
+after-requires c =
+    let z = c.z-1 in
+    let alternatives = c.alternatives in
+    let y = c.y-1 in
+    let rule-head = c.rule_head in
+    let good = c.well_formed in
+    let pre = c.requires in
+    let a = got y.given.1 rule-head.ensures in
+    let v = got z.given.1 alternatives.ensures in
+    omega (
+      arith,
+      stop-in _ _ _ _ (pre) _ _ _ a _ (alternatives.auto.1.1.1.0 ∙ rule-head.auto.1.1.0) _ _ v
+          (is-ch c.peek.ensures 46 c.if-peek-ne-FULL_STOP.false),
+      good.0,
+    )
+
+pub shape_of-out : goal.shape_of-out
+shape_of-out c =
+    let alternatives = c.alternatives in
+    let rule-head = c.rule_head in
+    c.put-end.auto.0 ∙ alternatives.auto.1.1.1.0 ∙ rule-head.auto.1.1.0
+
+pub returns : goal.returns
+returns c =
+    let z = c.z-1 in
+    let alternatives = c.alternatives in
+    let y = c.y-1 in
+    let rule-head = c.rule_head in
+    let pre = c.requires in
+    let a = got y.given.1 rule-head.ensures in
+    let v = got z.given.1 alternatives.ensures in
+    rw (c.after.ensures, c.put-end.ensures.0, c.put-end.ensures.1)
+    (rule-got _ _ _ _ (pre) _ _ _ a _ (alternatives.auto.1.1.1.0 ∙ rule-head.auto.1.1.0) _ _ v (is-ch
+    c.peek.ensures 46 c.if-peek-ne-FULL_STOP.false))

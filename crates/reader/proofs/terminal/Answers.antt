@@ -1,0 +1,66 @@
+use Prim.Native.Nat.{◌+◌}
+use native.Mathlib.Omega.{arith}
+use Rattle.spacing.proofs.Places.{is-ch, not-ch}
+use Rattle.sets.proofs.Sets.{seen-in}
+use Rattle.reader.proofs.Terminals.{chars-step, room-past, exclude-bad, excluded, included-set, a-literal}
+use borrow.Author.Rules.{rules}
+use Rattle.reader.proofs.terminal.Goals as goal
+
+pub skip-requires : goal.skip-requires
+skip-requires c =
+    let args = c.args in
+    omega (arith, seen-in args.text.now args.p.0 _ 0x7e c.peek-c.ensures c.if-c-eq-TILDE.true (omega arith), c.after.ensures)
+
+pub returns-in_default : goal.returns-in_default
+returns-in_default c =
+    let skip = c.skip in
+    let if1 = c.if-c-eq-TILDE in
+    let peek = c.peek-c in
+    let args = c.args in
+    exclude-bad args.text.now args.p.0 args.m args.out.now args.at.0 (is-ch peek.ensures 0x7e if1.true)
+    (rw (c.after.ensures, c.in_default.is) at skip.ensures)
+
+pub set-requires : goal.set-requires
+set-requires c =
+    let q = c.q-1 in
+    let skip = c.skip in
+    let args = c.args in
+    let pre = c.requires in
+    room-past args.text.now args.p.0 _ _ _ pre.0 (rw (c.after.ensures, q.given.1) at skip.ensures)
+
+pub returns-then-c-eq-TILDE : goal.returns-then-c-eq-TILDE
+returns-then-c-eq-TILDE c =
+    let set = c.set in
+    let q = c.q-1 in
+    let skip = c.skip in
+    let if1 = c.if-c-eq-TILDE in
+    let peek = c.peek-c in
+    let args = c.args in
+    excluded args.text.now args.p.0 args.m args.out.now args.at.0 (is-ch peek.ensures 0x7e if1.true) _
+    (rw (c.after.ensures, q.given.1) at skip.ensures) set.result _ set.ensures
+
+pub returns-then-c-eq-OPEN_SQUARE : goal.returns-then-c-eq-OPEN_SQUARE
+returns-then-c-eq-OPEN_SQUARE c =
+    let set2 = c.set-then-c-eq-OPEN_SQUARE in
+    let if2 = c.if-c-eq-OPEN_SQUARE in
+    let if1 = c.if-c-eq-TILDE in
+    let peek = c.peek-c in
+    let args = c.args in
+    included-set args.text.now args.p.0 args.m args.out.now args.at.0 (not-ch peek.ensures 0x7e if1.false)
+    (is-ch peek.ensures 0x5b if2.true) set2.result _ set2.ensures
+
+pub spaced-requires : goal.spaced-requires
+spaced-requires c =
+    let read-chars = c.read_chars in
+    let args = c.args in
+    chars-step (4 + args.m) (8 + args.m) args.text.now args.p.0 _ _ read-chars.result _ read-chars.ensures
+
+pub returns : goal.returns
+returns c =
+    let read-chars = c.read_chars in
+    let if2 = c.if-c-eq-OPEN_SQUARE in
+    let if1 = c.if-c-eq-TILDE in
+    let peek = c.peek-c in
+    let args = c.args in
+    a-literal args.text.now args.p.0 args.m args.out.now args.at.0 (not-ch peek.ensures 0x7e if1.false)
+    (not-ch peek.ensures 0x5b if2.false) read-chars.result _ c.spaced.result read-chars.ensures c.spaced.ensures

@@ -1,0 +1,37 @@
+use native.Mathlib.Omega.{arith}
+use Rattle.reading.proofs.Steps.{can-enter, stepped}
+use borrow.Author.Rules.{rules}
+use Rattle.reading.proofs.descend.Goals as goal
+
+pub find_end-m-requires : goal.find_end-m-requires
+find_end-m-requires c =
+    let pre = c.requires in
+    (pre.0.ready, ((pre.0.position.inside, pre.1), (pre.0.on pre.1).ends))
+
+pub other_end-elsewhere-requires : goal.other_end-elsewhere-requires
+other_end-elsewhere-requires c =
+    let pre = c.requires in
+    (pre.0.ready, (pre.0.position.inside, pre.1))
+
+pub overflow_add-inner : goal.overflow_add-inner
+overflow_add-inner c =
+    let pre = c.requires in
+    omega (arith, pre.0.written, pre.0.most)
+
+pub enter-requires : goal.enter-requires
+enter-requires c =
+    let pre = c.requires in
+    let one = c.number_at in
+    let two = c.number_at-2 in
+    let find = c.find_end-m in
+    can-enter pre.0 pre.1 one.result two.result one.ensures.0 two.ensures.0 find.result.0 c.either.result find.ensures
+
+pub returns : goal.returns
+returns c =
+    let pre = c.requires in
+    let one = c.number_at in
+    let two = c.number_at-2 in
+    let find = c.find_end-m in
+    let other = c.other_end-elsewhere in
+    stepped pre.0 pre.1 one.result two.result one.ensures.0 two.ensures.0 find.result.0 other.result c.either.result find.ensures
+    other.ensures c.push.ensures c.either.ensures c.enter.ensures

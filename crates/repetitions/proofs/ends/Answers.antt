@@ -1,0 +1,12 @@
+use native.Mathlib.Omega.{arith}
+use mathlib.Core.List.{[], ◌∷◌, ◌++◌}
+use mathlib.Core.Path.{ap, ◌∙◌}
+use Prim.Native.Nat.{◌+◌}
+use Rattle.repetitions.specs.Blocks.{Entry, entry, nums, entry_at, both_ends, star_block, rest_block, once_block, laid}
+use Rattle.repetitions.proofs.Stores.{laid_then, entry_kept}
+use borrow.Author.Rules.{rules}
+use Rattle.repetitions.proofs.ends.Goals as goal
+
+pub returns : goal.returns
+returns c =
+    laid_then c.args.table.now c.args.i (c.args.i + 1) (nums (entry 5 0 0)) (nums (entry 6 0 0)) c.item.ensures (omega arith) c.item-2.ensures

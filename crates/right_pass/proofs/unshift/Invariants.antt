@@ -1,0 +1,12 @@
+use native.Mathlib.Omega.{arith}
+use Prim.Native.Nat.{◌-◌, ◌≤◌}
+use borrow.Author.Rules.{rules}
+use Rattle.right_pass.specs.Right.{Unshifted}
+use Rattle.right_pass.proofs.Rightward.{unshifting-next, unshift-start, unshift-join, unshift-all}
+use Rattle.right_pass.proofs.unshift.Given as goal
+
+abbrev pub invariant-loop-p : goal.invariant-loop-p
+invariant-loop-p l = Unshifted l.code l.size l.initial.marks l.marks l.j 0 l.p × (l.p ≤ l.size)
+
+abbrev pub decreases-loop-p : goal.decreases-loop-p
+decreases-loop-p l = l.size - l.p

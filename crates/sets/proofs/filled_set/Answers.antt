@@ -1,0 +1,43 @@
+use native.Mathlib.Omega.{arith}
+use Rattle.spacing.proofs.Places.{is-ch, not-ch}
+use Rattle.sets.proofs.Sets.{seen-in}
+use Rattle.sets.proofs.Listing.{filled_none, filled-open, filled-cell, filled-shut}
+use borrow.Author.Rules.{rules}
+use Rattle.sets.proofs.filled_set.Goals as goal
+
+pub returns-in_default : goal.returns-in_default
+returns-in_default c =
+    let members = c.members in
+    let args = c.args in
+    filled_none args.text.now args.p.0 (rw c.in_default.is at members.ensures)
+
+pub returns-then-peek-ne-CLOSE_SQUARE : goal.returns-then-peek-ne-CLOSE_SQUARE
+returns-then-peek-ne-CLOSE_SQUARE c =
+    let w = c.w-1 in
+    let members = c.members in
+    let args = c.args in
+    filled-open args.text.now args.p.0 args.out.now args.at.0 _ _ _ (rw w.given.1 at members.ensures)
+    (not-ch c.peek.ensures 0x5d c.if-peek-ne-CLOSE_SQUARE.true)
+
+pub token-requires : goal.token-requires
+token-requires c =
+    let peek = c.peek in
+    let w = c.w-1 in
+    let members = c.members in
+    let args = c.args in
+    let pre = c.requires in (
+      (seen-in _ _ _ 0x5d peek.ensures c.if-peek-ne-CLOSE_SQUARE.false (omega arith)),
+      filled-cell args.text.now args.p.0 args.out.now args.at.0 _ _ _ (rw w.given.1 at members.ensures) (pre)
+          members.auto.1.1.0 (seen-in _ _ _ 0x5d peek.ensures c.if-peek-ne-CLOSE_SQUARE.false (omega arith)),
+    )
+
+pub returns : goal.returns
+returns c =
+    let token = c.token in
+    let if1 = c.if-peek-ne-CLOSE_SQUARE in
+    let peek = c.peek in
+    let w = c.w-1 in
+    let members = c.members in
+    let args = c.args in
+    filled-shut args.text.now args.p.0 args.out.now args.at.0 _ _ _ (rw w.given.1 at members.ensures)
+    (is-ch peek.ensures 0x5d if1.false) token.result _ token.ensures

@@ -1,0 +1,36 @@
+use mathlib.Core.Path.{sym, ◌∙◌}
+use Rattle.syntax.specs.Syntax.{capital}
+use Rattle.spacing.proofs.Places.{tested}
+use Rattle.sets.proofs.Sets.{class-step, class-member}
+use borrow.Author.Rules.{rules}
+use Rattle.sets.proofs.member.Goals as goal
+
+pub class-requires : goal.class-requires
+class-requires c =
+    let capital' = c.capital in
+    let peek = c.peek in
+    let pre = c.requires in
+    (pre, tested peek.ensures capital (sym capital'.ensures ∙ c.if-capital.true))
+
+pub spaced-requires : goal.spaced-requires
+spaced-requires c =
+    let class = c.class in
+    let args = c.args in
+    class-step args.text.now args.p.0 _ _ class.result _ class.ensures
+
+pub returns-then-capital : goal.returns-then-capital
+returns-then-capital c =
+    let class = c.class in
+    let if1 = c.if-capital in
+    let capital' = c.capital in
+    let peek = c.peek in
+    let args = c.args in
+    class-member args.text.now args.p.0 _ _ (tested peek.ensures capital (sym capital'.ensures ∙ if1.true)) class.result _
+    c.spaced.result class.ensures c.spaced.ensures
+
+pub chars_member-requires : goal.chars_member-requires
+chars_member-requires c =
+    let capital' = c.capital in
+    let peek = c.peek in
+    let pre = c.requires in
+    (pre, tested peek.ensures capital (sym capital'.ensures ∙ c.if-capital.false))

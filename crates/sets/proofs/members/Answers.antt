@@ -1,0 +1,125 @@
+use Prim.Native.Nat.{◌-◌}
+use mathlib.Core.Path.{sym, ◌∙◌}
+use native.Mathlib.Omega.{arith}
+use lib.ListN.{length}
+use borrow.Author.Rules.{rules}
+use borrow.Author.Tests.{not-true, not-false}
+use Rattle.syntax.specs.Syntax.{bar}
+use Rattle.spacing.proofs.Places.{tested}
+use Rattle.sets.proofs.Listing.{Listing, listing_start, listing-room, listing_none, listing-last, bar-in, listing-bad, listing-less, listing-on}
+use Rattle.sets.proofs.members.Goals as goal
+
+pub loop-q-init : goal.loop-q-init
+loop-q-init c = listing_start _ _ _ _ c.requires.place
+
+pub member-requires : goal.member-requires
+member-requires c =
+    let pre = c.requires in
+    listing-room _ _ _ _ _ _ _ c.loop-q.invariant (pre)
+
+pub shape_of-out-in_default : goal.shape_of-out-in_default
+shape_of-out-in_default c =
+    let member = c.member in
+    let loop = c.loop-q in
+    member.auto.1.1.0 ∙ loop.invariant.len
+
+pub returns-in_default : goal.returns-in_default
+returns-in_default c =
+    let member = c.member in
+    let loop = c.loop-q in
+    let args = c.args in
+    listing_none args.text.now args.p.0 args.out.now args.at.0 loop.out loop.from.0 loop.to.0 loop.invariant
+    (rw c.in_default.is at member.ensures)
+
+pub shape_of-out-then-not-bar : goal.shape_of-out-then-not-bar
+shape_of-out-then-not-bar c =
+    let member = c.member in
+    let loop = c.loop-q in
+    member.auto.1.1.0 ∙ loop.invariant.len
+
+pub returns-then-not-bar : goal.returns-then-not-bar
+returns-then-not-bar c =
+    let peek = c.peek in
+    let q = c.q-1 in
+    let member = c.member in
+    let loop = c.loop-q in
+    let args = c.args in
+    listing-last args.text.now args.p.0 args.out.now args.at.0 loop.out loop.from.0 loop.to.0 loop.invariant _ _ _
+    (rw q.given.1 at member.ensures) (tested peek.ensures bar (sym c.bar.ensures ∙ not-true _ c.if-not-bar.true))
+
+pub after-requires : goal.after-requires
+after-requires c =
+    let peek = c.peek in
+    let q = c.q-1 in
+    let member = c.member in
+    let loop = c.loop-q in
+    let args = c.args in
+    let good = c.well_formed in
+    omega (
+      arith,
+      bar-in args.text.now args.p.0 args.out.now args.at.0 loop.out loop.from.0 loop.to.0 loop.invariant _ _ _
+          (rw q.given.1 at member.ensures) (tested peek.ensures bar (sym c.bar.ensures ∙ not-false _ c.if-not-bar.false)),
+      good.0,
+    )
+
+pub skip-requires : goal.skip-requires
+skip-requires c =
+    let peek = c.peek in
+    let q = c.q-1 in
+    let member = c.member in
+    let loop = c.loop-q in
+    let args = c.args in
+    omega (
+      arith,
+      bar-in args.text.now args.p.0 args.out.now args.at.0 loop.out loop.from.0 loop.to.0 loop.invariant _ _ _
+          (rw q.given.1 at member.ensures) (tested peek.ensures bar (sym c.bar.ensures ∙ not-false _ c.if-not-bar.false)),
+      c.after.ensures,
+    )
+
+pub shape_of-out-in_default-skip : goal.shape_of-out-in_default-skip
+shape_of-out-in_default-skip c =
+    let member = c.member in
+    let loop = c.loop-q in
+    member.auto.1.1.0 ∙ loop.invariant.len
+
+pub returns-in_default-skip : goal.returns-in_default-skip
+returns-in_default-skip c =
+    let skip = c.skip in
+    let if1 = c.if-not-bar in
+    let bar' = c.bar in
+    let peek = c.peek in
+    let q = c.q-1 in
+    let member = c.member in
+    let loop = c.loop-q in
+    let args = c.args in
+    listing-bad args.text.now args.p.0 args.out.now args.at.0 loop.out loop.from.0 loop.to.0 loop.invariant _ _ _
+    (rw q.given.1 at member.ensures) (tested peek.ensures bar (sym bar'.ensures ∙ not-false _ if1.false))
+    (rw (c.after.ensures, c.in_default-skip.is) at skip.ensures)
+
+pub loop-q-smaller : goal.loop-q-smaller
+loop-q-smaller c =
+    let skip = c.skip in
+    let if1 = c.if-not-bar in
+    let bar' = c.bar in
+    let peek = c.peek in
+    let q = c.q-1 in
+    let member = c.member in
+    let loop = c.loop-q in
+    let args = c.args in
+    listing-less args.text.now args.p.0 args.out.now args.at.0 loop.out loop.from.0 loop.to.0 loop.invariant _ _ _
+    (rw q.given.1 at member.ensures) (tested peek.ensures bar (sym bar'.ensures ∙ not-false _ if1.false)) _
+    (rw (c.after.ensures, c.in-At-skip.is) at skip.ensures)
+
+pub loop-q-preserved : goal.loop-q-preserved
+loop-q-preserved c =
+    let skip = c.skip in
+    let if1 = c.if-not-bar in
+    let bar' = c.bar in
+    let peek = c.peek in
+    let q = c.q-1 in
+    let member = c.member in
+    let loop = c.loop-q in
+    let args = c.args in
+    listing-on args.text.now args.p.0 args.out.now args.at.0 loop.out loop.from.0 loop.to.0 loop.invariant _ _ _
+    (rw q.given.1 at member.ensures) (tested peek.ensures bar (sym bar'.ensures ∙ not-false _ if1.false)) _
+    (rw (c.after.ensures, c.in-At-skip.is) at skip.ensures) member.auto.1.1.0

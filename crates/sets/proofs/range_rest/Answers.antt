@@ -1,0 +1,47 @@
+use Rattle.sets.proofs.Sets.{rest-bad, rest-space, rest_in, rest_read}
+use borrow.Author.Rules.{rules}
+use native.Mathlib.Omega.{arith}
+use Rattle.sets.proofs.range_rest.Goals as goal
+
+pub skip-requires : goal.skip-requires
+skip-requires c = omega (arith, c.after.ensures)
+
+pub returns-in_default : goal.returns-in_default
+returns-in_default c =
+    let skip = c.skip in
+    let args = c.args in
+    rest-bad args.text.now args.p.0 (rw (c.after.ensures, c.in_default.is) at skip.ensures)
+
+pub chars-c-requires : goal.chars-c-requires
+chars-c-requires c =
+    let u = c.u-1 in
+    let skip = c.skip in
+    let args = c.args in
+    let pre = c.requires in
+    rest-space args.text.now args.p.0 _ _ pre.0 pre.1 _ (rw (c.after.ensures, u.given.1) at skip.ensures)
+
+pub spaced-requires : goal.spaced-requires
+spaced-requires c =
+    let range-end = c.range_end in
+    let chars = c.chars-c in
+    let u = c.u-1 in
+    let skip = c.skip in
+    let args = c.args in
+    let pre = c.requires in
+    rest_in args.text.now args.p.0 _ _ pre.0 pre.1 _ (rw
+    (c.after.ensures, u.given.1) at
+    skip.ensures) _ chars.auto.1.1.0 chars.result
+    chars.ensures range-end.result _ range-end.ensures
+
+pub returns : goal.returns
+returns c =
+    let range-end = c.range_end in
+    let chars = c.chars-c in
+    let u = c.u-1 in
+    let skip = c.skip in
+    let args = c.args in
+    let pre = c.requires in
+    rest_read args.text.now args.p.0 _ _ pre.0 pre.1 _ (rw
+    (c.after.ensures, u.given.1) at
+    skip.ensures) _ chars.auto.1.1.0
+    chars.result chars.ensures range-end.result _ range-end.ensures c.spaced.result c.spaced.ensures

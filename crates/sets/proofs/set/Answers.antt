@@ -1,0 +1,79 @@
+use native.Mathlib.Omega.{arith}
+use Rattle.spacing.proofs.Places.{is-ch, not-ch}
+use Rattle.sets.proofs.Sets.{seen-in}
+use Rattle.sets.proofs.Listing.{no-set, set-bad, set_room, set-cell, set-none, set-some}
+use borrow.Author.Rules.{rules}
+use Rattle.sets.proofs.set.Goals as goal
+
+pub returns-then-peek-ne-OPEN_SQUARE : goal.returns-then-peek-ne-OPEN_SQUARE
+returns-then-peek-ne-OPEN_SQUARE c =
+    let args = c.args in
+    no-set args.text.now args.p.0 (not-ch c.peek.ensures 0x5b c.if-peek-ne-OPEN_SQUARE.true)
+
+pub token-requires : goal.token-requires
+token-requires c =
+    let peek = c.peek in
+    let args = c.args in
+    let pre = c.requires in
+    let h = seen-in args.text.now args.p.0 _ 0x5b peek.ensures c.if-peek-ne-OPEN_SQUARE.false (omega arith) in
+    (h, omega (arith, h, pre.cells))
+
+pub returns-in_default : goal.returns-in_default
+returns-in_default c =
+    let token = c.token in
+    let if1 = c.if-peek-ne-OPEN_SQUARE in
+    let peek = c.peek in
+    let args = c.args in
+    set-bad args.text.now args.p.0 (is-ch peek.ensures 0x5b if1.false) (rw c.in_default.is at token.ensures)
+
+pub token-requires-then-peek-eq-CLOSE_SQUARE : goal.token-requires-then-peek-eq-CLOSE_SQUARE
+token-requires-then-peek-eq-CLOSE_SQUARE c =
+    let peek2 = c.peek-2 in
+    let v = c.v-1 in
+    let token = c.token in
+    let if1 = c.if-peek-ne-OPEN_SQUARE in
+    let peek = c.peek in
+    let args = c.args in
+    let pre = c.requires in (
+      (seen-in _ _ _ 0x5d peek2.ensures c.if-peek-eq-CLOSE_SQUARE.true (omega arith)),
+      set-cell args.text.now args.p.0 (is-ch peek.ensures 0x5b if1.false) _ args.out.now args.at.0 _ _ _
+          (rw v.given.1 at token.ensures) (pre) token.auto.1.1.1.0
+          (seen-in _ _ _ 0x5d peek2.ensures c.if-peek-eq-CLOSE_SQUARE.true (omega arith)),
+    )
+
+pub returns-then-peek-eq-CLOSE_SQUARE : goal.returns-then-peek-eq-CLOSE_SQUARE
+returns-then-peek-eq-CLOSE_SQUARE c =
+    let token2 = c.token-then-peek-eq-CLOSE_SQUARE in
+    let if2 = c.if-peek-eq-CLOSE_SQUARE in
+    let peek2 = c.peek-2 in
+    let v = c.v-1 in
+    let token = c.token in
+    let if1 = c.if-peek-ne-OPEN_SQUARE in
+    let peek = c.peek in
+    let args = c.args in
+    set-none args.text.now args.p.0 (is-ch peek.ensures 0x5b if1.false) _ args.out.now args.at.0 _ _ _
+    (rw v.given.1 at token.ensures) (is-ch peek2.ensures 0x5d if2.true) token2.result _ token2.ensures
+
+pub filled_set-requires : goal.filled_set-requires
+filled_set-requires c =
+    let v = c.v-1 in
+    let token = c.token in
+    let if1 = c.if-peek-ne-OPEN_SQUARE in
+    let peek = c.peek in
+    let args = c.args in
+    let pre = c.requires in
+    set_room args.text.now args.p.0 (is-ch peek.ensures 0x5b if1.false) _ args.out.now args.at.0 _ _ _
+    (rw v.given.1 at token.ensures) (pre) token.auto.1.1.1.0
+
+pub returns : goal.returns
+returns c =
+    let filled-set = c.filled_set in
+    let if2 = c.if-peek-eq-CLOSE_SQUARE in
+    let peek2 = c.peek-2 in
+    let v = c.v-1 in
+    let token = c.token in
+    let if1 = c.if-peek-ne-OPEN_SQUARE in
+    let peek = c.peek in
+    let args = c.args in
+    set-some args.text.now args.p.0 (is-ch peek.ensures 0x5b if1.false) _ args.out.now args.at.0 _ _ _
+    (rw v.given.1 at token.ensures) (not-ch peek2.ensures 0x5d if2.false) filled-set.result _ filled-set.ensures

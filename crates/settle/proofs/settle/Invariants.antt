@@ -1,0 +1,15 @@
+use mathlib.Core.Path.{◌≡◌, sym, ap, subst, ◌∙◌}
+use Prim.Native.Nat.{ℕ, ◌<◌, ◌+◌, ◌*◌}
+use native.Mathlib.Omega.{arith}
+use borrow.Author.Rules.{rules}
+use Rattle.heights.specs.Filling.{total}
+use Rattle.queue.specs.Queue.{count_of}
+use Rattle.sparse.specs.Cells.{Tables}
+use Rattle.settle.proofs.Waking.{Settling, settling-start, settling-from, settling-again, settling-less, settled}
+use Rattle.settle.proofs.settle.Given as goal
+
+abbrev pub invariant-loop-queue : goal.invariant-loop-queue
+invariant-loop-queue l = Settling l.code l.marks l.notes l.s.size l.s.n.0 l.s.i.0 l.s.j.0 l.initial.main l.main l.queue
+
+abbrev pub decreases-loop-queue : goal.decreases-loop-queue
+decreases-loop-queue l = 2 * total l.main + count_of l.queue

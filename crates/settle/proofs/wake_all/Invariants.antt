@@ -1,0 +1,16 @@
+use mathlib.Core.Path.{◌≡◌, sym, ap, subst, ◌∙◌}
+use Prim.Native.Nat.{ℕ, ◌<◌, ◌-◌}
+use native.Mathlib.Omega.{arith}
+use borrow.Author.Rules.{rules}
+use lib.ListN.{get_or}
+use Rattle.sparse.specs.Cells.{Tables}
+use Rattle.sparse.specs.Column.{Wakes}
+use Rattle.sparse.proofs.Rows.{in_table}
+use Rattle.settle.proofs.Waking.{Awake, awake-start, awake-next, wake-idle, all-woken}
+use Rattle.settle.proofs.wake_all.Given as goal
+
+abbrev pub invariant-loop-k : goal.invariant-loop-k
+invariant-loop-k l = Awake l.code l.marks l.notes l.s.size l.s.n.0 l.s.i.0 l.s.j.0 l.initial.main l.initial.queue l.main l.queue l.column l.k
+
+abbrev pub decreases-loop-k : goal.decreases-loop-k
+decreases-loop-k l = 512 - l.k

@@ -1,0 +1,55 @@
+use mathlib.Core.Path.{sym, ◌∙◌}
+use Rattle.syntax.specs.Syntax.{namefollower}
+use Rattle.spacing.proofs.Tests.{is-nd, is-mn}
+use Rattle.spacing.proofs.Ascii.{digit-follows, no_digit, no-mark}
+use borrow.Author.Rules.{rules}
+use Rattle.spacing.proofs.characters.name_follower.Goals as goal
+
+pub returns-then-between : goal.returns-then-between
+returns-then-between c = sym (digit-follows _ (sym c.between.ensures ∙ c.if-between.true))
+
+pub returns-then-name_start : goal.returns-then-name_start
+unfolding namefollower
+returns-then-name_start c = rw (sym c.name_start.ensures ∙ c.if-name_start.true)
+
+pub returns-then-connector : goal.returns-then-connector
+unfolding namefollower
+returns-then-connector c = rw (sym c.name_start.ensures ∙ c.if-name_start.false, sym c.connector.ensures ∙ c.if-connector.true)
+
+pub returns-then-c-lt-PAST_ASCII : goal.returns-then-c-lt-PAST_ASCII
+unfolding namefollower
+returns-then-c-lt-PAST_ASCII c =
+    let if3 = c.if-connector in
+    let connector = c.connector in
+    let if2 = c.if-name_start in
+    let name-start = c.name_start in
+    rw (
+      sym name-start.ensures ∙ if2.false,
+      sym connector.ensures ∙ if3.false,
+      no_digit _ c.if-c-lt-PAST_ASCII.true (sym c.between.ensures ∙ c.if-between.false),
+      no-mark _ c.if-c-lt-PAST_ASCII.true,
+    )
+
+pub returns-then-in_class : goal.returns-then-in_class
+unfolding namefollower
+returns-then-in_class c =
+    let if3 = c.if-connector in
+    let connector = c.connector in
+    let if2 = c.if-name_start in
+    let name-start = c.name_start in
+    rw (sym name-start.ensures ∙ if2.false, sym connector.ensures ∙ if3.false, is-nd _ c.in_class.ensures ∙ c.if-in_class.true)
+
+pub returns : goal.returns
+unfolding namefollower
+returns c =
+    let in-class = c.in_class in
+    let if3 = c.if-connector in
+    let connector = c.connector in
+    let if2 = c.if-name_start in
+    let name-start = c.name_start in
+    rw (
+      sym name-start.ensures ∙ if2.false,
+      sym connector.ensures ∙ if3.false,
+      is-nd _ in-class.ensures ∙ c.if-in_class.false,
+      is-mn _ c.in_class-2.ensures,
+    )

@@ -1,0 +1,57 @@
+use Prim.Native.Nat.{◌-◌}
+use mathlib.Core.Path.{sym, ◌∙◌}
+use native.Mathlib.Omega.{arith}
+use lib.ListN.{length}
+use borrow.Author.Rules.{rules}
+use borrow.Author.Tests.{not-true, not-false}
+use Rattle.spacing.proofs.Spacing.{inner-less, Outer, outer_start, outer-end, outer-white, outer-stop, outer-bad, outer-on}
+use Rattle.spacing.proofs.skip.Goals as goal
+
+pub loop-at-init : goal.loop-at-init
+loop-at-init c = outer_start _ _ c.requires
+
+pub offset_bounds-text-i : goal.offset_bounds-text-i
+offset_bounds-text-i c = omega arith
+
+pub bounds-text-i : goal.bounds-text-i
+bounds-text-i c = omega arith
+
+pub after-requires : goal.after-requires
+after-requires c = omega arith
+
+pub comment-requires : goal.comment-requires
+comment-requires c = omega (arith, c.after.ensures)
+
+pub returns-in_default : goal.returns-in_default
+returns-in_default c =
+    let comment = c.comment in let if1 = c.if-c-eq-OPEN_BRACE in let loop-test = c.loop-at-test in let loop = c.loop-at in outer-bad _ _ _
+    loop.invariant loop-test.true if1.true (rw (c.after.ensures, c.in_default.is) at comment.ensures)
+
+pub loop-at-smaller-then-c-eq-OPEN_BRACE : goal.loop-at-smaller-then-c-eq-OPEN_BRACE
+loop-at-smaller-then-c-eq-OPEN_BRACE c =
+    let comment = c.comment in let loop-test = c.loop-at-test in inner-less _ _ _ _ loop-test.true (rw
+    (c.after.ensures, c.in-At.is) at comment.ensures)
+
+pub loop-at-preserved-then-c-eq-OPEN_BRACE : goal.loop-at-preserved-then-c-eq-OPEN_BRACE
+loop-at-preserved-then-c-eq-OPEN_BRACE c =
+    let comment = c.comment in let if1 = c.if-c-eq-OPEN_BRACE in let loop-test = c.loop-at-test in let loop = c.loop-at in outer-on _ _ _
+    loop.invariant loop-test.true if1.true _ (rw (c.after.ensures, c.in-At.is) at comment.ensures)
+
+pub returns-then-not-whitespace : goal.returns-then-not-whitespace
+returns-then-not-whitespace c =
+    let if1 = c.if-c-eq-OPEN_BRACE in let loop-test = c.loop-at-test in let loop = c.loop-at in outer-stop _ _ _ loop.invariant loop-test.true
+    if1.false (sym c.whitespace.ensures ∙ not-true _ c.if-not-whitespace.true)
+
+pub after-at-requires : goal.after-at-requires
+after-at-requires c = omega arith
+
+pub loop-at-smaller : goal.loop-at-smaller
+loop-at-smaller c = omega (arith, c.after-at.ensures)
+
+pub loop-at-preserved : goal.loop-at-preserved
+loop-at-preserved c =
+    let loop-test = c.loop-at-test in let loop = c.loop-at in rw c.after-at.ensures (outer-white _ _ _ loop.invariant loop-test.true (sym
+    c.whitespace.ensures ∙ not-false _ c.if-not-whitespace.false))
+
+pub returns : goal.returns
+returns c = outer-end _ _ _ c.loop-at.invariant c.loop-at-test.false

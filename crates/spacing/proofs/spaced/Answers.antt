@@ -1,0 +1,23 @@
+use mathlib.Core.Path.{refl}
+use borrow.Author.Rules.{rules}
+use Rattle.spacing.proofs.spaced.Goals as goal
+
+pub returns-in_default : goal.returns-in_default
+returns-in_default c = rw c.in_default.is tt
+
+pub skip-requires : goal.skip-requires
+skip-requires c =
+    let pre = c.requires in
+    rw c.in-At.is at (pre)
+
+pub returns-in_default-skip : goal.returns-in_default-skip
+returns-in_default-skip c =
+    let skip = c.skip in
+    let step = c.step-1 in
+    rw step.given.1 (rw c.in_default-skip.is at skip.ensures)
+
+pub returns : goal.returns
+returns c =
+    let skip = c.skip in
+    let step = c.step-1 in
+    rw step.given.1 (record { skipped = rw c.in-At-skip.is at skip.ensures; cell = refl })

@@ -1,0 +1,40 @@
+use Prim.Native.Nat.{◌-◌, ◌+◌}
+use mathlib.Core.Path.{◌≡◌, refl, sym}
+use native.Mathlib.Omega.{arith}
+use Rattle.static_errors.proofs.Scans as law
+use Rattle.static_errors.proofs.heads.Goals as goal
+
+pub loop-k-init : goal.loop-k-init
+loop-k-init c = law.start c.args.table.now c.args.end c.args.index.now
+
+pub note-n-requires : goal.note-n-requires
+note-n-requires c =
+    let l = c.loop-k in
+    law.ready c.args.table.now c.args.end c.args.index.now l.index l.n l.k l.invariant c.requires c.loop-k-test.true
+
+pub token_end-k-requires : goal.token_end-k-requires
+token_end-k-requires c =
+    let l = c.loop-k in
+    (law.ready c.args.table.now c.args.end c.args.index.now l.index l.n l.k l.invariant c.requires c.loop-k-test.true).fits
+
+pub loop-k-smaller : goal.loop-k-smaller
+loop-k-smaller c =
+    let l = c.loop-k in
+    let q = c.token_end-k.ensures in
+    let t = c.loop-k-test.true in
+    omega (arith, law.some_size c.args.table.now c.args.end c.args.index.now l.index l.n l.k l.invariant c.requires t)
+
+pub loop-k-preserved : goal.loop-k-preserved
+loop-k-preserved c =
+    let l = c.loop-k in
+    let n = c.note-n in
+    law.next c.args.table.now c.args.end c.args.index.now l.index l.n l.k l.invariant c.requires c.loop-k-test.true
+    n.result _ n.ensures c.token_end-k.result c.token_end-k.ensures
+
+pub shape_of-index : goal.shape_of-index
+shape_of-index c = c.loop-k.invariant.same
+
+pub returns : goal.returns
+returns c =
+    law.done c.args.table.now c.args.end c.args.index.now c.loop-k.index c.loop-k.n
+    c.loop-k.k c.loop-k.invariant c.requires c.loop-k-test.false

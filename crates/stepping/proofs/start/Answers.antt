@@ -1,0 +1,40 @@
+use Rattle.answer.specs.Answer.{job}
+use Rattle.opening.proofs.Starts.{begun-at}
+use lib.ListN.{length}
+use Rattle.stepping.proofs.Starts.{grammar-fits, input-fits, start-room}
+use Rattle.stepping.proofs.Calls.{started-refused, started-done}
+use borrow.Author.Rules.{rules}
+use native.Mathlib.Omega.{arith}
+use Rattle.stepping.proofs.start.Goals as goal
+
+pub returns-in_default : goal.returns-in_default
+returns-in_default c =
+    let j = job c.args.grammar.now c.args.record.now (length c.args.main.now) c.args.second in
+    started-refused j _ _ _ _ _ _ _ _ c.in_default.is c.why_begun.ensures c.begin-begun.ensures c.refuse.ensures c.wipe.ensures
+
+pub need-need-requires : goal.need-need-requires
+need-need-requires c =
+    let j = job c.args.grammar.now c.args.record.now (length c.args.main.now) c.args.second in
+    let w = begun-at j _ _ _ _ c.in-At.is c.begin-begun.ensures in
+    (omega (arith, w.grammar.sized, w.grammar.small), omega (arith, w.input.count, w.input.short))
+
+pub clear-requires : goal.clear-requires
+clear-requires c =
+    let j = job c.args.grammar.now c.args.record.now (length c.args.main.now) c.args.second in
+    let w = begun-at j _ _ _ _ c.in-At.is c.begin-begun.ensures in
+    start-room j _ _ _ w _ c.need-need.ensures
+
+pub begin-requires : goal.begin-requires
+begin-requires c =
+    let j = job c.args.grammar.now c.args.record.now (length c.args.main.now) c.args.second in
+    let w = begun-at j _ _ _ _ c.in-At.is c.begin-begun.ensures in (
+      c.requires,
+      grammar-fits j w,
+      input-fits j w,
+    )
+
+pub returns : goal.returns
+returns c =
+    let j = job c.args.grammar.now c.args.record.now (length c.args.main.now) c.args.second in
+    let w = begun-at j _ _ _ _ c.in-At.is c.begin-begun.ensures in
+    started-done j _ _ _ _ _ _ _ w c.answered.ensures c.clear.auto.0 _ c.need-need.ensures c.clear.ensures c.begin.ensures

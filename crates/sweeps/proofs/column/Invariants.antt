@@ -1,0 +1,19 @@
+use mathlib.Core.Path.{◌≡◌, refl, ◌∙◌}
+use Prim.Native.Nat.{◌+◌, ◌-◌, ◌≤◌}
+use native.Mathlib.Omega.{arith}
+use lib.ListN.{length}
+use borrow.Author.Rules.{rules}
+use Rattle.heights.specs.Filling.{EndsAt}
+use Rattle.sweeps.specs.Layers.{Running, Passed}
+use Rattle.sweeps.proofs.Visits.{told}
+use Rattle.sweeps.proofs.Passes.{FromStart, starts-start, starts-next, starts-all}
+use Rattle.sweeps.proofs.column.Given as goal
+
+abbrev pub invariant-loop-i : goal.invariant-loop-i
+invariant-loop-i l =
+    (l.i ≤ l.j + 1) × (length l.main ≡ length l.initial.main)
+    × (Running l.code l.fits l.layer.size l.layer.n l.layer.height l.initial.main
+    → Passed l.code l.fits l.layer.size l.layer.n l.layer.height (EndsAt l.j) (FromStart l.code l.fits l.layer.size l.layer.n l.layer.height l.j l.i) l.initial.main l.added l.main)
+
+abbrev pub decreases-loop-i : goal.decreases-loop-i
+decreases-loop-i l = l.i

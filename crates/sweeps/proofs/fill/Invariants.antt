@@ -1,0 +1,18 @@
+use mathlib.Core.Path.{◌≡◌, refl, ◌∙◌}
+use Prim.Native.Nat.{◌+◌, ◌-◌, ◌*◌}
+use native.Mathlib.Omega.{arith}
+use lib.ListN.{length}
+use Rattle.chart.specs.Heights.{stretches}
+use Rattle.chart.proofs.Cells.{square-fits, rows_fit}
+use Rattle.heights.specs.Table.{Shape}
+use Rattle.heights.proofs.Small.{count}
+use Rattle.heights.proofs.Exact.{filled}
+use Rattle.sweeps.proofs.Ending.{Rising, rising-start, below_none, more-cells, rising-next, settled, fewer}
+use Rattle.sweeps.proofs.fill.Given as goal
+
+abbrev pub invariant-loop-height : goal.invariant-loop-height
+invariant-loop-height l =
+    (length l.main ≡ length l.initial.main) × ((sh : Shape l.code l.size l.n (length l.initial.main)) → Rising l.code l.fits l.size l.n (length l.initial.main) sh l.height l.initial.main l.main)
+
+abbrev pub decreases-loop-height : goal.decreases-loop-height
+decreases-loop-height l = l.size * stretches l.n - count l.main (l.size * stretches l.n)

@@ -1,0 +1,46 @@
+use mathlib.Core.Path.{◌≡◌, refl, ◌∙◌}
+use Prim.Native.Nat.{◌+◌, ◌-◌, ◌≤◌}
+use native.Mathlib.Omega.{arith}
+use lib.ListN.{length}
+use borrow.Author.Rules.{rules}
+use Rattle.heights.specs.Filling.{Any}
+use Rattle.sweeps.specs.Layers.{Running, Passed}
+use Rattle.sweeps.proofs.Visits.{told}
+use Rattle.sweeps.proofs.Passes.{BeforeEnd, ends-start, ends_next, begun, swept-by}
+use Rattle.sweeps.proofs.sweep.Goals as goal
+
+pub loop-j-init : goal.loop-j-init
+loop-j-init c =
+    let a = c.args in
+    (omega arith, refl, ends-start a.code.now a.fits.now a.size a.n a.height)
+
+pub column-here-requires : goal.column-here-requires
+column-here-requires c =
+    (rw c.loop-j.invariant.1 c.requires, omega (arith, c.loop-j-test.true))
+
+pub overflow_add-j : goal.overflow_add-j
+overflow_add-j c =
+    omega (arith, c.loop-j-test.true, c.requires.shape.cells.short)
+
+pub loop-j-smaller : goal.loop-j-smaller
+loop-j-smaller c =
+    omega (arith, c.loop-j-test.true)
+
+pub loop-j-preserved : goal.loop-j-preserved
+loop-j-preserved c =
+    let a = c.args in (
+      omega (arith, c.loop-j-test.true),
+      c.column-here.auto.1.1.0 ∙ c.loop-j.invariant.1,
+      λ run. told c.either-added.ensures (ends_next a.code.now a.fits.now a.size a.n a.height c.loop-j.j
+          (omega (arith, c.loop-j-test.true))
+          (c.loop-j.invariant.2 run) (c.column-here.ensures (c.loop-j.invariant.2 run).running)),
+    )
+
+pub shape_of-main : goal.shape_of-main
+shape_of-main c = c.loop-j.invariant.1
+
+pub returns : goal.returns
+returns c =
+    let a = c.args in
+    λ l up. swept-by a.code.now a.fits.now a.size a.n a.height c.loop-j.j (omega (arith, c.loop-j.invariant.0, c.loop-j-test.false))
+    (c.loop-j.invariant.2 (begun a.code.now a.fits.now a.size a.n a.height l up))

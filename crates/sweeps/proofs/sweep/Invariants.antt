@@ -1,0 +1,18 @@
+use mathlib.Core.Path.{◌≡◌, refl, ◌∙◌}
+use Prim.Native.Nat.{◌+◌, ◌-◌, ◌≤◌}
+use native.Mathlib.Omega.{arith}
+use lib.ListN.{length}
+use borrow.Author.Rules.{rules}
+use Rattle.heights.specs.Filling.{Any}
+use Rattle.sweeps.specs.Layers.{Running, Passed}
+use Rattle.sweeps.proofs.Visits.{told}
+use Rattle.sweeps.proofs.Passes.{BeforeEnd, ends-start, ends_next, begun, swept-by}
+use Rattle.sweeps.proofs.sweep.Given as goal
+
+abbrev pub invariant-loop-j : goal.invariant-loop-j
+invariant-loop-j l =
+    (l.j ≤ l.n + 1) × (length l.main ≡ length l.initial.main)
+    × (Running l.code l.fits l.size l.n l.height l.initial.main → Passed l.code l.fits l.size l.n l.height Any (BeforeEnd l.code l.fits l.size l.n l.height l.j) l.initial.main l.added l.main)
+
+abbrev pub decreases-loop-j : goal.decreases-loop-j
+decreases-loop-j l = l.n + 1 - l.j

@@ -1,0 +1,8 @@
+use mathlib.Core.Path.{◌≡◌, refl, sym}
+use native.Mathlib.Omega.{arith}
+use Rattle.encode.proofs.Puts.{wrote_as, and_then}
+use borrow.Author.Rules.{rules}
+use Rattle.tags.proofs.put_text.Goals as goal
+
+pub returns : goal.returns
+returns c = (refl, λ t s. and_then c.put_lead-q.ensures (wrote_as (sym (s.same 1 (λ e. omega arith))) c.put_piece-pos.ensures))

@@ -1,0 +1,38 @@
+use native.Mathlib.Omega.{arith}
+use mathlib.Core.Path.{◌≡◌, sym, ◌∙◌, ap}
+use Prim.Native.Nat.{◌-◌}
+use lib.ListN.{length}
+use Rattle.terminals.proofs.MemberPlaces.{Going, go-start, go-end, members-some, go-head, go-found, go-next, head-here, head-inside, head-steps, head-match}
+use Rattle.plain.specs.Plain.{is_member}
+use Rattle.terminals.proofs.any_member.Goals as goal
+
+pub loop-at-init : goal.loop-at-init
+loop-at-init c = go-start (is_member c.args.c) c.requires
+
+pub offset_bounds-table-at : goal.offset_bounds-table-at
+offset_bounds-table-at c = omega (arith, members-some c.loop-at.invariant.here.members c.loop-at.invariant.here.are, c.loop-at.invariant.here.small)
+
+pub bounds-table-at : goal.bounds-table-at
+bounds-table-at c = omega (arith, members-some c.loop-at.invariant.here.members c.loop-at.invariant.here.are, c.loop-at.invariant.here.small)
+
+pub member_matches-requires : goal.member_matches-requires
+member_matches-requires c = head-here (go-head c.loop-at.invariant c.loop-at-test.true) c.loop-at.invariant.here.small
+
+pub returns-then-member_matches : goal.returns-then-member_matches
+returns-then-member_matches c = go-found c.loop-at.invariant c.loop-at-test.true c.member_matches.result
+    (λ ms h. c.member_matches.ensures ∙ head-match h c.args.c) c.if-member_matches.true
+
+pub token_end-at-requires : goal.token_end-at-requires
+token_end-at-requires c = head-inside (go-head c.loop-at.invariant c.loop-at-test.true)
+
+pub loop-at-smaller : goal.loop-at-smaller
+loop-at-smaller c =
+    omega (arith, c.token_end-at.ensures, head-steps (go-head c.loop-at.invariant c.loop-at-test.true), head-inside (go-head c.loop-at.invariant c.loop-at-test.true))
+
+pub loop-at-preserved : goal.loop-at-preserved
+loop-at-preserved c =
+    rw c.token_end-at.ensures (go-next c.loop-at.invariant c.loop-at-test.true c.member_matches.result
+    (λ ms h. c.member_matches.ensures ∙ head-match h c.args.c) c.if-member_matches.false)
+
+pub returns : goal.returns
+returns c = go-end c.loop-at.invariant c.loop-at-test.false

@@ -1,0 +1,10 @@
+use native.Mathlib.Omega.{arith}
+use Prim.Native.Nat.{◌-◌}
+use Rattle.terminals.proofs.Stretches.{Spelling, spell-short, spell-start, spell-end, spell-differs, spell-more}
+use Rattle.terminals.proofs.spells.Given as goal
+
+abbrev pub invariant-loop-k : goal.invariant-loop-k
+invariant-loop-k l = Spelling l.table l.at l.n l.text l.i.0 l.k
+
+abbrev pub decreases-loop-k : goal.decreases-loop-k
+decreases-loop-k l = l.n - l.k

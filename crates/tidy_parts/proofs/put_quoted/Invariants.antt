@@ -1,0 +1,19 @@
+use mathlib.Core.Path.{◌≡◌, refl}
+use Prim.Native.Nat.{ℕ, ◌+◌, ◌≤◌}
+use native.Mathlib.Omega.{arith}
+use lib.ListN.{length, take, drop}
+use Rattle.text.specs.Lists.{concat_map}
+use Rattle.tidy.specs.Tidy.{quoted_char}
+use Rattle.encode.specs.Out.{state, puts, enc}
+use Rattle.encode.proofs.Texts.{text-on}
+use Rattle.tidy_parts.proofs.Parts.{quotes-around}
+use borrow.Author.Rules.{rules}
+use Rattle.tidy_parts.proofs.put_quoted.Given as goal
+
+abbrev pub invariant-loop-n : goal.invariant-loop-n
+invariant-loop-n l =
+    (length l.out ≡ length l.initial.out) × (l.i + l.n ≤ length l.t) × (puts l.limit.0 (state l.q.0 l.out) (enc (concat_map quoted_char (take l.n (drop l.i l.t))))
+    ≡ puts l.limit.0 (state l.initial.q.0 l.initial.out) (enc (concat_map quoted_char (take l.count (drop l.from l.t)))))
+
+abbrev pub decreases-loop-n : goal.decreases-loop-n
+decreases-loop-n l = l.n

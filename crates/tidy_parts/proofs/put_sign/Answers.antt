@@ -1,0 +1,37 @@
+use mathlib.Core.Path.{◌≡◌, refl}
+use Rattle.text.specs.Utf8.{utf8}
+use Rattle.encode.specs.Out.{enc}
+use Rattle.encode.proofs.Puts.{wrote-bytes, wrote_none, wrote-text}
+use Rattle.tidy_parts.proofs.Parts.{sign-0, sign-1, sign-2, sign-3}
+use borrow.Author.Rules.{rules}
+use Rattle.tidy_parts.proofs.put_sign.Reads as reads
+use Rattle.encode.proofs.put.Reads as put_reads
+use Rattle.tidy_parts.proofs.put_sign.Goals as goal
+
+-- src/lib.rt:17:9
+pub returns-then-mark-eq-INCLUDED : goal.returns-then-mark-eq-INCLUDED
+unfolding enc utf8
+returns-then-mark-eq-INCLUDED c = wrote-text (sign-1 c.args.mark c.if-mark-eq-INCLUDED.true) (wrote-bytes _ c.put.ensures refl)
+
+-- src/lib.rt:20:9
+pub returns-then-mark-eq-ATTRIBUTE : goal.returns-then-mark-eq-ATTRIBUTE
+unfolding enc utf8
+returns-then-mark-eq-ATTRIBUTE c =
+    wrote-text (sign-2 c.args.mark
+    c.if-mark-eq-INCLUDED.false
+    c.if-mark-eq-ATTRIBUTE.true)
+    (wrote-bytes _ c.put-then-mark-eq-ATTRIBUTE.ensures refl)
+
+-- src/lib.rt:23:9
+pub returns-then-mark-eq-DELETED : goal.returns-then-mark-eq-DELETED
+unfolding enc utf8
+returns-then-mark-eq-DELETED c =
+    wrote-text (sign-3 c.args.mark
+    c.if-mark-eq-INCLUDED.false
+    c.if-mark-eq-ATTRIBUTE.false
+    c.if-mark-eq-DELETED.true)
+    (wrote-bytes _ c.put-then-mark-eq-DELETED.ensures refl)
+
+-- src/lib.rt:12:1
+pub returns : goal.returns
+returns c = wrote-text (sign-0 c.args.mark c.if-mark-eq-INCLUDED.false c.if-mark-eq-ATTRIBUTE.false c.if-mark-eq-DELETED.false) wrote_none

@@ -1,0 +1,23 @@
+use mathlib.Core.Path.{◌≡◌, refl, ap}
+use native.Mathlib.Omega.{arith}
+use Rattle.xml.specs.Document.{document}
+use Rattle.xml.specs.Bytes.{bytes}
+use Rattle.tags.specs.declared.Output.{Output}
+use Rattle.writer.proofs.Whole.{documented, document-fits, all-written}
+use borrow.Author.Rules.{rules}
+use Rattle.writer.proofs.write_fitting.Goals as goal
+
+pub put_document-n-requires : goal.put_document-n-requires
+put_document-n-requires c =
+    let l = ap (λ (o : Output). o.limit.0) c.fresh-all.ensures in
+    ((omega (arith, l), ap (λ (o : Output). o.unclosed) c.fresh-all.ensures), c.requires.1)
+
+pub returns : goal.returns
+returns c =
+    record {
+      answered = λ g t J W C.
+          let a = c.args in
+          all-written c.put_document-n.result.0 c.put_document-n.new.1.1.1.1.1.0 a.out.now
+          (bytes a.plan.due.ambiguous a.plan.due.mismatch (document g a.«record».now t))
+          (document-fits a.plan W C c.requires.0) (documented c.fresh-all.ensures c.put_document-n.ensures J W C);
+    }

@@ -1,0 +1,6 @@
+use borrow.Author.Rules.{rules}
+use Rattle.writer.proofs.write_xml.Goals as goal
+
+pub write_fitting-requires : goal.write_fitting-requires
+write_fitting-requires c =
+    (c.fits.ensures c.if-fits.true, c.requires)
