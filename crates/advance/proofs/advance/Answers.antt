@@ -15,7 +15,7 @@ shape_of-main-then-not-sweep c =
 
 pub returns-then-not-sweep : goal.returns-then-not-sweep
 returns-then-not-sweep c =
-    λ up. idled (not-true c.sweep.result c.if-not-sweep.true) (c.sweep.ensures (omega (arith, c.requires.1, c.requires.2)) up)
+    λ up. idled c.if-not-sweep.true (c.sweep.ensures (omega (arith, c.requires.1, c.requires.2)) up)
 
 pub overflow_add-done : goal.overflow_add-done
 overflow_add-done c =
@@ -27,7 +27,7 @@ shape_of-main-then-done-most c =
 
 pub returns-then-done-most : goal.returns-then-done-most
 returns-then-done-most c =
-    λ up. went_on (not-false c.sweep.result c.if-not-sweep.false) c.if-done-most.true (c.sweep.ensures (omega (arith, c.requires.1, c.requires.2)) up)
+    λ up. went_on c.if-not-sweep.false c.if-done-most.true (c.sweep.ensures (omega (arith, c.requires.1, c.requires.2)) up)
 
 pub sweep-requires-2 : goal.sweep-requires-2
 sweep-requires-2 c =
@@ -40,4 +40,4 @@ shape_of-main c =
 pub returns : goal.returns
 returns c =
     λ up. (let s = c.sweep.ensures (omega (arith, c.requires.1, c.requires.2)) up in
-    closed (not-false c.sweep.result c.if-not-sweep.false) (omega (arith, c.if-done-most.false)) s (c.sweep-2.ensures (omega (arith, c.requires.1, c.requires.2)) s.upto))
+    closed c.if-not-sweep.false (omega (arith, c.if-done-most.false)) s (c.sweep-2.ensures (omega (arith, c.requires.1, c.requires.2)) s.upto))

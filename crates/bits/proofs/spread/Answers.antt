@@ -8,8 +8,6 @@ use Rattle.bits.specs.Bits.{bit_of, Lit, Has}
 use Rattle.bits.proofs.Laws.{masked-next, spread-next}
 use Rattle.bits.proofs.spread.Goals as goal
 
-}
-
 pub loop-b-init : goal.loop-b-init
 loop-b-init c = (omega arith, λ x h. absurd (omega (arith, h)), refl, λ l x h. absurd (omega (arith, h)))
 
@@ -26,3 +24,4 @@ pub returns : goal.returns
 returns c = record {
   is = λ x h. c.loop-b.invariant.1 x (omega (arith, c.loop-b-test.false, h));
   all = λ l x h. c.loop-b.invariant.3 l x (omega (arith, c.loop-b-test.false, h));
+}

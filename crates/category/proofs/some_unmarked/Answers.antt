@@ -39,7 +39,7 @@ returns-then-not-either c =
     let categories = c.args.categories.now in
     unmarked-here places categories c.loop-k.k h
     (ap (λ (n : ℕ). get_or places c.loop-k.k false || get_or categories n false) (sym (by_place c.loop-k.k h))
-    ∙ sym c.either.ensures ∙ not-true c.either.result c.if-not-either.true)
+    ∙ sym c.either.ensures ∙ c.if-not-either.true)
 
 pub overflow_add-k : goal.overflow_add-k
 overflow_add-k c = omega (arith, c.loop-k-test.true)
@@ -56,7 +56,7 @@ loop-k-preserved c =
       omega (arith, h),
       below_more _ _ c.loop-k.invariant.1
           (ap (λ (n : ℕ). get_or places c.loop-k.k false || get_or categories n false) (sym (by_place c.loop-k.k h))
-          ∙ sym c.either.ensures ∙ not-false c.either.result c.if-not-either.false),
+          ∙ sym c.either.ensures ∙ c.if-not-either.false),
     )
 
 pub returns : goal.returns

@@ -6,8 +6,6 @@ use Rattle.chart.specs.Heights.{none}
 use Rattle.chart.proofs.Cells.{clear_next}
 use Rattle.chart.proofs.clear.Goals as goal
 
-)
-
 pub loop-x-init : goal.loop-x-init
 loop-x-init c = (omega arith, refl, λ y h. absurd (omega arith))
 
@@ -30,6 +28,7 @@ loop-x-preserved c = (
       ∙ c.loop-x.invariant.1,
   clear_next c.loop-x.main c.loop-x.x
       (omega (arith, c.loop-x-test.true, c.loop-x.invariant.1, c.requires)) c.loop-x.invariant.2,
+)
 
 pub shape_of-main : goal.shape_of-main
 shape_of-main c = c.loop-x.invariant.1

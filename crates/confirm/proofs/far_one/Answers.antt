@@ -12,7 +12,7 @@ use Rattle.confirm.proofs.Reaches.{one_none, one-old, one-new}
 use Rattle.confirm.proofs.far_one.Goals as goal
 
 pub returns-then-not-on : goal.returns-then-not-on
-returns-then-not-on c = one_none (λ o l. true≢false (sym o ∙ not-true _ c.if-not-on.true))
+returns-then-not-on c = one_none (λ o l. true≢false (sym o ∙ c.if-not-on.true))
 
 pub returns-then-text-x : goal.returns-then-text-x
 returns-then-text-x c = one_none (λ o l. omega (arith, l, c.if-text-x.true))
@@ -32,4 +32,4 @@ returns-then-reached-best c =
 pub returns : goal.returns
 returns c =
     one-new (record { tokened = c.requires.0.tokened; short = c.requires.0.short; on = c.if-text-x.false }) c.requires.1 c.begun.ensures.0
-    c.begun.ensures.1 (omega (arith, c.if-reached-best.false)) (not-false _ c.if-not-on.false)
+    c.begun.ensures.1 (omega (arith, c.if-reached-best.false)) c.if-not-on.false

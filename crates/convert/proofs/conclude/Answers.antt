@@ -11,7 +11,7 @@ first_error-review-requires c =
 pub returns-in_default : goal.returns-in_default
 returns-in_default c =
     λ g t p. forbidden c.requires.noted c.first_error-review.ensures g t _ _ _ _ p c.why.ensures
-    (λ z. some-verdict c.first_error-review.result.verdict c.in_default.keys2 (sym c.why.ensures ∙ z))
+    (λ z. some-verdict c.first_error-review.result.verdict c.in_default.in_default-own.keys2 (sym c.why.ensures ∙ z))
 
 pub write_xml-written-requires : goal.write_xml-written-requires
 write_xml-written-requires c =

@@ -19,7 +19,7 @@ pub returns-then-not-is_digit : goal.returns-then-not-is_digit
 returns-then-not-is_digit c =
     let text = c.args.text.now in
     let n = c.loop-n.n in
-    sym (c.loop-n.invariant.1 ∙ ap (λ (k : ℕ). k + n) (no_more text n c.loop-n-test.true (sym c.is_digit.ensures ∙ not-true _ c.if-not-is_digit.true)) ∙ zero-add n)
+    sym (c.loop-n.invariant.1 ∙ ap (λ (k : ℕ). k + n) (no_more text n c.loop-n-test.true (sym c.is_digit.ensures ∙ c.if-not-is_digit.true)) ∙ zero-add n)
 
 pub overflow_add-n : goal.overflow_add-n
 overflow_add-n c = omega arith
@@ -30,7 +30,7 @@ loop-n-smaller c = omega arith
 pub loop-n-preserved : goal.loop-n-preserved
 loop-n-preserved c =
     let text = c.args.text.now in
-    let e = one_more text c.loop-n.n c.loop-n-test.true (sym c.is_digit.ensures ∙ not-false _ c.if-not-is_digit.false) in
+    let e = one_more text c.loop-n.n c.loop-n-test.true (sym c.is_digit.ensures ∙ c.if-not-is_digit.false) in
     (omega arith, omega (arith, e, c.loop-n.invariant.1))
 
 pub returns : goal.returns

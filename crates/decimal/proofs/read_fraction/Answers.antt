@@ -23,19 +23,19 @@ returns-then-rest-ne46 c =
 pub returns-then-not-is_fraction : goal.returns-then-not-is_fraction
 returns-then-not-is_fraction c =
     let rest = c.args.rest.now in
-    let bad = ap is_fraction (sym (from_place 1 rest)) ∙ sym c.is_fraction.ensures ∙ not-true _ c.if-not-is_fraction.true in
+    let bad = ap is_fraction (sym (from_place 1 rest)) ∙ sym c.is_fraction.ensures ∙ c.if-not-is_fraction.true in
     bad-fraction _ _ rest c.if-rest-lt1.false c.if-rest-ne46.false bad
 
 pub value-requires-2 : goal.value-requires-2
 value-requires-2 c =
     let rest = c.args.rest.now in
-    short-fraction (take (length rest - 1) (drop 1 rest)) (sym c.is_fraction.ensures ∙ not-false _ c.if-not-is_fraction.false)
+    short-fraction (take (length rest - 1) (drop 1 rest)) (sym c.is_fraction.ensures ∙ c.if-not-is_fraction.false)
 
 pub returns : goal.returns
 returns c =
     let args = c.args in
     let rest = args.rest.now in
     let tail = from_place 1 rest in
-    let good = ap is_fraction (sym tail) ∙ sym c.is_fraction.ensures ∙ not-false _ c.if-not-is_fraction.false in
+    let good = ap is_fraction (sym tail) ∙ sym c.is_fraction.ensures ∙ c.if-not-is_fraction.false in
     ap Value (c.value-2.ensures ∙ ap (λ (f : Text). value_of (decimal args.minus args.whole.now f)) tail)
     ∙ good-fraction _ _ rest c.if-rest-lt1.false c.if-rest-ne46.false good

@@ -9,13 +9,12 @@ use Rattle.decode.proofs.Bytes as bytes
 use Rattle.decode.proofs.Scans as law
 use Rattle.decode.proofs.scan.Goals as goal
 
-shared-slice-read-lead-of :
-    tie.Need-shared-slice-read-lead-of invariant-loop decreases-loop invariant-characters decreases-characters
-shared-slice-read-lead-of c = omega arith
-
 pub characters-init : goal.characters-init
 characters-init c =
     law.start (test_of c.args.pattern) c.args.bytes.now c.args.from.0 c.args.out.now c.requires
+
+pub bounds-bytes-i : goal.bounds-bytes-i
+bounds-bytes-i c = omega arith
 
 pub after_byte-next-requires : goal.after_byte-next-requires
 after_byte-next-requires c = omega (arith, c.if-bytes-i.false)
@@ -31,7 +30,7 @@ bounds-bytes-j c = omega (arith, c.if-bytes-j.false)
 pub with_byte-s-requires : goal.with_byte-s-requires
 with_byte-s-requires c =
     bytes.takes c.args.bytes.now c.characters.at.0 c.loop-s.next.0 c.loop-s.s c.loop-s.invariant
-    c.loop-s-test.true c.if-bytes-j.false _ refl (sym c.follows.ensures ∙ not-false _ c.if-not-follows.false)
+    c.loop-s-test.true c.if-bytes-j.false _ refl (sym c.follows.ensures ∙ c.if-not-follows.false)
 
 pub after_byte-next-requires-in-loop-s : goal.after_byte-next-requires-in-loop-s
 after_byte-next-requires-in-loop-s c = omega (arith, c.if-bytes-j.false)
@@ -43,7 +42,7 @@ loop-s-smaller c =
 pub loop-s-preserved : goal.loop-s-preserved
 loop-s-preserved c =
     bytes.next c.args.bytes.now c.characters.at.0 c.loop-s.next.0 c.loop-s.s c.loop-s.invariant
-    c.loop-s-test.true c.if-bytes-j.false _ refl (sym c.follows.ensures ∙ not-false _ c.if-not-follows.false)
+    c.loop-s-test.true c.if-bytes-j.false _ refl (sym c.follows.ensures ∙ c.if-not-follows.false)
     c.with_byte-s.result c.with_byte-s.ensures c.after_byte-next-in-loop-s.result.0 c.after_byte-next-in-loop-s.ensures
 
 pub after-n-requires : goal.after-n-requires
@@ -58,7 +57,7 @@ pub characters-preserved : goal.characters-preserved
 characters-preserved c =
     law.next c.characters.invariant c.loop-s.s.bits c.loop-s.next.0 c.loop-s.invariant.begun
     c.loop-s.invariant.within (bytes.done c.args.bytes.now c.characters.at.0 c.loop-s.next.0
-    c.loop-s.s c.loop-s.invariant c.loop-s-test.false) (sym (not-false _ c.if-not-fits.false) ∙ c.fits.ensures) _
+    c.loop-s.s c.loop-s.invariant c.loop-s-test.false) (sym c.if-not-fits.false ∙ c.fits.ensures) _
     c.keep.ensures c.after-n.result.0 c.after-n.ensures
 
 pub shape_of-out-then-bytes-i : goal.shape_of-out-then-bytes-i
@@ -93,7 +92,7 @@ pub returns-then-not-follows : goal.returns-then-not-follows
 returns-then-not-follows c =
     law.breaks c.characters.invariant c.if-bytes-i.false _ refl (bytes.other c.args.bytes.now
     c.characters.at.0 c.loop-s.next.0 c.loop-s.s c.loop-s.invariant c.loop-s-test.true
-    c.if-bytes-j.false _ refl (sym c.follows.ensures ∙ not-true _ c.if-not-follows.true))
+    c.if-bytes-j.false _ refl (sym c.follows.ensures ∙ c.if-not-follows.true))
 
 pub shape_of-out-then-not-fits : goal.shape_of-out-then-not-fits
 shape_of-out-then-not-fits c =
@@ -103,4 +102,4 @@ pub returns-then-not-fits : goal.returns-then-not-fits
 returns-then-not-fits c =
     law.unfit c.characters.invariant c.if-bytes-i.false _ refl c.loop-s.s.bits _ _ (bytes.done c.args.bytes.now
     c.characters.at.0 c.loop-s.next.0 c.loop-s.s c.loop-s.invariant c.loop-s-test.false) (sym
-    (not-true _ c.if-not-fits.true) ∙ c.fits.ensures)
+    c.if-not-fits.true ∙ c.fits.ensures)

@@ -40,7 +40,7 @@ next_use-x-requires-in-loop-x c =
 
 pub loop-x-smaller : goal.loop-x-smaller
 loop-x-smaller c =
-    c.lower.ensures.fell (not-false _ c.if-not-lower.false)
+    c.lower.ensures.fell c.if-not-lower.false
 
 pub loop-x-preserved : goal.loop-x-preserved
 loop-x-preserved c =

@@ -5,8 +5,8 @@ use Rattle.empties.proofs.lower_on.Goals as goal
 
 pub returns-then-not-lower : goal.returns-then-not-lower
 returns-then-not-lower c =
-    moved-not (not-true _ c.if-not-lower.true) c.lower.ensures
+    moved-not c.if-not-lower.true c.lower.ensures
 
 pub returns : goal.returns
 returns c =
-    moved_on (not-false _ c.if-not-lower.false) c.lower.ensures c.follow.ensures
+    moved_on c.if-not-lower.false c.lower.ensures c.follow.ensures

@@ -23,7 +23,7 @@ finished-requires c =
 
 pub returns-then-not-finished : goal.returns-then-not-finished
 returns-then-not-finished c =
-    λ j w. not_yet j _ _ _ _ _ _ _ (resumed-at j _ _ _ _ _ c.in-At.is w) (not_so c.finished.ensures (not-true c.finished.result c.if-not-finished.true))
+    λ j w. not_yet j _ _ _ _ _ _ _ (resumed-at j _ _ _ _ _ c.in-At.is w) (not_so c.finished.ensures c.if-not-finished.true)
     _ (c.wide-rounds.ensures ∙ c.rounds.ensures) _ c.plain.ensures c.refused-then-not-finished.ensures
 
 pub slice_bounds-finish-end : goal.slice_bounds-finish-end
@@ -38,13 +38,13 @@ finish-ended-requires c =
 pub returns-in_default-ended : goal.returns-in_default-ended
 returns-in_default-ended c =
     λ j w. (let s = resumed-at j _ _ _ _ _ c.in-At.is w in
-    other-table j _ _ _ _ _ _ _ s (c.finished.ensures.yes (not-false c.finished.result c.if-not-finished.false)) _
+    other-table j _ _ _ _ _ _ _ s (c.finished.ensures.yes c.if-not-finished.false) _
     (c.finish-ended.ensures s.started.grammar.tree s.started.grammar.ready)
     c.in_default-ended.is _ c.plain-in_default-ended.ensures c.refused-in_default-ended.ensures)
 
 pub returns : goal.returns
 returns c =
     λ j w. (let s = resumed-at j _ _ _ _ _ c.in-At.is w in
-    parsed j _ _ _ _ _ _ _ s (c.finished.ensures.yes (not-false c.finished.result c.if-not-finished.false)) _
+    parsed j _ _ _ _ _ _ _ s (c.finished.ensures.yes c.if-not-finished.false) _
     (c.finish-ended.ensures s.started.grammar.tree s.started.grammar.ready)
     _ c.in-Found.is c.parse_of-read.ensures (c.wide-rounds.ensures ∙ c.rounds.ensures))

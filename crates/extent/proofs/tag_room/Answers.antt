@@ -5,9 +5,8 @@ use Rattle.markup.proofs.Pieces.{named_count}
 use borrow.Author.Rules.{rules}
 use Rattle.extent.proofs.tag_room.Goals as goal
 
-)
-
 pub returns : goal.returns
 returns c = (
   omega (arith, c.look-count.ensures.1),
   λ k n N. ap (λ (m : ℕ). 8 * m + 5) (c.look-count.ensures.0 ∙ named_count N),
+)

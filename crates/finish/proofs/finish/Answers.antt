@@ -30,7 +30,7 @@ pub returns-then-not-is_fixpoint : goal.returns-then-not-is_fixpoint
 returns-then-not-is_fixpoint c =
     λ g ready. not-finished (c.code_rules-top.ensures g ready) c.fit_rows.ensures ready c.requires.small
     (omega (arith, c.code_rules-top.auto.1.1.1.0)) (omega (arith, c.fit_rows.auto.1.1.1.0)) c.requires.short
-    (λ x. most-by (c.type_inv.main x)) (not_so c.is_fixpoint.ensures (not-true c.is_fixpoint.result c.if-not-is_fixpoint.true))
+    (λ x. most-by (c.type_inv.main x)) (not_so c.is_fixpoint.ensures c.if-not-is_fixpoint.true)
 
 pub read_off-requires : goal.read_off-requires
 read_off-requires c =
@@ -46,7 +46,7 @@ read_off-requires c =
       short = c.requires.short;
       room = c.requires.room;
       numbers = c.requires.numbers;
-      fixed = c.is_fixpoint.ensures.yes (not-false c.is_fixpoint.result c.if-not-is_fixpoint.false);
+      fixed = c.is_fixpoint.ensures.yes c.if-not-is_fixpoint.false;
     }
 
 pub returns : goal.returns

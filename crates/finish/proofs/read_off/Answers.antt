@@ -14,7 +14,7 @@ walk_filled-walked-requires c =
 pub returns-in_default : goal.returns-in_default
 unfolding settled-finished finished-plain
 returns-in_default c =
-    λ g k. as-walked g _ _ c.walk_filled-walked.result c.of_walked.result c.of_walked.ensures c.in_default.keys2
+    λ g k. as-walked g _ _ c.walk_filled-walked.result c.of_walked.result c.of_walked.ensures c.in_default.in_default-own.keys2
     (c.walk_filled-walked.ensures.answers (settled-finished c.requires c.walk_filled-walked.ensures.marked c.walk_filled-walked.ensures.noted k))
 
 pub place-requires : goal.place-requires

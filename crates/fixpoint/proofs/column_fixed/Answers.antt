@@ -17,7 +17,7 @@ pub returns-then-not-stretch_fixed : goal.returns-then-not-stretch_fixed
 returns-then-not-stretch_fixed c =
     none-missed (λ (i : ℕ). DotsFixed c.args.code.now c.args.fits.now c.args.size c.args.n c.args.main.now i c.args.j c.args.size)
     c.loop-i.i (c.args.j + 1) (omega (arith, c.loop-i-test.true))
-    (not_so c.stretch_fixed.ensures (not-true c.stretch_fixed.result c.if-not-stretch_fixed.true))
+    (not_so c.stretch_fixed.ensures c.if-not-stretch_fixed.true)
 
 pub overflow_add-i : goal.overflow_add-i
 overflow_add-i c =
@@ -32,7 +32,7 @@ loop-i-preserved c =
     (
       omega (arith, c.loop-i-test.true),
       and-here (λ (i : ℕ). DotsFixed c.args.code.now c.args.fits.now c.args.size c.args.n c.args.main.now i c.args.j c.args.size)
-          c.loop-i.i c.loop-i.invariant.1 (c.stretch_fixed.ensures.yes (not-false c.stretch_fixed.result c.if-not-stretch_fixed.false)),
+          c.loop-i.i c.loop-i.invariant.1 (c.stretch_fixed.ensures.yes c.if-not-stretch_fixed.false),
     )
 
 pub returns : goal.returns

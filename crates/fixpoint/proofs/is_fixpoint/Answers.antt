@@ -15,7 +15,7 @@ column_fixed-requires c =
 
 pub returns-then-not-column_fixed : goal.returns-then-not-column_fixed
 returns-then-not-column_fixed c =
-    miss (λ a. not_so c.column_fixed.ensures (not-true c.column_fixed.result c.if-not-column_fixed.true)
+    miss (λ a. not_so c.column_fixed.ensures c.if-not-column_fixed.true
     (fixed-ends _ _ _ _ _ a c.loop-j.j (omega (arith, c.loop-j-test.true))))
 
 pub overflow_add-j : goal.overflow_add-j
@@ -31,7 +31,7 @@ loop-j-preserved c =
     (
       omega (arith, c.loop-j-test.true),
       and-here (λ (j : ℕ). StartsFixed c.args.code.now c.args.fits.now c.args.size c.args.n c.args.main.now j (j + 1))
-          c.loop-j.j c.loop-j.invariant.1 (c.column_fixed.ensures.yes (not-false c.column_fixed.result c.if-not-column_fixed.false)),
+          c.loop-j.j c.loop-j.invariant.1 (c.column_fixed.ensures.yes c.if-not-column_fixed.false),
     )
 
 pub returns : goal.returns

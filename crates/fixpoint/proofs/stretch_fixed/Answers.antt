@@ -36,7 +36,7 @@ pub returns-then-not-position_fixed : goal.returns-then-not-position_fixed
 returns-then-not-position_fixed c =
     none-missed (λ (q : ℕ). Fixed c.args.code.now c.args.fits.now c.args.at.size c.args.at.n c.args.main.now q c.args.at.i c.args.at.j)
     c.loop-p.p c.args.at.size c.loop-p-test.true
-    (not_so c.position_fixed.ensures (not-true c.position_fixed.result c.if-not-position_fixed.true))
+    (not_so c.position_fixed.ensures c.if-not-position_fixed.true)
 
 pub loop-p-smaller : goal.loop-p-smaller
 loop-p-smaller c =
@@ -47,7 +47,7 @@ loop-p-preserved c =
     (
       omega (arith, c.loop-p-test.true),
       and-here (λ (q : ℕ). Fixed c.args.code.now c.args.fits.now c.args.at.size c.args.at.n c.args.main.now q c.args.at.i c.args.at.j)
-          c.loop-p.p c.loop-p.invariant.1 (c.position_fixed.ensures.yes (not-false c.position_fixed.result c.if-not-position_fixed.false)),
+          c.loop-p.p c.loop-p.invariant.1 (c.position_fixed.ensures.yes c.if-not-position_fixed.false),
     )
 
 pub returns : goal.returns

@@ -4,7 +4,7 @@ use Rattle.job.proofs.parse_of.Goals as goal
 
 pub returns-in_default : goal.returns-in_default
 returns-in_default c =
-    parsed-refused c.args.chosen c.args.start _ c.in_default.keys2 c.why_not.ensures
+    parsed-refused c.args.chosen c.args.start _ c.in_default.in_default-own.keys2 c.why_not.ensures
 
 pub returns : goal.returns
 returns c =

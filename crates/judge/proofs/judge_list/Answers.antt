@@ -4,8 +4,6 @@ use Rattle.judge.proofs.Ends.{none-empty, none-there, some-begun, judged, refuse
 use borrow.Author.Rules.{rules}
 use Rattle.judge.proofs.judge_list.Goals as goal
 
-)
-
 pub returns-then-list-eq0 : goal.returns-then-list-eq0
 returns-then-list-eq0 c = refused refl (λ g G. none-empty c.if-list-eq0.true)
 
@@ -17,6 +15,7 @@ walk-requires c = (
     c.if-list-eq0.false,
   )) c.has_alternative.ensures c.if-has_alternative.true _ c.alternative-item.ensures
       c.requires,
+)
 
 pub returns-then-has_alternative : goal.returns-then-has_alternative
 returns-then-has_alternative c =

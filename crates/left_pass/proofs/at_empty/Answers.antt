@@ -3,10 +3,6 @@ use borrow.Author.Rules.{rules}
 use Rattle.left_pass.proofs.Steps.{stepped-none, empty-after, empty-kept, empty-stepped, empty-done}
 use Rattle.left_pass.proofs.at_empty.Goals as goal
 
-)
-
-)
-
 pub returns-then-code-p-ne-AT_TERMINAL : goal.returns-then-code-p-ne-AT_TERMINAL
 returns-then-code-p-ne-AT_TERMINAL c = (stepped-none c.requires, λ k. absurd (c.if-code-p-ne-AT_TERMINAL.true k))
 
@@ -19,6 +15,7 @@ lift-requires c = (
       c.if-code-p-ne-AT_TERMINAL.false c.if-code-p-ne0.false
       c.raise.ensures,
   empty-after c.requires c.if-code-p-ne-AT_TERMINAL.false c.if-code-p-ne0.false,
+)
 
 pub returns : goal.returns
 returns c = (
@@ -26,3 +23,4 @@ returns c = (
       c.if-code-p-ne0.false c.raise.ensures c.lift.ensures,
   empty-done c.requires c.if-code-p-ne-AT_TERMINAL.false c.if-code-p-ne0.false
       c.raise.ensures c.lift.ensures,
+)

@@ -4,10 +4,6 @@ use borrow.Author.Rules.{rules}
 use Rattle.left_pass.proofs.Steps.{stepped-none, symbol-rule, symbol-after, symbol-waking, symbol-kept, symbol-done, symbol-none, symbol-over, symbol-over-done}
 use Rattle.left_pass.proofs.at_symbol.Goals as goal
 
-)
-
-)
-
 pub returns-then-code-p-ne-AT_SYMBOL : goal.returns-then-code-p-ne-AT_SYMBOL
 returns-then-code-p-ne-AT_SYMBOL c = (stepped-none c.requires.at, λ k. absurd (c.if-code-p-ne-AT_SYMBOL.true k))
 
@@ -23,6 +19,7 @@ overflow_add-e c = omega (
       c.requires
       c.if-code-p-ne-AT_SYMBOL.false,
   c.requires.at.shape.small,
+)
 
 pub overflow_add-i-2 : goal.overflow_add-i-2
 overflow_add-i-2 c = omega (
@@ -33,6 +30,7 @@ overflow_add-i-2 c = omega (
       c.if-code-p-ne-AT_SYMBOL.false,
   c.requires.at.shape.small,
   c.requires.at.kept.on,
+)
 
 pub bounds-marks-i : goal.bounds-marks-i
 bounds-marks-i c =

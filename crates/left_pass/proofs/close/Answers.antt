@@ -5,16 +5,6 @@ use borrow.Author.Rules.{rules}
 use Rattle.left_pass.proofs.Drains.{Draining, drain-start, drain-at, drain-tail, drain-next, drain-end, at_next}
 use Rattle.left_pass.proofs.close.Goals as goal
 
-)
-
-)
-
-)
-
-}
-
-)
-
 pub loop-head-init : goal.loop-head-init
 loop-head-init c = drain-start c.requires
 
@@ -26,12 +16,14 @@ overflow_add-head c = omega (
   arith,
   drain-tail c.requires c.loop-head.invariant
       (omega (arith, c.loop-head-test.true, c.wide.ensures)),
+)
 
 pub offset_bounds-work-head : goal.offset_bounds-work-head
 offset_bounds-work-head c = omega (
   arith,
   drain-tail c.requires c.loop-head.invariant
       (omega (arith, c.loop-head-test.true, c.wide.ensures)),
+)
 
 pub bounds-work-head : goal.bounds-work-head
 bounds-work-head c = omega (
@@ -39,6 +31,7 @@ bounds-work-head c = omega (
   drain-tail c.requires
       c.loop-head.invariant (omega (arith, c.loop-head-test.true, c.wide.ensures)),
   c.loop-head.invariant.stepped.stir.kept.work-long,
+)
 
 pub at_symbol-requires : goal.at_symbol-requires
 at_symbol-requires c = record {
@@ -48,6 +41,7 @@ at_symbol-requires c = record {
     c.wide.ensures,
   )));
   list = c.requires.firsts;
+}
 
 pub at_end-requires : goal.at_end-requires
 at_end-requires c =
@@ -79,6 +73,7 @@ loop-head-smaller c = omega (
         c.loop-head-test.true,
         c.wide.ensures,
       )),
+)
 
 pub loop-head-preserved : goal.loop-head-preserved
 loop-head-preserved c =

@@ -7,18 +7,6 @@ use Rattle.chart.proofs.Users.{all-zero}
 use Rattle.left_pass.proofs.Places.{Passing, keying-next, root-waking, place-start, place-collects, place-closing, place-given, place-next, place_end}
 use Rattle.left_pass.proofs.left.Goals as goal
 
-}
-
-)
-
-)
-
-)
-
-)
-
-)
-
 pub homes-requires : goal.homes-requires
 homes-requires c = record { shape = c.requires.given.shape; long = length-replicate {A = ℕ} 1537 0 }
 
@@ -28,6 +16,7 @@ open_dots-requires c = record {
   long = c.homes.ensures.long ∙
       length-replicate {A = ℕ} 1537 0;
   homes = c.homes.ensures.homes;
+}
 
 pub list_dots-requires : goal.list_dots-requires
 list_dots-requires c =
@@ -92,6 +81,7 @@ overflow_add-i c = omega (
   c.loop-i-test.true,
   c.loop-i.invariant.2,
   c.requires.given.short,
+)
 
 pub loop-i-smaller : goal.loop-i-smaller
 loop-i-smaller c = omega (arith, c.loop-i-test.true)
@@ -116,12 +106,14 @@ overflow_mul-result c = omega (
   arith,
   c.loop-i.invariant.2,
   c.requires.given.short,
+)
 
 pub overflow_add-result : goal.overflow_add-result
 overflow_add-result c = omega (
   arith,
   c.requires.inside,
   c.requires.given.shape.small,
+)
 
 pub overflow_add-result-2 : goal.overflow_add-result-2
 overflow_add-result-2 c = omega (
@@ -130,6 +122,7 @@ overflow_add-result-2 c = omega (
   c.requires.given.short,
   c.requires.inside,
   c.requires.given.shape.small,
+)
 
 pub bounds-marks-n : goal.bounds-marks-n
 bounds-marks-n c = omega (
@@ -140,6 +133,7 @@ bounds-marks-n c = omega (
   c.requires.given.shape.small,
   c.loop-i.invariant.0.long,
   c.loop-i.invariant.0.room,
+)
 
 pub shape_of-marks : goal.shape_of-marks
 shape_of-marks c = c.loop-i.invariant.0.long ∙ c.wake.ensures.long

@@ -6,8 +6,6 @@ use Rattle.left_pass.specs.Left.{Shifted}
 use Rattle.left_pass.proofs.Shifts.{given-next, shift-start, shift-join, shift-all}
 use Rattle.left_pass.proofs.shift.Goals as goal
 
-)
-
 pub loop-p-init : goal.loop-p-init
 loop-p-init c = (shift-start _ _ _ _ _ _, omega arith)
 
@@ -16,6 +14,7 @@ shift_at-requires c = (
   given-next c.requires.0 c.loop-p.invariant.0.long,
   c.requires.1,
   c.loop-p-test.true,
+)
 
 pub overflow_add-p : goal.overflow_add-p
 overflow_add-p c = omega (arith, c.loop-p-test.true, c.requires.0.shape.small)

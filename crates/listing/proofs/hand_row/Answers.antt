@@ -22,29 +22,28 @@ returns-then-not-is_last c =
     let a = c.args in
     let p = c.requires in (
       λ e. absurd (omega arith),
-      λ y e. hand-own a.code.now a.marks.now a.s.size a.s.j.0 a.x c.if-x-eq0.false c.if-code-x-eq-AT_END.false y p.3 (sym c.is_last.ensures ∙ not-true _
-          c.if-not-is_last.true) (omega arith),
+      λ y e. hand-own a.code.now a.marks.now a.s.size a.s.j.0 a.x c.if-x-eq0.false c.if-code-x-eq-AT_END.false y p.3 (sym c.is_last.ensures ∙ c.if-not-is_last.true) (omega arith),
     )
 
 pub wanted-requires : goal.wanted-requires
 wanted-requires c =
     let a = c.args in
     let p = c.requires in
-    let b = last-is a.code.now a.x (sym c.is_last.ensures ∙ not-false _ c.if-not-is_last.false) in
+    let b = last-is a.code.now a.x (sym c.is_last.ensures ∙ c.if-not-is_last.false) in
     (p.1, omega (arith, c.wide-rule.ensures, (p.0.names a.x p.3 b.symbol).0, p.0.small), p.2)
 
 pub overflow_add-result-then-wanted : goal.overflow_add-result-then-wanted
 overflow_add-result-then-wanted c =
     let a = c.args in
     let p = c.requires in
-    let b = last-is a.code.now a.x (sym c.is_last.ensures ∙ not-false _ c.if-not-is_last.false) in
+    let b = last-is a.code.now a.x (sym c.is_last.ensures ∙ c.if-not-is_last.false) in
     omega (arith, c.wide-rule.ensures, (p.0.names a.x p.3 b.symbol).0, p.0.small)
 
 pub returns-then-wanted : goal.returns-then-wanted
 returns-then-wanted c =
     let a = c.args in
     let p = c.requires in
-    let t = sym c.is_last.ensures ∙ not-false _ c.if-not-is_last.false in
+    let t = sym c.is_last.ensures ∙ c.if-not-is_last.false in
     let b = last-is a.code.now a.x t in
     let w = c.wanted.ensures ∙ ap (λ (z : ℕ). leb 2 (end_at a.marks.now z a.s.j.0)) c.wide-rule.ensures in (
       λ e. absurd (omega arith),
@@ -56,6 +55,6 @@ pub returns : goal.returns
 returns c =
     let a = c.args in
     let w = c.wanted.ensures ∙ ap (λ (z : ℕ). leb 2 (end_at a.marks.now z a.s.j.0)) c.wide-rule.ensures in (
-      λ _. keep-unwanted a.code.now a.marks.now a.s.size a.s.j.0 a.x (sym c.is_last.ensures ∙ not-false _ c.if-not-is_last.false) (unflagged _ _ w c.if-wanted.false),
+      λ _. keep-unwanted a.code.now a.marks.now a.s.size a.s.j.0 a.x (sym c.is_last.ensures ∙ c.if-not-is_last.false) (unflagged _ _ w c.if-wanted.false),
       λ y e. absurd (omega arith),
     )

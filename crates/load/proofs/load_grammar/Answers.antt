@@ -16,7 +16,7 @@ returns-in_default c =
     subst (Turned c.args.grammar.now) (sym c.why_refused.ensures)
     (turned c.args.grammar.now _ c.decode_grammar-decoded.new.1.0 c.decode_grammar-decoded.result
     c.decode_grammar-decoded.ensures (omega (arith, c.if-grammar-gt-GRAMMAR_BYTES.false))
-    (some-refusal 1 2 c.decode_grammar-decoded.result c.in_default.keys2))
+    (some-refusal 1 2 c.decode_grammar-decoded.result c.in_default.in_default-own.keys2))
 
 pub slice_bounds-text-end : goal.slice_bounds-text-end
 slice_bounds-text-end c =

@@ -12,7 +12,7 @@ use Rattle.bits.proofs.Laws.{adds_none, adds-as}
 use Rattle.moves.proofs.land.Goals as goal
 
 pub returns-then-not-on : goal.returns-then-not-on
-returns-then-not-on c = adds_none (λ z h. true≢false (sym h.0 ∙ not-true _ c.if-not-on.true))
+returns-then-not-on c = adds_none (λ z h. true≢false (sym h.0 ∙ c.if-not-on.true))
 
 pub returns-then-n-width : goal.returns-then-n-width
 returns-then-n-width c = adds_none (λ z h. omega (arith, h.1.within, c.if-n-width.true))
@@ -34,4 +34,4 @@ put-requires c =
 pub returns : goal.returns
 returns c =
     adds-as _ c.put.ensures
-    (λ z e. (not-false _ c.if-not-on.false, record { fits = c.if-marks-x-lt-FITS.false; within = omega (arith, c.if-n-width-2.false, c.if-n-width.false); is = e })) (λ z h. h.1.is)
+    (λ z e. (c.if-not-on.false, record { fits = c.if-marks-x-lt-FITS.false; within = omega (arith, c.if-n-width-2.false, c.if-n-width.false); is = e })) (λ z h. h.1.is)

@@ -23,18 +23,18 @@ locate-requires c =
 
 pub returns-then-not-flag : goal.returns-then-not-flag
 returns-then-not-flag c =
-    λ g k. refusal g c.args.text.now (c.flag.ensures.none (not-true _ c.if-not-flag.true) g k) (c.locate.ensures g k)
+    λ g k. refusal g c.args.text.now (c.flag.ensures.none c.if-not-flag.true g k) (c.locate.ensures g k)
 
 pub attempt-tried-requires : goal.attempt-tried-requires
 attempt-tried-requires c =
-    ((staged c.requires.0 c.note_rules.ensures c.requires.0.code (c.flag.ensures.both (not-false _ c.if-not-flag.false))), c.requires.0.room, c.requires.2)
+    ((staged c.requires.0 c.note_rules.ensures c.requires.0.code (c.flag.ensures.both c.if-not-flag.false)), c.requires.0.room, c.requires.2)
 
 pub returns-then-is_answer : goal.returns-then-is_answer
 unfolding staged
 returns-then-is_answer c =
     λ g k. as-answer g c.args.text.now c.attempt-tried.new.1.1.1.1.1.0 true c.attempt-tried.result (record { 0 = 0 }) c.of_tried.ensures
     (sym c.is_answer.ensures ∙ c.if-is_answer.true)
-    (c.attempt-tried.ensures (staged c.requires.0 c.note_rules.ensures k (c.flag.ensures.both (not-false _ c.if-not-flag.false))))
+    (c.attempt-tried.ensures (staged c.requires.0 c.note_rules.ensures k (c.flag.ensures.both c.if-not-flag.false)))
 
 pub locate-place-requires : goal.locate-place-requires
 locate-place-requires c =
@@ -50,12 +50,12 @@ returns-then-is_refused c =
     λ g k. as-refused g c.args.text.now c.attempt-tried.new.1.1.1.1.1.0 c.attempt-tried.result c.locate-place.result
     (sym c.is_answer.ensures ∙ c.if-is_answer.false)
     (sym c.is_refused.ensures ∙ c.if-is_refused.true)
-    (c.attempt-tried.ensures (staged c.requires.0 c.note_rules.ensures k (c.flag.ensures.both (not-false _ c.if-not-flag.false)))) (c.locate-place.ensures g k)
+    (c.attempt-tried.ensures (staged c.requires.0 c.note_rules.ensures k (c.flag.ensures.both c.if-not-flag.false))) (c.locate-place.ensures g k)
 
 pub attempt-again-requires : goal.attempt-again-requires
 attempt-again-requires c =
     (
-      (staged c.requires.0 c.note_rules.ensures c.requires.0.code (c.flag.ensures.both (not-false _ c.if-not-flag.false))),
+      (staged c.requires.0 c.note_rules.ensures c.requires.0.code (c.flag.ensures.both c.if-not-flag.false)),
       omega (arith, c.requires.0.room, c.attempt-tried.auto.1.1.1.0, c.locate-place.auto.1.1.1.1.1.0),
       omega (arith, c.requires.2, c.attempt-tried.auto.1.1.1.1.1.0),
     )
@@ -76,4 +76,4 @@ pub returns : goal.returns
 unfolding staged
 returns c =
     λ g k. as-tried g c.args.text.now c.attempt-again.new.1.1.1.1.1.0 c.attempt-again.result c.locate-place.result c.of_tried-2.ensures
-    (c.attempt-again.ensures (staged c.requires.0 c.note_rules.ensures k (c.flag.ensures.both (not-false _ c.if-not-flag.false)))) (c.locate-place.ensures g k)
+    (c.attempt-again.ensures (staged c.requires.0 c.note_rules.ensures k (c.flag.ensures.both c.if-not-flag.false))) (c.locate-place.ensures g k)

@@ -7,7 +7,7 @@ use Rattle.parser.proofs.choose_plain.Goals as goal
 pub returns-in_default : goal.returns-in_default
 returns-in_default c =
     λ g ready. as-walked g c.args.text.now c.read-walked.new.1.1.1.1.1.0 c.read-walked.result c.of_walked.result
-    c.of_walked.ensures c.in_default.keys2 (c.read-walked.ensures g ready)
+    c.of_walked.ensures c.in_default.in_default-own.keys2 (c.read-walked.ensures g ready)
 
 pub locate_anew-requires : goal.locate_anew-requires
 locate_anew-requires c =

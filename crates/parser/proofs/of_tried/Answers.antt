@@ -13,7 +13,7 @@ returns-in_default c =
 pub returns-in_default-walked : goal.returns-in_default-walked
 returns-in_default-walked c =
     let k = c.args.place in
-    c.of_walked.ensures ∙ walked-tried c.in-Walked.walked k c.in_default-walked.keys2 ∙ sym (ap (λ (t : Tried). tried_of t k) c.in-Walked.is)
+    c.of_walked.ensures ∙ walked-tried c.in-Walked.walked k c.in_default-walked.in_default-walked-own.keys2 ∙ sym (ap (λ (t : Tried). tried_of t k) c.in-Walked.is)
 
 pub returns : goal.returns
 returns c =

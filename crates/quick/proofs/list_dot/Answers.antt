@@ -24,14 +24,14 @@ pub returns-then-not-wanted : goal.returns-then-not-wanted
 returns-then-not-wanted c =
     let a = c.args in
     let h = c.wide.ensures ∙ c.requires.0.noted.homes a.x c.requires.2 in
-    let w = unflagged _ _ (c.wanted.ensures ∙ ap (λ (z : ℕ). leb 2 (end_at a.marks.now z a.s.j.0)) h) (not-true _ c.if-not-wanted.true) in
+    let w = unflagged _ _ (c.wanted.ensures ∙ ap (λ (z : ℕ). leb 2 (end_at a.marks.now z a.s.j.0)) h) c.if-not-wanted.true in
     (listed-skip _ _ _ _ w c.requires.3, dot-same _ _ _ _ (λ y _. w y), λ z h. refl)
 
 pub returns-then-has_row : goal.returns-then-has_row
 returns-then-has_row c =
     let a = c.args in
     let h = c.wide.ensures ∙ c.requires.0.noted.homes a.x c.requires.2 in
-    let w = flagged _ _ (c.wanted.ensures ∙ ap (λ (z : ℕ). leb 2 (end_at a.marks.now z a.s.j.0)) h) (not-false _ c.if-not-wanted.false) in (
+    let w = flagged _ _ (c.wanted.ensures ∙ ap (λ (z : ℕ). leb 2 (end_at a.marks.now z a.s.j.0)) h) c.if-not-wanted.false in (
       subst (λ (q : ℕ). ListedTo a.code.now a.marks.now a.s.n.0 a.s.j.0 (a.x + 1) (set (set a.column.now q a.x) 512 (q + 1))) (sym c.wide-count.ensures)
           (listed-add _ _ _ _ (omega (arith, c.requires.2, c.requires.0.shape.small)) w c.requires.3),
       dot-cleared _ _ _ _ c.clear_row.ensures,
@@ -43,7 +43,7 @@ pub returns-else-has_row : goal.returns-else-has_row
 returns-else-has_row c =
     let a = c.args in
     let h = c.wide.ensures ∙ c.requires.0.noted.homes a.x c.requires.2 in
-    let w = flagged _ _ (c.wanted.ensures ∙ ap (λ (z : ℕ). leb 2 (end_at a.marks.now z a.s.j.0)) h) (not-false _ c.if-not-wanted.false) in (
+    let w = flagged _ _ (c.wanted.ensures ∙ ap (λ (z : ℕ). leb 2 (end_at a.marks.now z a.s.j.0)) h) c.if-not-wanted.false in (
       subst (λ (q : ℕ). ListedTo a.code.now a.marks.now a.s.n.0 a.s.j.0 (a.x + 1) (set (set a.column.now q a.x) 512 (q + 1))) (sym c.wide-count.ensures)
           (listed-add _ _ _ _ (omega (arith, c.requires.2, c.requires.0.shape.small)) w c.requires.3),
       dot-same _ _ _ _ (λ _. c.has_row.ensures c.if-has_row.false),

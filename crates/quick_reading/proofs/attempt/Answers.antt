@@ -11,14 +11,14 @@ fill-requires c =
 
 pub returns-then-not-fill : goal.returns-then-not-fill
 returns-then-not-fill c =
-    λ t. stopped c.fill.ensures.1 (not-true _ c.if-not-fill.true)
+    λ t. stopped c.fill.ensures.1 c.if-not-fill.true
 
 pub walk-requires : goal.walk-requires
 walk-requires c =
     let pre = c.requires in
-    (finished pre.0 (omega (arith, pre.1, c.fill.auto.1.1.1.1.1.0)) (c.fill.ensures.0 (not-false _ c.if-not-fill.false)), pre.2)
+    (finished pre.0 (omega (arith, pre.1, c.fill.auto.1.1.1.1.1.0)) (c.fill.ensures.0 c.if-not-fill.false), pre.2)
 
 pub returns : goal.returns
 unfolding finished
 returns c =
-    λ t. c.walk.ensures (finished t (omega (arith, c.requires.1, c.fill.auto.1.1.1.1.1.0)) (c.fill.ensures.0 (not-false _ c.if-not-fill.false)))
+    λ t. c.walk.ensures (finished t (omega (arith, c.requires.1, c.fill.auto.1.1.1.1.1.0)) (c.fill.ensures.0 c.if-not-fill.false))

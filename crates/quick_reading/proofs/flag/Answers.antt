@@ -13,12 +13,12 @@ left-requires c =
 
 pub returns-then-not-left : goal.returns-then-not-left
 returns-then-not-left c =
-    passed-left c.left.ensures (not-true _ c.if-not-left.true) refl
+    passed-left c.left.ensures c.if-not-left.true refl
 
 pub right-requires : goal.right-requires
 right-requires c =
     let pre = c.requires in
-    righting-of pre.code pre.small (omega (arith, pre.small, pre.code-long)) pre.short c.left.ensures (not-false _ c.if-not-left.false)
+    righting-of pre.code pre.small (omega (arith, pre.small, pre.code-long)) pre.short c.left.ensures c.if-not-left.false
 
 pub returns : goal.returns
 returns c =

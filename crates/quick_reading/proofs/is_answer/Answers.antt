@@ -10,7 +10,7 @@ returns-in_default c = sym (ap is_answer c.in_default.is)
 
 pub returns-in_default-walked : goal.returns-in_default-walked
 returns-in_default-walked c =
-    walked-answer c.in-Walked.walked c.in_default-walked.keys2 ∙ sym (ap is_answer c.in-Walked.is)
+    walked-answer c.in-Walked.walked c.in_default-walked.in_default-walked-own.keys2 ∙ sym (ap is_answer c.in-Walked.is)
 
 pub returns : goal.returns
 returns c =

@@ -3,14 +3,13 @@ use Rattle.reader.proofs.Terminals.{chars-step, room-past, insertion-in, inserti
 use borrow.Author.Rules.{rules}
 use Rattle.reader.proofs.insertion.Goals as goal
 
-)
-
 pub skip-requires : goal.skip-requires
 skip-requires c = omega (
   arith,
   insertion-in c.args.text.now c.args.p.0
       c.requires.1,
   c.after.ensures,
+)
 
 pub returns-in_default : goal.returns-in_default
 returns-in_default c =

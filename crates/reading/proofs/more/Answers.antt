@@ -3,8 +3,6 @@ use Prim.Native.Nat.{ℕ}
 use native.Mathlib.Omega.{arith}
 use Rattle.reading.proofs.more.Goals as goal
 
-)
-
 pub returns-then-h-gt-READING_NUMBERS : goal.returns-then-h-gt-READING_NUMBERS
 returns-then-h-gt-READING_NUMBERS c = (λ e. absurd (let z : ◌≡◌ {A = ℕ} 0 1 = cc in omega arith), λ e l. absurd (omega arith))
 
@@ -18,6 +16,7 @@ pub returns-then-number_at-ne-AFTER_ALTERNATIVE : goal.returns-then-number_at-ne
 returns-then-number_at-ne-AFTER_ALTERNATIVE c = (
   λ e. (omega arith, λ o. c.if-number_at-ne-AFTER_ALTERNATIVE.true (c.number_at.ensures.0 ∙ (o (omega arith)).0)),
   λ e. absurd (let z : ◌≡◌ {A = ℕ} 0 1 = cc in omega arith),
+)
 
 pub returns-then-h-eq0 : goal.returns-then-h-eq0
 returns-then-h-eq0 c =

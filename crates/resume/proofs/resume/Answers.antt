@@ -14,7 +14,7 @@ pub returns-then-not-keeps : goal.returns-then-not-keeps
 returns-then-not-keeps c =
     let j = job c.args.grammar.now c.args.record.now c.args.main c.args.second in
     rw c.plain.ensures (not-kept j c.args.state.now c.args.table.now c.args.text.now
-    (not_so c.keeps.ensures (not-true c.keeps.result c.if-not-keeps.true)))
+    (not_so c.keeps.ensures c.if-not-keeps.true))
 
 pub open_job-opened-requires : goal.open_job-opened-requires
 open_job-opened-requires c =
@@ -33,5 +33,5 @@ need_of-need-requires c =
 pub returns : goal.returns
 returns c =
     let j = job c.args.grammar.now c.args.record.now c.args.main c.args.second in
-    lent-or-not j _ _ _ _ _ c.in-At.is c.open_job-opened.ensures (c.keeps.ensures.yes (not-false c.keeps.result c.if-not-keeps.false)) _
+    lent-or-not j _ _ _ _ _ c.in-At.is c.open_job-opened.ensures (c.keeps.ensures.yes c.if-not-keeps.false) _
     c.need_of-need.ensures _ c.lend.ensures

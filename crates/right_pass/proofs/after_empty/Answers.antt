@@ -6,18 +6,13 @@ use Rattle.right_pass.proofs.Back.{back_none, empty-stepped, empty-done}
 use Rattle.right_pass.proofs.Drains.{start-empty, no-terminal, no-empty}
 use Rattle.right_pass.proofs.after_empty.Goals as goal
 
-)
-
-)
-
-)
-
 pub returns-then-x-eq0 : goal.returns-then-x-eq0
 returns-then-x-eq0 c = (
   back_none c.requires,
   start-empty c.args.code.now
       c.args.marks.now c.args.work.now c.args.j
       c.args.x c.if-x-eq0.true,
+)
 
 pub returns-then-code-p-ne-AT_TERMINAL : goal.returns-then-code-p-ne-AT_TERMINAL
 returns-then-code-p-ne-AT_TERMINAL c = (
@@ -25,12 +20,14 @@ returns-then-code-p-ne-AT_TERMINAL c = (
   no-terminal c.args.code.now
       c.args.marks.now c.args.work.now
       c.args.j c.args.x (omega (arith, c.if-x-eq0.false)) c.if-code-p-ne-AT_TERMINAL.true,
+)
 
 pub returns-then-code-p-ne0 : goal.returns-then-code-p-ne0
 returns-then-code-p-ne0 c = (
   back_none c.requires,
   no-empty c.args.code.now c.args.marks.now c.args.work.now c.args.j c.args.x
       (omega (arith, c.if-x-eq0.false)) c.if-code-p-ne0.true,
+)
 
 pub returns : goal.returns
 returns c =

@@ -6,16 +6,13 @@ use Rattle.right_pass.proofs.Back.{back_none, symbol-rule, symbol-inside, symbol
 use Rattle.right_pass.proofs.Drains.{start-symbol, no_symbol}
 use Rattle.right_pass.proofs.after_symbol.Goals as goal
 
-)
-
-)
-
 pub returns-then-x-eq0 : goal.returns-then-x-eq0
 returns-then-x-eq0 c = (
   back_none c.requires.at,
   start-symbol c.args.code.now
       c.args.marks.now c.args.work.now c.args.j
       c.args.x c.if-x-eq0.true,
+)
 
 pub returns-then-code-p-ne-AT_SYMBOL : goal.returns-then-code-p-ne-AT_SYMBOL
 returns-then-code-p-ne-AT_SYMBOL c = (
@@ -23,6 +20,7 @@ returns-then-code-p-ne-AT_SYMBOL c = (
   no_symbol c.args.code.now c.args.marks.now c.args.work.now
       c.args.j c.args.x
       (omega (arith, c.if-x-eq0.false)) c.if-code-p-ne-AT_SYMBOL.true,
+)
 
 pub wake-requires : goal.wake-requires
 wake-requires c = rw c.wide-e.ensures (symbol-waking c.requires

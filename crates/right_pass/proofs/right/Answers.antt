@@ -8,10 +8,6 @@ use Rattle.left_pass.proofs.Places.{keying-next}
 use Rattle.right_pass.proofs.Rightward.{Passing, want-waking, back_start, back_at, back-collects, back-closing, back-unshifting, back-next, back_done}
 use Rattle.right_pass.proofs.right.Goals as goal
 
-}
-
-)
-
 pub homes-requires : goal.homes-requires
 homes-requires c = record { shape = c.requires.shape; long = length-replicate {A = ℕ} 1537 0 }
 
@@ -21,6 +17,7 @@ open_dots-requires c = record {
   long = c.homes.ensures.long ∙
       length-replicate {A = ℕ} 1537 0;
   homes = c.homes.ensures.homes;
+}
 
 pub list_dots-requires : goal.list_dots-requires
 list_dots-requires c =
@@ -50,6 +47,7 @@ pub overflow_add-rest : goal.overflow_add-rest
 overflow_add-rest c = omega (
   arith,
   c.requires.short,
+)
 
 pub loop-rest-init : goal.loop-rest-init
 loop-rest-init c =

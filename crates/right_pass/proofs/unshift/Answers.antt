@@ -5,8 +5,6 @@ use Rattle.right_pass.specs.Right.{Unshifted}
 use Rattle.right_pass.proofs.Rightward.{unshifting-next, unshift-start, unshift-join, unshift-all}
 use Rattle.right_pass.proofs.unshift.Goals as goal
 
-)
-
 pub loop-p-init : goal.loop-p-init
 loop-p-init c = (unshift-start _ _ _ _, omega arith)
 
@@ -24,6 +22,7 @@ loop-p-preserved c = (
   unshift-join c.requires.shape.small c.loop-p.invariant.0
       c.unshift_at.ensures,
   omega (arith, c.loop-p-test.true),
+)
 
 pub shape_of-marks : goal.shape_of-marks
 shape_of-marks c = c.loop-p.invariant.0.long

@@ -45,7 +45,7 @@ returns-then-not-bar c =
     let loop = c.loop-q in
     let args = c.args in
     listing-last args.text.now args.p.0 args.out.now args.at.0 loop.out loop.from.0 loop.to.0 loop.invariant _ _ _
-    (rw q.given.1 at member.ensures) (tested peek.ensures bar (sym c.bar.ensures ∙ not-true _ c.if-not-bar.true))
+    (rw q.given.1 at member.ensures) (tested peek.ensures bar (sym c.bar.ensures ∙ c.if-not-bar.true))
 
 pub after-requires : goal.after-requires
 after-requires c =
@@ -58,7 +58,7 @@ after-requires c =
     omega (
       arith,
       bar-in args.text.now args.p.0 args.out.now args.at.0 loop.out loop.from.0 loop.to.0 loop.invariant _ _ _
-          (rw q.given.1 at member.ensures) (tested peek.ensures bar (sym c.bar.ensures ∙ not-false _ c.if-not-bar.false)),
+          (rw q.given.1 at member.ensures) (tested peek.ensures bar (sym c.bar.ensures ∙ c.if-not-bar.false)),
       good.0,
     )
 
@@ -72,7 +72,7 @@ skip-requires c =
     omega (
       arith,
       bar-in args.text.now args.p.0 args.out.now args.at.0 loop.out loop.from.0 loop.to.0 loop.invariant _ _ _
-          (rw q.given.1 at member.ensures) (tested peek.ensures bar (sym c.bar.ensures ∙ not-false _ c.if-not-bar.false)),
+          (rw q.given.1 at member.ensures) (tested peek.ensures bar (sym c.bar.ensures ∙ c.if-not-bar.false)),
       c.after.ensures,
     )
 
@@ -93,7 +93,7 @@ returns-in_default-skip c =
     let loop = c.loop-q in
     let args = c.args in
     listing-bad args.text.now args.p.0 args.out.now args.at.0 loop.out loop.from.0 loop.to.0 loop.invariant _ _ _
-    (rw q.given.1 at member.ensures) (tested peek.ensures bar (sym bar'.ensures ∙ not-false _ if1.false))
+    (rw q.given.1 at member.ensures) (tested peek.ensures bar (sym bar'.ensures ∙ if1.false))
     (rw (c.after.ensures, c.in_default-skip.is) at skip.ensures)
 
 pub loop-q-smaller : goal.loop-q-smaller
@@ -107,7 +107,7 @@ loop-q-smaller c =
     let loop = c.loop-q in
     let args = c.args in
     listing-less args.text.now args.p.0 args.out.now args.at.0 loop.out loop.from.0 loop.to.0 loop.invariant _ _ _
-    (rw q.given.1 at member.ensures) (tested peek.ensures bar (sym bar'.ensures ∙ not-false _ if1.false)) _
+    (rw q.given.1 at member.ensures) (tested peek.ensures bar (sym bar'.ensures ∙ if1.false)) _
     (rw (c.after.ensures, c.in-At-skip.is) at skip.ensures)
 
 pub loop-q-preserved : goal.loop-q-preserved
@@ -121,5 +121,5 @@ loop-q-preserved c =
     let loop = c.loop-q in
     let args = c.args in
     listing-on args.text.now args.p.0 args.out.now args.at.0 loop.out loop.from.0 loop.to.0 loop.invariant _ _ _
-    (rw q.given.1 at member.ensures) (tested peek.ensures bar (sym bar'.ensures ∙ not-false _ if1.false)) _
+    (rw q.given.1 at member.ensures) (tested peek.ensures bar (sym bar'.ensures ∙ if1.false)) _
     (rw (c.after.ensures, c.in-At-skip.is) at skip.ensures) member.auto.1.1.0

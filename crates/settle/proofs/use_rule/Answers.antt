@@ -15,7 +15,7 @@ use Rattle.settle.proofs.use_rule.Goals as goal
 pub returns-then-not-reached : goal.returns-then-not-reached
 returns-then-not-reached c =
     let a = c.args in let s = a.s in let p = c.requires in let x = p.0.tables in use-away a.code.now a.marks.now a.notes.now s.size s.n.0 s.i.0 s.j.0
-    p.0.tables.shape p.0.wide p.0.stop a.p p.1 p.2 p.0.queued (unflagged _ _ c.reached.ensures (not-true _ c.if-not-reached.true))
+    p.0.tables.shape p.0.wide p.0.stop a.p p.1 p.2 p.0.queued (unflagged _ _ c.reached.ensures c.if-not-reached.true)
 
 -- src/lib.rt:130:9
 pub wanted-requires : goal.wanted-requires
@@ -27,7 +27,7 @@ wanted-requires c =
 pub returns-then-not-wanted : goal.returns-then-not-wanted
 returns-then-not-wanted c =
     let a = c.args in let s = a.s in let p = c.requires in let x = p.0.tables in let home = c.wide.ensures ∙ x.noted.homes a.p p.1 in let no = unflagged _ _
-    c.wanted.ensures (not-true _ c.if-not-wanted.true) in
+    c.wanted.ensures c.if-not-wanted.true in
     use-unwanted a.code.now a.marks.now a.notes.now s.size s.n.0 s.i.0 s.j.0 p.0.tables.shape p.0.wide p.0.stop a.p p.1 p.2
     p.0.queued (λ w. no (subst (λ (z : ℕ). Wanted a.marks.now z s.j.0) (sym home) w))
 
@@ -59,8 +59,8 @@ returns-then-v c =
 pub carry_left-requires : goal.carry_left-requires
 carry_left-requires c =
     let a = c.args in let s = a.s in let p = c.requires in let x = p.0.tables in let home = c.wide.ensures ∙ x.noted.homes a.p p.1 in let u = flagged _ _
-    c.reached.ensures (not-false _ c.if-not-reached.false) in let w = subst (λ (z : ℕ). Wanted a.marks.now z s.j.0) home
-    (flagged _ _ c.wanted.ensures (not-false _ c.if-not-wanted.false)) in let one = c.up-h.ensures ∙ ap up_of
+    c.reached.ensures c.if-not-reached.false in let w = subst (λ (z : ℕ). Wanted a.marks.now z s.j.0) home
+    (flagged _ _ c.wanted.ensures c.if-not-wanted.false) in let one = c.up-h.ensures ∙ ap up_of
     (c.rule_height.ensures a.code.now ∙ ap (λ (z : ℕ). rule_of a.code.now a.marks.now a.notes.now s.n.0 a.main.now z s.i.0 s.j.0)
     c.wide-rule.ensures) in let rest = c.empty_rest.ensures in let v = c.larger-v.ensures ∙ (λ ι. max (one ι) (rest ι)) in let some = use-some
     a.code.now a.marks.now a.notes.now s.size s.n.0 s.i.0 s.j.0 p.0.tables.shape p.0.wide p.0.stop a.p p.1 p.2 a.main.now
@@ -83,8 +83,8 @@ returns-then-is_last c =
 pub carry-requires : goal.carry-requires
 carry-requires c =
     let a = c.args in let s = a.s in let p = c.requires in let x = p.0.tables in let home = c.wide.ensures ∙ x.noted.homes a.p p.1 in let u = flagged _ _
-    c.reached.ensures (not-false _ c.if-not-reached.false) in let w = subst (λ (z : ℕ). Wanted a.marks.now z s.j.0) home
-    (flagged _ _ c.wanted.ensures (not-false _ c.if-not-wanted.false)) in let one = c.up-h.ensures ∙ ap up_of
+    c.reached.ensures c.if-not-reached.false in let w = subst (λ (z : ℕ). Wanted a.marks.now z s.j.0) home
+    (flagged _ _ c.wanted.ensures c.if-not-wanted.false) in let one = c.up-h.ensures ∙ ap up_of
     (c.rule_height.ensures a.code.now ∙ ap (λ (z : ℕ). rule_of a.code.now a.marks.now a.notes.now s.n.0 a.main.now z s.i.0 s.j.0)
     c.wide-rule.ensures) in let rest = c.empty_rest.ensures in let v = c.larger-v.ensures ∙ (λ ι. max (one ι) (rest ι)) in let some = use-some
     a.code.now a.marks.now a.notes.now s.size s.n.0 s.i.0 s.j.0 p.0.tables.shape p.0.wide p.0.stop a.p p.1 p.2 a.main.now

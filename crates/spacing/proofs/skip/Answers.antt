@@ -40,7 +40,7 @@ loop-at-preserved-then-c-eq-OPEN_BRACE c =
 pub returns-then-not-whitespace : goal.returns-then-not-whitespace
 returns-then-not-whitespace c =
     let if1 = c.if-c-eq-OPEN_BRACE in let loop-test = c.loop-at-test in let loop = c.loop-at in outer-stop _ _ _ loop.invariant loop-test.true
-    if1.false (sym c.whitespace.ensures ∙ not-true _ c.if-not-whitespace.true)
+    if1.false (sym c.whitespace.ensures ∙ c.if-not-whitespace.true)
 
 pub after-at-requires : goal.after-at-requires
 after-at-requires c = omega arith
@@ -51,7 +51,7 @@ loop-at-smaller c = omega (arith, c.after-at.ensures)
 pub loop-at-preserved : goal.loop-at-preserved
 loop-at-preserved c =
     let loop-test = c.loop-at-test in let loop = c.loop-at in rw c.after-at.ensures (outer-white _ _ _ loop.invariant loop-test.true (sym
-    c.whitespace.ensures ∙ not-false _ c.if-not-whitespace.false))
+    c.whitespace.ensures ∙ c.if-not-whitespace.false))
 
 pub returns : goal.returns
 returns c = outer-end _ _ _ c.loop-at.invariant c.loop-at-test.false

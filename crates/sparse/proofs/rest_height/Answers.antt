@@ -17,12 +17,12 @@ returns-then-code-p-eq-AT_END c =
 pub returns-then-not-reached : goal.returns-then-not-reached
 returns-then-not-reached c =
     let a = c.args in
-    let w = unflagged _ _ c.reached.ensures (not-true _ c.if-not-reached.true) in
+    let w = unflagged _ _ c.reached.ensures c.if-not-reached.true in
     sym (rest-away a.code.now a.marks.now a.notes.now a.s.n.0 a.main.now a.p a.s.i.0 a.s.j.0 c.if-s.false c.if-code-p-eq-AT_END.false w)
 
 pub returns : goal.returns
 returns c =
     let a = c.args in
-    let w = flagged _ _ c.reached.ensures (not-false _ c.if-not-reached.false) in
+    let w = flagged _ _ c.reached.ensures c.if-not-reached.false in
     c.wide_rest.ensures
     ∙ sym (rest-wide a.code.now a.marks.now a.notes.now a.s.n.0 a.main.now a.p a.s.i.0 a.s.j.0 c.if-s.false c.if-code-p-eq-AT_END.false w)

@@ -16,7 +16,7 @@ returns-then-s c =
 pub returns-then-not-wanted : goal.returns-then-not-wanted
 returns-then-not-wanted c =
     let a = c.args in
-    let w = unflagged _ _ c.wanted.ensures (not-true _ c.if-not-wanted.true) in
+    let w = unflagged _ _ c.wanted.ensures c.if-not-wanted.true in
     λ (o : List ℕ). sym (rule-none o a.marks.now a.notes.now a.s.n.0 a.main.now a.rule a.s.i.0 a.s.j.0 c.if-s.false w)
 
 pub offset_bounds-main-x : goal.offset_bounds-main-x
@@ -32,6 +32,6 @@ bounds-main-x c =
 pub returns : goal.returns
 returns c =
     let a = c.args in
-    let w = flagged _ _ c.wanted.ensures (not-false _ c.if-not-wanted.false) in
+    let w = flagged _ _ c.wanted.ensures c.if-not-wanted.false in
     λ (o : List ℕ). ap (λ (x : ℕ). get_or a.main.now x 0) c.cell-x.ensures
     ∙ sym (rule-cell o a.marks.now a.notes.now a.s.n.0 a.main.now a.rule a.s.i.0 a.s.j.0 c.if-s.false w)

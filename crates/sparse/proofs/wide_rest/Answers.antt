@@ -44,7 +44,7 @@ pub returns-then-not-wanted : goal.returns-then-not-wanted
 returns-then-not-wanted c =
     let a = c.args in
     let h = c.wide.ensures ∙ c.requires.0.noted.homes a.p c.requires.1 in
-    let w = unflagged _ _ (c.wanted.ensures ∙ ap (λ (x : ℕ). leb 2 (end_at a.marks.now x a.s.j.0)) h) (not-true _ c.if-not-wanted.true) in
+    let w = unflagged _ _ (c.wanted.ensures ∙ ap (λ (x : ℕ). leb 2 (end_at a.marks.now x a.s.j.0)) h) c.if-not-wanted.true in
     sym (wide-none a.code.now a.marks.now a.notes.now a.s.n.0 a.main.now a.p a.s.i.0 a.s.j.0
     (sym c.is_last.ensures ∙ c.if-is_last.false) w)
 
@@ -62,7 +62,7 @@ pub returns : goal.returns
 returns c =
     let a = c.args in
     let h = c.wide.ensures ∙ c.requires.0.noted.homes a.p c.requires.1 in
-    let w = flagged _ _ (c.wanted.ensures ∙ ap (λ (x : ℕ). leb 2 (end_at a.marks.now x a.s.j.0)) h) (not-false _ c.if-not-wanted.false) in
+    let w = flagged _ _ (c.wanted.ensures ∙ ap (λ (x : ℕ). leb 2 (end_at a.marks.now x a.s.j.0)) h) c.if-not-wanted.false in
     ap (λ (x : ℕ). get_or a.main.now x 0) c.cell-x.ensures
     ∙ sym (wide_row a.code.now a.marks.now a.notes.now a.s.n.0 a.main.now a.p a.s.i.0 a.s.j.0
     (sym c.is_last.ensures ∙ c.if-is_last.false) w)

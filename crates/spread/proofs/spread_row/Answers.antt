@@ -21,7 +21,7 @@ returns-then-not-reached c =
     let y = p.2 in
     λ (F : List ℕ). (
       spread_none _ _ _ _ _ _ _ _ _,
-      row-away p.0 F a.main.now a.x.dot y.0 a.x.height y.1 y.2 (unflagged _ _ c.reached.ensures (not-true _ c.if-not-reached.true)),
+      row-away p.0 F a.main.now a.x.dot y.0 a.x.height y.1 y.2 (unflagged _ _ c.reached.ensures c.if-not-reached.true),
     )
 
 pub height_by-height-requires : goal.height_by-height-requires
@@ -36,7 +36,7 @@ returns-then-height c =
     λ (F : List ℕ). (
       spread_none _ _ _ _ _ _ _ _ _,
       row-none p.0 F a.main.now a.x.dot y.0 a.x.height y.1 y.2 c.height_by-height.result c.height_by-height.ensures
-          (flagged _ _ c.reached.ensures (not-false _ c.if-not-reached.false)) c.if-height.true,
+          (flagged _ _ c.reached.ensures c.if-not-reached.false) c.if-height.true,
     )
 
 pub overflow_sub-o : goal.overflow_sub-o
@@ -56,5 +56,5 @@ returns c =
     let y = p.2 in
     λ (F : List ℕ). let d = c.hand_on.ensures F
     (row-offering p.0 F a.main.now a.x.dot y.0 a.x.height y.1 y.2 c.height_by-height.result c.height_by-height.ensures
-    (flagged _ _ c.reached.ensures (not-false _ c.if-not-reached.false)) (omega (arith, c.if-height.false)) p.1) in
+    (flagged _ _ c.reached.ensures c.if-not-reached.false) (omega (arith, c.if-height.false)) p.1) in
     (d.spread, before-next _ _ _ _ _ _ _ d.on)

@@ -28,7 +28,7 @@ returns-then-not-fits c =
     let a = c.args in
     λ (F : List ℕ) o.
     astray a.code.now a.marks.now F a.s.size a.s.n.0 a.s.i.0 a.s.j.0 o c.requires.1
-    (λ i l f g. unflagged _ _ c.fits.ensures (not-true _ c.if-not-fits.true)
+    (λ i l f g. unflagged _ _ c.fits.ensures c.if-not-fits.true
     (subst (λ (z : ℕ). Fits a.marks.now a.o.dot z) (omega (arith, c.wide-width.ensures, c.if-s-width.false)) f))
 
 pub returns-then-lower : goal.returns-then-lower
@@ -37,7 +37,7 @@ returns-then-lower c =
     let w = c.wide-width.ensures in
     λ (F : List ℕ) o.
     terminal-low a.code.now a.marks.now F a.s.size a.s.n.0 a.s.i.0 a.s.j.0 o c.requires.1
-    (flagged _ _ c.fits.ensures (not-false _ c.if-not-fits.false)) (omega (arith, c.if-width-eq0.false, c.if-s-width.false)) (omega (arith, w, c.if-s-width.false))
+    (flagged _ _ c.fits.ensures c.if-not-fits.false) (omega (arith, c.if-width-eq0.false, c.if-s-width.false)) (omega (arith, w, c.if-s-width.false))
     c.row.ensures.0 c.lower.ensures c.if-lower.true
 
 pub returns-else-lower : goal.returns-else-lower
@@ -46,5 +46,5 @@ returns-else-lower c =
     let w = c.wide-width.ensures in
     λ (F : List ℕ) o.
     terminal-kept a.code.now a.marks.now F a.s.size a.s.n.0 a.s.i.0 a.s.j.0 o c.requires.1
-    (flagged _ _ c.fits.ensures (not-false _ c.if-not-fits.false)) (omega (arith, c.if-width-eq0.false, c.if-s-width.false)) (omega (arith, w, c.if-s-width.false))
+    (flagged _ _ c.fits.ensures c.if-not-fits.false) (omega (arith, c.if-width-eq0.false, c.if-s-width.false)) (omega (arith, w, c.if-s-width.false))
     c.row.ensures.0 c.lower.ensures c.if-lower.false

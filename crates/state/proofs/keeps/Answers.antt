@@ -10,21 +10,21 @@ is_head-requires c =
 
 pub returns-then-not-is_head : goal.returns-then-not-is_head
 returns-then-not-is_head c =
-    miss (λ w. not_so c.is_head.ensures (not-true c.is_head.result c.if-not-is_head.true) w.head)
+    miss (λ w. not_so c.is_head.ensures c.if-not-is_head.true w.head)
 
 pub bytes_at-requires : goal.bytes_at-requires
 bytes_at-requires c =
-    (let h = c.is_head.ensures.yes (not-false c.is_head.result c.if-not-is_head.false) in omega (arith, h.grammar-short, c.requires), c.requires)
+    (let h = c.is_head.ensures.yes c.if-not-is_head.false in omega (arith, h.grammar-short, c.requires), c.requires)
 
 pub returns-then-not-bytes_at : goal.returns-then-not-bytes_at
 returns-then-not-bytes_at c =
-    miss (λ w. not_so c.bytes_at.ensures (not-true c.bytes_at.result c.if-not-bytes_at.true) w.grammar)
+    miss (λ w. not_so c.bytes_at.ensures c.if-not-bytes_at.true w.grammar)
 
 pub bytes_at-requires-2 : goal.bytes_at-requires-2
 bytes_at-requires-2 c =
-    (let h = c.is_head.ensures.yes (not-false c.is_head.result c.if-not-is_head.false) in omega (arith, h.input-short, c.requires), c.requires)
+    (let h = c.is_head.ensures.yes c.if-not-is_head.false in omega (arith, h.input-short, c.requires), c.requires)
 
 pub returns : goal.returns
 returns c =
-    keeps-by (c.is_head.ensures.yes (not-false c.is_head.result c.if-not-is_head.false))
-    (c.bytes_at.ensures.yes (not-false c.bytes_at.result c.if-not-bytes_at.false)) c.bytes_at-2.ensures
+    keeps-by (c.is_head.ensures.yes c.if-not-is_head.false)
+    (c.bytes_at.ensures.yes c.if-not-bytes_at.false) c.bytes_at-2.ensures

@@ -27,7 +27,7 @@ returns-then-not-name_follower c =
     let loop-test = c.loop-from-test in
     let loop = c.loop-from in
     copy-end run _ _ _ _ _ _ _ loop.invariant 0 _ (omega arith) (omega arith)
-    (run-stop _ _ loop-test.true (sym c.name_follower.ensures ∙ not-true _ c.if-not-name_follower.true))
+    (run-stop _ _ loop-test.true (sym c.name_follower.ensures ∙ c.if-not-name_follower.true))
 
 pub offset_bounds-out-j : goal.offset_bounds-out-j
 offset_bounds-out-j c =
@@ -65,7 +65,7 @@ loop-from-preserved c =
     let pre = c.requires in
     rw c.after-from.ensures
     (copy-on run _ _ _ _ _ _ _ loop.invariant _ _ (omega arith) (omega arith) (copy-room run _ _ _ _ _ _ _ loop.invariant (pre) loop-test.true)
-    (run-char _ _ loop-test.true (sym c.name_follower.ensures ∙ not-false _ c.if-not-name_follower.false)))
+    (run-char _ _ loop-test.true (sym c.name_follower.ensures ∙ c.if-not-name_follower.false)))
 
 pub shape_of-out : goal.shape_of-out
 shape_of-out c = c.loop-from.invariant.len

@@ -6,7 +6,7 @@ use borrow.Author.Rules.{rules}
 use Rattle.lexical.proofs.names.name_run.Goals as goal
 
 pub returns-then-not-name_start : goal.returns-then-not-name_start
-returns-then-not-name_start c = tested c.peek.ensures namestart (sym c.name_start.ensures ∙ not-true _ c.if-not-name_start.true)
+returns-then-not-name_start c = tested c.peek.ensures namestart (sym c.name_start.ensures ∙ c.if-not-name_start.true)
 
 pub returns : goal.returns
 returns c =
@@ -14,7 +14,6 @@ returns c =
     let name-start = c.name_start in
     let peek = c.peek in
     record {
-      starts = tested peek.ensures namestart (sym name-start.ensures ∙ not-false _
-          c.if-not-name_start.false);
+      starts = tested peek.ensures namestart (sym name-start.ensures ∙ c.if-not-name_start.false);
       copied = copy_run.ensures;
     }

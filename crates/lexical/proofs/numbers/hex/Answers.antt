@@ -19,7 +19,7 @@ returns-then-not-digit c =
     let args = c.args in
     let pre = c.requires in
     hex-none args.text.now args.p.0 (pre) (tested (rw c.after-first.ensures at peek.ensures) digit (sym
-    c.digit.ensures ∙ not-true _ c.if-not-digit.true))
+    c.digit.ensures ∙ c.if-not-digit.true))
 
 pub digits-requires : goal.digits-requires
 digits-requires c =
@@ -31,5 +31,4 @@ digits-requires c =
 pub returns : goal.returns
 returns c =
     let digit' = c.digit in let peek = c.peek in let args = c.args in let pre = c.requires in hex-some
-    args.text.now args.p.0 (pre) (tested (rw c.after-first.ensures at peek.ensures) digit (sym digit'.ensures ∙ not-false _
-    c.if-not-digit.false)) c.digits.result (rw c.after-first.ensures at c.digits.ensures)
+    args.text.now args.p.0 (pre) (tested (rw c.after-first.ensures at peek.ensures) digit (sym digit'.ensures ∙ c.if-not-digit.false)) c.digits.result (rw c.after-first.ensures at c.digits.ensures)

@@ -93,7 +93,7 @@ returns-then-not-plain c =
     let loop = c.loop-from in
     let args = c.args in
     copy-no (quoted-by args.q) _ _ _ _ _ _ _ loop.invariant
-    (chars-no _ _ _ loop-test.true if1.false (sym c.plain.ensures ∙ not-true _ c.if-not-plain.true))
+    (chars-no _ _ _ loop-test.true if1.false (sym c.plain.ensures ∙ c.if-not-plain.true))
 
 pub offset_bounds-out-j-else-c-q : goal.offset_bounds-out-j-else-c-q
 offset_bounds-out-j-else-c-q c =
@@ -133,7 +133,7 @@ loop-from-preserved c =
     let pre = c.requires in
     rw c.after-next.ensures (copy-on (quoted-by args.q) _ _ _ _ _ _ _ loop.invariant _ _ (omega arith) (omega arith)
     (copy-room (quoted-by args.q) _ _ _ _ _ _ _ loop.invariant pre.0 loop-test.true)
-    (chars-plain _ _ _ loop-test.true if1.false (sym c.plain.ensures ∙ not-false _ c.if-not-plain.false)))
+    (chars-plain _ _ _ loop-test.true if1.false (sym c.plain.ensures ∙ c.if-not-plain.false)))
 
 pub shape_of-out : goal.shape_of-out
 shape_of-out c = c.loop-from.invariant.len

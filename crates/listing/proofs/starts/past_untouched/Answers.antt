@@ -24,7 +24,7 @@ loop-i-smaller c = omega (arith, c.loop-i-test.true)
 
 pub loop-i-preserved : goal.loop-i-preserved
 loop-i-preserved c =
-    passed-block c.loop-i-test.true c.loop-i.invariant (c.is_untouched.ensures (not-false _ c.if-not-is_untouched.false))
+    passed-block c.loop-i-test.true c.loop-i.invariant (c.is_untouched.ensures c.if-not-is_untouched.false)
 
 pub returns : goal.returns
 returns c = c.loop-i.invariant

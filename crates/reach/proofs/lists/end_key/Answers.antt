@@ -5,8 +5,6 @@ use borrow.Author.Rules.{rules}
 use Rattle.reach.proofs.Keys.{home_below, end_none, end-some}
 use Rattle.reach.proofs.lists.end_key.Goals as goal
 
-)
-
 pub returns-then-code-p-ne-AT_END : goal.returns-then-code-p-ne-AT_END
 returns-then-code-p-ne-AT_END c = sym (end_none _ _ c.if-code-p-ne-AT_END.true)
 
@@ -17,6 +15,7 @@ overflow_add-result-2 c = omega (
   home_below
       c.requires.0.shape c.args.p c.requires.1,
   c.requires.0.shape.small,
+)
 
 pub returns : goal.returns
 returns c = ap (λ (x : ℕ). x + 1) (c.requires.0.homes c.args.p c.requires.1) ∙ sym (end-some _ _ c.if-code-p-ne-AT_END.false)

@@ -4,8 +4,6 @@ use Rattle.chart.proofs.Users.{all-zero}
 use Rattle.reach.proofs.Keys.{members}
 use Rattle.reach.proofs.lists.list_dots.Goals as goal
 
-)) c.before.before.before.before.before.before.put-keys.ensures
-
 pub put_keys-requires : goal.put_keys-requires
 put_keys-requires c = (c.requires.keying, omega (arith, c.requires.keying.shape.small), all-zero 2048)
 
@@ -14,3 +12,4 @@ returns c = members c.list_uses.ensures (omega (
   arith,
   c.list_uses.auto.1.0,
   c.requires.room,
+)) c.put_keys.ensures

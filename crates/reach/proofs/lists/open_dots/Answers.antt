@@ -5,8 +5,6 @@ use borrow.Author.Rules.{rules}
 use Rattle.reach.proofs.Keys.{Opening, opening-start, opening-keying, opening-next, opening-end}
 use Rattle.reach.proofs.lists.open_dots.Goals as goal
 
-)
-
 pub loop-p-init : goal.loop-p-init
 loop-p-init c = (opening-start _ _ _, omega arith)
 
@@ -26,6 +24,7 @@ bounds-work-p c = omega (
   c.requires.shape.small,
   c.loop-p.invariant.0.long,
   c.requires.long,
+)
 
 pub overflow_add-p : goal.overflow_add-p
 overflow_add-p c = omega (arith, c.loop-p-test.true, c.requires.shape.small)

@@ -4,8 +4,6 @@ use borrow.Author.Rules.{rules}
 use Rattle.reach.proofs.Keys.{KeysTo, keys-start, keys-next, keys-end}
 use Rattle.reach.proofs.lists.put_keys.Goals as goal
 
-)
-
 pub loop-p-init : goal.loop-p-init
 loop-p-init c = keys-start _ _ _ _ c.requires.2
 
@@ -21,6 +19,7 @@ put_key-requires c = (
     c.loop-p.invariant.long,
   ),
   omega (arith, c.loop-p-test.true, c.requires.0.shape.small),
+)
 
 pub overflow_add-p : goal.overflow_add-p
 overflow_add-p c = omega (arith, c.loop-p-test.true, c.requires.0.shape.small)

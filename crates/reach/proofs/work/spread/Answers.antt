@@ -4,14 +4,6 @@ use borrow.Author.Rules.{rules}
 use Rattle.reach.proofs.Queue.{Spreading, spread-start, spread-less, spread-next, spread_end}
 use Rattle.reach.proofs.work.spread.Goals as goal
 
-)
-
-)
-
-)
-
-)
-
 pub overflow_mul-e : goal.overflow_mul-e
 overflow_mul-e c = omega (arith, c.requires.inside, c.requires.kept.small)
 
@@ -32,6 +24,7 @@ overflow_mul-x c = omega (
   arith,
   c.loop-x.invariant.below,
   c.requires.kept.small,
+)
 
 pub overflow_sub-x-in-loop-x : goal.overflow_sub-x-in-loop-x
 overflow_sub-x-in-loop-x c = omega (arith, c.loop-x-test.true)
@@ -41,6 +34,7 @@ offset_bounds-list-x c = omega (
   arith,
   c.loop-x.invariant.below,
   c.requires.kept.small,
+)
 
 pub bounds-list-x : goal.bounds-list-x
 bounds-list-x c = omega (
@@ -48,6 +42,7 @@ bounds-list-x c = omega (
   c.loop-x.invariant.below,
   c.loop-x-test.true,
   c.requires.linked.room,
+)
 
 pub loop-x-smaller : goal.loop-x-smaller
 loop-x-smaller c = omega (
@@ -56,6 +51,7 @@ loop-x-smaller c = omega (
   spread-less c.loop-x.invariant
       c.requires.linked
       c.loop-x-test.true,
+)
 
 pub loop-x-preserved : goal.loop-x-preserved
 loop-x-preserved c = rw c.wide-x-in-loop-x.ensures (spread-next c.loop-x.invariant

@@ -20,7 +20,7 @@ returns-then-not-one_of c =
     let spaced = c.spaced in
     let args = c.args in
     closed-no (one_of args.first args.second) args.text.now args.word _ _ _ w.given.1 spaced.ensures
-    (tested peek.ensures (one_of args.first args.second) (sym c.one_of.ensures ∙ not-true _ c.if-not-one_of.true))
+    (tested peek.ensures (one_of args.first args.second) (sym c.one_of.ensures ∙ c.if-not-one_of.true))
 
 pub after-requires : goal.after-requires
 after-requires c =
@@ -30,7 +30,7 @@ after-requires c =
     let good = c.well_formed in
     let pre = c.requires in
     let h = in-text args.text.now w.given.0.0.0 (one_of args.first args.second) (one-of-end _ _ pre.1.0 pre.1.1)
-    (tested peek.ensures (one_of args.first args.second) (sym c.one_of.ensures ∙ not-false _ c.if-not-one_of.false)) in
+    (tested peek.ensures (one_of args.first args.second) (sym c.one_of.ensures ∙ c.if-not-one_of.false)) in
     omega (arith, h, good.0)
 
 pub skip-requires : goal.skip-requires
@@ -40,7 +40,7 @@ skip-requires c =
     let args = c.args in
     let pre = c.requires in
     let h = in-text args.text.now w.given.0.0.0 (one_of args.first args.second) (one-of-end _ _ pre.1.0 pre.1.1)
-    (tested peek.ensures (one_of args.first args.second) (sym c.one_of.ensures ∙ not-false _ c.if-not-one_of.false)) in
+    (tested peek.ensures (one_of args.first args.second) (sym c.one_of.ensures ∙ c.if-not-one_of.false)) in
     omega (arith, h, c.after.ensures)
 
 pub returns-in_default-skip : goal.returns-in_default-skip
@@ -53,7 +53,7 @@ returns-in_default-skip c =
     let spaced = c.spaced in
     let args = c.args in
     closed-bad (one_of args.first args.second) args.text.now args.word _ _ _ w.given.1 spaced.ensures
-    (tested peek.ensures (one_of args.first args.second) (sym one-of.ensures ∙ not-false _ if1.false))
+    (tested peek.ensures (one_of args.first args.second) (sym one-of.ensures ∙ if1.false))
     (rw (c.after.ensures, c.in_default-skip.is) at skip.ensures)
 
 pub returns : goal.returns
@@ -66,5 +66,5 @@ returns c =
     let spaced = c.spaced in
     let args = c.args in
     closed-got (one_of args.first args.second) args.text.now args.word _ _ _ w.given.1 spaced.ensures
-    (tested peek.ensures (one_of args.first args.second) (sym one-of.ensures ∙ not-false _ if1.false)) _
+    (tested peek.ensures (one_of args.first args.second) (sym one-of.ensures ∙ if1.false)) _
     (rw (c.after.ensures, c.in-At-skip.is) at skip.ensures)

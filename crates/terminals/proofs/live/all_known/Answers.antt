@@ -25,7 +25,7 @@ bounds-table-at c =
 pub returns-then-not-known : goal.returns-then-not-known
 returns-then-not-known c =
     ap not
-    (seek-here c.requires (λ x. not (known x)) c.loop-k.invariant c.loop-k-test.true (ap not (sym c.known.ensures ∙ not-true c.known.result c.if-not-known.true)))
+    (seek-here c.requires (λ x. not (known x)) c.loop-k.invariant c.loop-k-test.true (ap not (sym c.known.ensures ∙ c.if-not-known.true)))
     ∙ all_none known (take c.args.n (drop c.args.at c.args.table.now))
 
 pub overflow_add-k : goal.overflow_add-k
@@ -39,7 +39,7 @@ loop-k-smaller c =
 pub loop-k-preserved : goal.loop-k-preserved
 loop-k-preserved c =
     seek-more c.requires (λ x. not (known x)) c.loop-k.invariant c.loop-k-test.true
-    (ap not (sym c.known.ensures ∙ not-false c.known.result c.if-not-known.false))
+    (ap not (sym c.known.ensures ∙ c.if-not-known.false))
 
 pub returns : goal.returns
 returns c =
