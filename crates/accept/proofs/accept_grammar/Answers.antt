@@ -15,25 +15,25 @@ pub some_unproductive-requires : goal.some_unproductive-requires
 some_unproductive-requires c =
     let load-grammar = c.load_grammar-loaded in
     record {
-      grammar = (loaded _ _ _ _ c.in-Grammar.is load-grammar.ensures).tree;
-      ready = is-ready _ _ _ _ c.in-Grammar.is load-grammar.ensures _ _ _ c.wide-size.ensures
-          (c.build_items-root.ensures _ (readable _ _ _ _ c.in-Grammar.is load-grammar.ensures));
+      grammar = (loaded _ _ _ _ c.in-Grammar.is c.load_grammar-loaded.ensures).tree;
+      ready = is-ready _ _ _ _ c.in-Grammar.is c.load_grammar-loaded.ensures _ _ _ c.wide-size.ensures
+          (c.build_items-root.ensures _ (readable _ _ _ _ c.in-Grammar.is c.load_grammar-loaded.ensures));
       long = search rules;
-      small = omega (arith, c.wide-size.ensures, small _ _ _ _ c.in-Grammar.is load-grammar.ensures);
+      small = omega (arith, c.wide-size.ensures, small _ _ _ _ c.in-Grammar.is c.load_grammar-loaded.ensures);
     }
 
 pub returns-then-some_unproductive : goal.returns-then-some_unproductive
 returns-then-some_unproductive c =
     let load-grammar = c.load_grammar-loaded in
-    let built = c.build_items-root.ensures _ (readable _ _ _ _ c.in-Grammar.is load-grammar.ensures) in
-    let ready = is-ready _ _ _ _ c.in-Grammar.is load-grammar.ensures _ _ _ c.wide-size.ensures built in
-    unproductive-turned _ _ _ _ c.in-Grammar.is load-grammar.ensures _ _ _ c.wide-size.ensures built _ c.plain.ensures
+    let built = c.build_items-root.ensures _ (readable _ _ _ _ c.in-Grammar.is c.load_grammar-loaded.ensures) in
+    let ready = is-ready _ _ _ _ c.in-Grammar.is c.load_grammar-loaded.ensures _ _ _ c.wide-size.ensures built in
+    unproductive-turned _ _ _ _ c.in-Grammar.is c.load_grammar-loaded.ensures _ _ _ c.wide-size.ensures built _ c.plain.ensures
     (sym (c.some_unproductive.ensures _ ready) ∙ c.if-some_unproductive.true)
 
 pub returns : goal.returns
 returns c =
     let load-grammar = c.load_grammar-loaded in
-    let built = c.build_items-root.ensures _ (readable _ _ _ _ c.in-Grammar.is load-grammar.ensures) in
-    let ready = is-ready _ _ _ _ c.in-Grammar.is load-grammar.ensures _ _ _ c.wide-size.ensures built in
-    kept _ _ _ _ c.in-Grammar.is load-grammar.ensures _ _ _ c.wide-size.ensures built
+    let built = c.build_items-root.ensures _ (readable _ _ _ _ c.in-Grammar.is c.load_grammar-loaded.ensures) in
+    let ready = is-ready _ _ _ _ c.in-Grammar.is c.load_grammar-loaded.ensures _ _ _ c.wide-size.ensures built in
+    kept _ _ _ _ c.in-Grammar.is c.load_grammar-loaded.ensures _ _ _ c.wide-size.ensures built
     (sym (c.some_unproductive.ensures _ ready) ∙ c.if-some_unproductive.false)

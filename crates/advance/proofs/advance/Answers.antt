@@ -11,7 +11,7 @@ sweep-requires c =
 
 pub shape_of-main-then-not-sweep : goal.shape_of-main-then-not-sweep
 shape_of-main-then-not-sweep c =
-    c.sweep.auto.1.1.1.1.1.0
+    c.sweep.auto.main
 
 pub returns-then-not-sweep : goal.returns-then-not-sweep
 returns-then-not-sweep c =
@@ -23,7 +23,7 @@ overflow_add-done c =
 
 pub shape_of-main-then-done-most : goal.shape_of-main-then-done-most
 shape_of-main-then-done-most c =
-    c.sweep.auto.1.1.1.1.1.0
+    c.sweep.auto.main
 
 pub returns-then-done-most : goal.returns-then-done-most
 returns-then-done-most c =
@@ -31,11 +31,11 @@ returns-then-done-most c =
 
 pub sweep-requires-2 : goal.sweep-requires-2
 sweep-requires-2 c =
-    rw c.sweep.auto.1.1.1.1.1.0 c.requires.0
+    rw c.sweep.auto.main c.requires.0
 
 pub shape_of-main : goal.shape_of-main
 shape_of-main c =
-    c.sweep-2.auto.1.1.1.1.1.0 ∙ c.sweep.auto.1.1.1.1.1.0
+    c.sweep-2.auto.main ∙ c.sweep.auto.main
 
 pub returns : goal.returns
 returns c =

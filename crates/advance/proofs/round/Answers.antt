@@ -23,7 +23,7 @@ prepare-requires c =
 
 pub count_rules-requires : goal.count_rules-requires
 count_rules-requires c =
-    (c.requires.small, omega (arith, c.requires.small, c.prepare.auto.1.1.1.1.0))
+    (c.requires.small, omega (arith, c.requires.small, c.prepare.auto.code))
 
 pub overflow_mul-most : goal.overflow_mul-most
 overflow_mul-most c =
@@ -35,16 +35,16 @@ overflow_mul-most c =
 
 pub returns-then-most-done : goal.returns-then-most-done
 returns-then-most-done c =
-    λ g ready. round-late c.prepare.new.1.1.1.1.1.0 (c.prepare.ensures g ready) ready c.requires.small
-    (omega (arith, c.requires.small, c.prepare.auto.1.1.1.1.0)) c.requires.short
-    (omega (arith, c.requires.small, c.prepare.auto.1.1.1.1.1.0)) c.count_rules.result c.count_rules.ensures.0
+    λ g ready. round-late c.prepare.new.fits (c.prepare.ensures g ready) ready c.requires.small
+    (omega (arith, c.requires.small, c.prepare.auto.code)) c.requires.short
+    (omega (arith, c.requires.small, c.prepare.auto.fits)) c.count_rules.result c.count_rules.ensures.0
     c.count_rules.ensures.1 c.args.done c.args.main.now (omega (arith, c.if-most-done.true))
 
 pub advance-requires : goal.advance-requires
 advance-requires c =
-    let x = coded {f = c.prepare.new.1.1.1.1.1.0} (c.prepare.ensures c.requires.grammar c.requires.ready) c.requires.small
-    (omega (arith, c.requires.small, c.prepare.auto.1.1.1.1.0)) c.requires.short
-    (omega (arith, c.requires.small, c.prepare.auto.1.1.1.1.1.0)) in (
+    let x = coded {f = c.prepare.new.fits} (c.prepare.ensures c.requires.grammar c.requires.ready) c.requires.small
+    (omega (arith, c.requires.small, c.prepare.auto.code)) c.requires.short
+    (omega (arith, c.requires.small, c.prepare.auto.fits)) in (
       safe _ _ _ _ _ _ _ _ x c.requires.room,
       omega (arith, c.if-most-done.false),
       few-rounds c.count_rules.result (length c.args.text.now + 1)
@@ -53,12 +53,12 @@ advance-requires c =
 
 pub shape_of-main : goal.shape_of-main
 shape_of-main c =
-    c.advance.auto.1.1.1.1.1.1.0
+    c.advance.auto.main
 
 pub returns : goal.returns
 returns c =
-    λ g ready. round_by c.prepare.new.1.1.1.1.1.0 (c.prepare.ensures g ready) ready c.requires.small
-    (omega (arith, c.requires.small, c.prepare.auto.1.1.1.1.0)) c.requires.short
-    (omega (arith, c.requires.small, c.prepare.auto.1.1.1.1.1.0)) c.count_rules.result c.count_rules.ensures.0
+    λ g ready. round_by c.prepare.new.fits (c.prepare.ensures g ready) ready c.requires.small
+    (omega (arith, c.requires.small, c.prepare.auto.code)) c.requires.short
+    (omega (arith, c.requires.small, c.prepare.auto.fits)) c.count_rules.result c.count_rules.ensures.0
     c.count_rules.ensures.1 c.args.done c.args.main.now _ _
     c.requires.room (λ x. most-by (c.type_inv.main x)) (omega (arith, c.if-most-done.false)) c.advance.ensures

@@ -20,7 +20,7 @@ slice_bounds-text-end c =
     let begin-list = c.begin_list-begun in
     let j = job args.grammar.now args.record.now (length args.scratch.now) (length args.second.now) in
     let e = c.in-At.is in
-    got_in (started args.list.now j [] begin-list.new.1.1.1.1.1.0 begin-list.new.1.1.1.1.1.1.0 begin-list.result begin-list.ensures _ e).input
+    got_in (started args.list.now j [] c.begin_list-begun.new.table c.begin_list-begun.new.text c.begin_list-begun.result c.begin_list-begun.ensures _ e).input
 
 pub slice_bounds-conclude_list-end-2 : goal.slice_bounds-conclude_list-end-2
 slice_bounds-conclude_list-end-2 c =
@@ -28,7 +28,7 @@ slice_bounds-conclude_list-end-2 c =
     let begin-list = c.begin_list-begun in
     let j = job args.grammar.now args.record.now (length args.scratch.now) (length args.second.now) in
     let e = c.in-At.is in
-    got-part (started args.list.now j [] begin-list.new.1.1.1.1.1.0 begin-list.new.1.1.1.1.1.1.0 begin-list.result begin-list.ensures _ e).input
+    got-part (started args.list.now j [] c.begin_list-begun.new.table c.begin_list-begun.new.text c.begin_list-begun.result c.begin_list-begun.ensures _ e).input
 
 pub conclude_list-requires : goal.conclude_list-requires
 conclude_list-requires c =
@@ -36,7 +36,7 @@ conclude_list-requires c =
     let begin-list = c.begin_list-begun in
     let j = job args.grammar.now args.record.now (length args.scratch.now) (length args.second.now) in
     let e = c.in-At.is in
-    judgeable args.list.now j [] begin-list.new.1.1.1.1.1.0 begin-list.new.1.1.1.1.1.1.0 begin-list.result begin-list.ensures _ e (search
+    judgeable args.list.now j [] c.begin_list-begun.new.table c.begin_list-begun.new.text c.begin_list-begun.result c.begin_list-begun.ensures _ e (search
     rules) _ refl (omega (arith, c.well_formed))
 
 pub returns : goal.returns

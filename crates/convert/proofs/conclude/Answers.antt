@@ -2,6 +2,7 @@ use mathlib.Core.Path.{refl, sym, ap, ◌∙◌}
 use Rattle.dynamic_errors.specs.Judgment.{verdict_number}
 use Rattle.convert.proofs.Conclusions.{some-verdict, some-job, some-later, room-later, forbidden, concluded, too_long}
 use borrow.Author.Rules.{rules}
+use borrow.Enum.Refused.{opened}
 use Rattle.convert.proofs.conclude.Goals as goal
 
 pub first_error-review-requires : goal.first_error-review-requires
@@ -11,7 +12,7 @@ first_error-review-requires c =
 pub returns-in_default : goal.returns-in_default
 returns-in_default c =
     λ g t p. forbidden c.requires.noted c.first_error-review.ensures g t _ _ _ _ p c.why.ensures
-    (λ z. some-verdict c.first_error-review.result.verdict c.in_default.in_default-own.keys2 (sym c.why.ensures ∙ z))
+    (λ z. some-verdict c.first_error-review.result.verdict (opened c.in_default.in_default-own.keys2) (sym c.why.ensures ∙ z))
 
 pub write_xml-written-requires : goal.write_xml-written-requires
 write_xml-written-requires c =

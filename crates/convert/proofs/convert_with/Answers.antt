@@ -9,4 +9,4 @@ note-requires c =
 
 pub conclude-requires : goal.conclude-requires
 conclude-requires c =
-    annotated c.requires.0 (omega (arith, c.requires.1, c.note.auto.1.1.1.0)) c.note.ensures
+    annotated c.requires.0 (omega (arith, c.requires.1, c.note.auto.scratch)) c.note.ensures

@@ -1,9 +1,10 @@
 use Rattle.decode.proofs.Whole as law
 use borrow.Author.Rules.{rules}
+use borrow.Enum.Refused.{opened}
 use Rattle.decode.proofs.decode_in_turn.Goals as goal
 
 pub returns-in_default : goal.returns-in_default
-returns-in_default c = law.refused c.scan-whole.ensures c.in_default.in_default-own.keys2
+returns-in_default c = law.refused c.scan-whole.ensures (opened c.in_default.in_default-own.keys2)
 
 pub returns : goal.returns
 returns c =

@@ -30,7 +30,7 @@ pub loop-n-preserved-in-Text : goal.loop-n-preserved-in-Text
 loop-n-preserved-in-Text c =
     let i = c.loop-n.invariant in
     let p = c.text_at-p.ensures in (
-      omega (arith, i.0, c.next-event.auto.1.1.0),
+      omega (arith, i.0, c.next-event.auto.scratch),
       on-text (Search _ _ _) i.1 c.next-event.ensures c.in-Text.is c.skip-at.ensures (Search _ _ _) (λ r k₀ k t s w O. record {
         owed = text-law k t (λ e. c.join-faults.ensures ∙ ap (both c.loop-n.faults) (c.of_text.ensures t (rw e at (s _ p)))) O.owed;
         spans = spans-text t k (s _ p) c.with_text-extent.ensures.0 c.with_text-extent.ensures.1 O.spans;
@@ -56,7 +56,7 @@ loop-n-smaller-in-Open c =
 pub loop-n-preserved-in-Open : goal.loop-n-preserved-in-Open
 loop-n-preserved-in-Open c =
     let i = c.loop-n.invariant in (
-      omega (arith, i.0, c.next-event.auto.1.1.0, c.enter-at.auto.1.1.0),
+      omega (arith, i.0, c.next-event.auto.scratch, c.enter-at.auto.scratch),
       open-enter (Search _ _ _) i.1 c.next-event.ensures c.in-Open.is c.enter-at.ensures (Search _ _ _) (λ r k₀ k m n x N S₀ A O. record {
         owed = open-law k n x (c.join-faults-in-Open.ensures ∙ ap (both c.loop-n.faults) (c.of_name.ensures m n N)) O.owed;
         spans = spans-element n x k (c.with_element-extent.ensures.0 m n N) c.with_element-extent.ensures.1 O.spans;
@@ -82,7 +82,7 @@ loop-n-smaller-in-Attribute c =
 pub loop-n-preserved-in-Attribute : goal.loop-n-preserved-in-Attribute
 loop-n-preserved-in-Attribute c =
     let i = c.loop-n.invariant in (
-      omega (arith, i.0, c.next-event.auto.1.1.0, c.enter-at-in-Attribute.auto.1.1.0),
+      omega (arith, i.0, c.next-event.auto.scratch, c.enter-at-in-Attribute.auto.scratch),
       attribute-enter (Search _ _ _) i.1 c.next-event.ensures c.in-Attribute.is c.enter-at-in-Attribute.ensures (Search _ _ _) (λ r k₀ k m n v N O. record {
         owed = attribute-law k n v (c.join-faults-in-Attribute.ensures ∙ ap (both c.loop-n.faults) (c.of_attribute.ensures m n N)) O.owed;
         spans = spans-attribute n v k (c.with_attribute-extent.ensures.0 m n N) c.with_attribute-extent.ensures.1 O.spans;

@@ -52,8 +52,8 @@ pub loop-n-preserved-in-Open : goal.loop-n-preserved-in-Open
 loop-n-preserved-in-Open c =
     let i = c.loop-n.invariant in
     let R = c.repeats_in.ensures in (
-      omega (arith, i.0, c.next-event.auto.1.1.0, c.repeats_in.auto.1.1.0, c.enter-at.auto.1.1.0),
-      omega (arith, i.1, c.repeats_in.auto.1.1.1.0),
+      omega (arith, i.0, c.next-event.auto.scratch, c.repeats_in.auto.scratch, c.enter-at.auto.scratch),
+      omega (arith, i.1, c.repeats_in.auto.seen),
       open-enter (Hunt _) i.2 c.next-event.ensures c.in-Open.is (rw R.kept at c.enter-at.ensures) (Hunt _)
           (λ r k₀ k m n x N S₀ A O. hunt-element n x k (R.is r S₀ n x k A) c.either-found.ensures O),
     )

@@ -13,4 +13,4 @@ pub returns : goal.returns
 returns c =
     let pre = c.requires in
     let found = c.empty_heights.ensures in
-    (noted_of pre.0.small (omega (arith, c.list_uses.auto.1.0, pre.1)) c.list_uses.ensures c.note_homes.ensures found, found.empties)
+    (noted_of pre.0.small (omega (arith, c.list_uses.auto.uses, pre.1)) c.list_uses.ensures c.note_homes.ensures found, found.empties)

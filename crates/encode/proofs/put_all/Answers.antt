@@ -28,7 +28,7 @@ loop-i-preserved c =
       omega arith,
       omega arith,
       turn c.args.limit.0 c.args.s.now c.loop-i.i
-          (state c.loop-i.at.0 c.loop-i.out) (state c.put-at.result.0 c.put-at.new.0)
+          (state c.loop-i.at.0 c.loop-i.out) (state c.put-at.result.0 c.put-at.new.out)
           c.loop-i-test.true c.put-at.ensures ∙ c.loop-i.invariant.2,
     )
 

@@ -18,4 +18,4 @@ list_uses-requires c =
 
 pub returns : goal.returns
 returns c =
-    firsts-of c.requires.0 c.put_keys.ensures c.list_uses.ensures (omega (arith, c.requires.1, c.list_uses.auto.1.0))
+    firsts-of c.requires.0 c.put_keys.ensures c.list_uses.ensures (omega (arith, c.requires.1, c.list_uses.auto.uses))

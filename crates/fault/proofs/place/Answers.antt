@@ -16,7 +16,7 @@ mark-requires c =
 
 pub farthest-requires : goal.farthest-requires
 farthest-requires c =
-    (ranging-of c.requires, omega (arith, c.mark.auto.1.1.1.1.1.0, length-replicate {A = ℕ} 102912 2))
+    (ranging-of c.requires, omega (arith, c.mark.auto.flags, length-replicate {A = ℕ} 102912 2))
 
 pub returns : goal.returns
 returns c =

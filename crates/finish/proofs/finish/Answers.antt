@@ -22,14 +22,14 @@ fit_rows-requires c =
 pub is_fixpoint-requires : goal.is_fixpoint-requires
 is_fixpoint-requires c =
     let k = fitted (c.code_rules-top.ensures c.requires.grammar c.requires.ready) c.fit_rows.ensures in
-    safe _ _ _ _ _ _ _ _ (coded {f = c.fit_rows.new.1.1.1.0} k c.requires.small (omega (arith, c.requires.small, c.code_rules-top.auto.1.1.1.0))
+    safe _ _ _ _ _ _ _ _ (coded {f = c.fit_rows.new.fits} k c.requires.small (omega (arith, c.requires.small, c.code_rules-top.auto.code))
     c.requires.short
-    (omega (arith, c.requires.small, c.fit_rows.auto.1.1.1.0))) c.requires.room
+    (omega (arith, c.requires.small, c.fit_rows.auto.fits))) c.requires.room
 
 pub returns-then-not-is_fixpoint : goal.returns-then-not-is_fixpoint
 returns-then-not-is_fixpoint c =
     λ g ready. not-finished (c.code_rules-top.ensures g ready) c.fit_rows.ensures ready c.requires.small
-    (omega (arith, c.code_rules-top.auto.1.1.1.0)) (omega (arith, c.fit_rows.auto.1.1.1.0)) c.requires.short
+    (omega (arith, c.code_rules-top.auto.code)) (omega (arith, c.fit_rows.auto.fits)) c.requires.short
     (λ x. most-by (c.type_inv.main x)) (not_so c.is_fixpoint.ensures c.if-not-is_fixpoint.true)
 
 pub read_off-requires : goal.read_off-requires
@@ -41,8 +41,8 @@ read_off-requires c =
       rows = c.fit_rows.ensures;
       long = c.requires.long;
       small = c.requires.small;
-      code-long = omega (arith, c.code_rules-top.auto.1.1.1.0);
-      fits-long = omega (arith, c.fit_rows.auto.1.1.1.0);
+      code-long = omega (arith, c.code_rules-top.auto.code);
+      fits-long = omega (arith, c.fit_rows.auto.fits);
       short = c.requires.short;
       room = c.requires.room;
       numbers = c.requires.numbers;

@@ -5,6 +5,7 @@ use Rattle.plain_reading.proofs.Plain.{finished-plain}
 use Rattle.parser.proofs.Located.{as-walked, fails}
 use Rattle.finish.proofs.Off.{settled-walkable, settled-finished, settled-placing, settled-fault}
 use borrow.Author.Rules.{rules}
+use borrow.Enum.Refused.{opened}
 use Rattle.finish.proofs.read_off.Goals as goal
 
 pub walk_filled-walked-requires : goal.walk_filled-walked-requires
@@ -14,7 +15,7 @@ walk_filled-walked-requires c =
 pub returns-in_default : goal.returns-in_default
 unfolding settled-finished finished-plain
 returns-in_default c =
-    λ g k. as-walked g _ _ c.walk_filled-walked.result c.of_walked.result c.of_walked.ensures c.in_default.in_default-own.keys2
+    λ g k. as-walked g _ _ c.walk_filled-walked.result c.of_walked.result c.of_walked.ensures (opened c.in_default.in_default-own.keys2)
     (c.walk_filled-walked.ensures.answers (settled-finished c.requires c.walk_filled-walked.ensures.marked c.walk_filled-walked.ensures.noted k))
 
 pub place-requires : goal.place-requires

@@ -21,7 +21,7 @@ loop-p-smaller c =
 
 pub loop-p-preserved : goal.loop-p-preserved
 loop-p-preserved c =
-    (omega (arith, c.loop-p-test.true), c.lower.auto.1.1.1.1.0 ∙ c.loop-p.invariant.1, leasts-next _ _ _ _ _ _ _ _ _ c.loop-p.invariant.2 c.lower.ensures)
+    (omega (arith, c.loop-p-test.true), c.lower.auto.heights ∙ c.loop-p.invariant.1, leasts-next _ _ _ _ _ _ _ _ _ c.loop-p.invariant.2 c.lower.ensures)
 
 pub shape_of-heights : goal.shape_of-heights
 shape_of-heights c =

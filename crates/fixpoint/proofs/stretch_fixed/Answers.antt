@@ -28,7 +28,7 @@ position_fixed-requires c =
       c.requires.0,
       record { inside = c.loop-p-test.true; order = c.requires.1; stop = c.requires.2 },
       omega
-          (arith, c.requires.0.shape.cells.few, c.rule_heights.auto.1.1.1.0, length-replicate {A = ℕ} 512 4294967295),
+          (arith, c.requires.0.shape.cells.few, c.rule_heights.auto.heights, length-replicate {A = ℕ} 512 4294967295),
       c.rule_heights.ensures,
     )
 

@@ -8,8 +8,8 @@ pub read_begun-requires : goal.read_begun-requires
 read_begun-requires c =
     let j = job c.args.grammar.now c.args.record.now (length c.args.main.now) c.args.lending.second in
     let done = c.begin-begun in
-    prepared j done.new.1.1.1.1.0 done.new.1.1.1.1.1.0 (length c.args.main.now) (length c.args.parse.now)
-    done.result done.ensures (search rules) (search rules) c.requires.room
+    prepared j c.begin-begun.new.table c.begin-begun.new.text (length c.args.main.now) (length c.args.parse.now)
+    c.begin-begun.result c.begin-begun.ensures (search rules) (search rules) c.requires.room
 
 pub returns : goal.returns
 returns c =

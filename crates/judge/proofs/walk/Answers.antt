@@ -17,7 +17,7 @@ pub step-went-requires : goal.step-went-requires
 step-went-requires c = (c.more.ensures.0 c.loop-scratch-test.true, c.loop-scratch.invariant.some)
 
 pub shape_of-scratch-in_default : goal.shape_of-scratch-in_default
-shape_of-scratch-in_default c = omega (arith, c.loop-scratch.invariant.long, c.step-went.auto.1.1.1.0)
+shape_of-scratch-in_default c = omega (arith, c.loop-scratch.invariant.long, c.step-went.auto.scratch)
 
 pub returns-in_default : goal.returns-in_default
 returns-in_default c = walked-stuck c.loop-scratch.invariant c.step-went.ensures c.in_default.is
@@ -28,7 +28,7 @@ loop-scratch-smaller c =
 
 pub loop-scratch-preserved : goal.loop-scratch-preserved
 loop-scratch-preserved c =
-    turn_on c.loop-scratch.invariant c.step-went.ensures c.in-On.is (omega (arith, c.step-went.auto.1.1.1.0))
+    turn_on c.loop-scratch.invariant c.step-went.ensures c.in-On.is (omega (arith, c.step-went.auto.scratch))
 
 pub shape_of-scratch-then-list-h : goal.shape_of-scratch-then-list-h
 shape_of-scratch-then-list-h c = c.loop-scratch.invariant.long

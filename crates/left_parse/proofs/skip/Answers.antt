@@ -6,4 +6,4 @@ use Rattle.left_parse.proofs.skip.Goals as goal
 pub returns : goal.returns
 returns c =
     let w = c.terminal_width-w in
-    record { w = w.result; wide = wide_of _ w.ensures.0 c.token_at.ensures.0 w.ensures.1; spot = refl }
+    record { w = c.terminal_width-w.result; wide = wide_of _ c.terminal_width-w.ensures.0 c.token_at.ensures.0 c.terminal_width-w.ensures.1; spot = refl }

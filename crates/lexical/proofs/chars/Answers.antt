@@ -18,14 +18,14 @@ returns-in_default c =
     let if1 = c.if-peek-eq-NUMBER_SIGN in
     let peek = c.peek in
     let args = c.args in
-    chars-no-hex args.text.now args.p.0 (is-ch peek.ensures 0x23 if1.true) (rw c.in_default.is at hex.ensures)
+    chars-no-hex args.text.now args.p.0 (is-ch c.peek.ensures 0x23 c.if-peek-eq-NUMBER_SIGN.true) (rw c.in_default.is at c.hex.ensures)
 
 pub returns-then-peek-eq-NUMBER_SIGN : goal.returns-then-peek-eq-NUMBER_SIGN
 returns-then-peek-eq-NUMBER_SIGN c =
     let hex = c.hex in
     let if1 = c.if-peek-eq-NUMBER_SIGN in
     let peek = c.peek in
-    coding _ _ _ _ _ (is-ch peek.ensures 0x23 if1.true) (rw c.in-Value.is at hex.ensures)
+    coding _ _ _ _ _ (is-ch c.peek.ensures 0x23 c.if-peek-eq-NUMBER_SIGN.true) (rw c.in-Value.is at c.hex.ensures)
 
 pub returns-in_default-string : goal.returns-in_default-string
 returns-in_default-string c =
@@ -33,7 +33,7 @@ returns-in_default-string c =
     let if1 = c.if-peek-eq-NUMBER_SIGN in
     let peek = c.peek in
     let args = c.args in
-    chars-no-string args.text.now args.p.0 (not-ch peek.ensures 0x23 if1.false) (rw c.in_default-string.is at string.ensures)
+    chars-no-string args.text.now args.p.0 (not-ch c.peek.ensures 0x23 c.if-peek-eq-NUMBER_SIGN.false) (rw c.in_default-string.is at c.string.ensures)
 
 pub returns : goal.returns
 returns c =
@@ -42,5 +42,5 @@ returns c =
     let peek = c.peek in
     let args = c.args in
     recopy (λ x. read-string (drop args.p.0 args.text.now) ≡ x) (λ x. read-chars (drop args.p.0 args.text.now) ≡ map string x)
-    (λ x e. chars-string args.text.now args.p.0 (not-ch peek.ensures 0x23 if1.false) x e)
-    (rw c.in-At.is at string'.ensures)
+    (λ x e. chars-string args.text.now args.p.0 (not-ch c.peek.ensures 0x23 c.if-peek-eq-NUMBER_SIGN.false) x e)
+    (rw c.in-At.is at c.string.ensures)

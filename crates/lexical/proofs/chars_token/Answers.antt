@@ -9,7 +9,7 @@ pub head-requires : goal.head-requires
 head-requires c =
     let chars = c.c-1 in
     let pre = c.requires in
-    rw chars.given.1 at (pre)
+    rw c.in-Quoted.is at (pre)
 
 pub offset_bounds-out-j : goal.offset_bounds-out-j
 offset_bounds-out-j c =
@@ -17,7 +17,7 @@ offset_bounds-out-j c =
     let good = c.well_formed in
     let pre = c.requires in
     let h : args.at.0 + 2 ≤ length args.out.now = rw c.in-Coded.is at (pre) in
-    omega (arith, good.1.1.1.0)
+    omega (arith, c.well_formed.1.1.1.0)
 
 pub bounds-out-j : goal.bounds-out-j
 bounds-out-j c =
@@ -32,7 +32,7 @@ overflow_add-out c =
     let good = c.well_formed in
     let pre = c.requires in
     let h : args.at.0 + 2 ≤ length args.out.now = rw c.in-Coded.is at (pre) in
-    omega (arith, good.1.1.1.0)
+    omega (arith, c.well_formed.1.1.1.0)
 
 pub offset_bounds-out-j-in-Coded : goal.offset_bounds-out-j-in-Coded
 offset_bounds-out-j-in-Coded c =
@@ -40,7 +40,7 @@ offset_bounds-out-j-in-Coded c =
     let good = c.well_formed in
     let pre = c.requires in
     let h : args.at.0 + 2 ≤ length args.out.now = rw c.in-Coded.is at (pre) in
-    omega (arith, good.1.1.1.0)
+    omega (arith, c.well_formed.1.1.1.0)
 
 pub bounds-out-j-in-Coded : goal.bounds-out-j-in-Coded
 bounds-out-j-in-Coded c =
@@ -55,13 +55,13 @@ overflow_add-result c =
     let good = c.well_formed in
     let pre = c.requires in
     let h : args.at.0 + 2 ≤ length args.out.now = rw c.in-Coded.is at (pre) in
-    omega (arith, good.1.1.1.0)
+    omega (arith, c.well_formed.1.1.1.0)
 
 pub returns-in-Quoted : goal.returns-in-Quoted
 returns-in-Quoted c =
     let head = c.head in
     let chars = c.c-1 in
-    rw chars.given.1 (record { step = (refl, refl); table = head.ensures })
+    rw c.in-Quoted.is (record { step = (refl, refl); table = c.head.ensures })
 
 pub returns-in-Coded : goal.returns-in-Coded
 returns-in-Coded c = rw c.in-Coded.is (record { step = (refl, refl); table = refl })

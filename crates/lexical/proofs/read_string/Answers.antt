@@ -6,15 +6,15 @@ use Rattle.lexical.proofs.read_string.Goals as goal
 pub returns-in_default : goal.returns-in_default
 returns-in_default c =
     let string = c.string in
-    rw c.in_default.is at string.ensures
+    rw c.in_default.is at c.string.ensures
 
 pub head-requires : goal.head-requires
 head-requires c =
     let q = c.q-1 in
     let string = c.string in
     let pre = c.requires in
-    let k : Copied _ _ _ _ _ _ _ _ _ = rw q.given.1 at string.ensures in
-    headable _ _ _ _ (pre) _ string.auto.1.1.0 _ 2 _ _ k (quoted-on _ _ _ _ (pre) _ string.auto.1.1.0 _ _ _ k)
+    let k : Copied _ _ _ _ _ _ _ _ _ = rw c.in-At.is at c.string.ensures in
+    headable _ _ _ _ (pre) _ c.string.auto.out _ 2 _ _ k (quoted-on _ _ _ _ (pre) _ c.string.auto.out _ _ _ k)
 
 pub returns : goal.returns
 returns c =
@@ -22,5 +22,5 @@ returns c =
     let q = c.q-1 in
     let string = c.string in
     let pre = c.requires in
-    let k : Copied _ _ _ _ _ _ _ _ _ = rw q.given.1 at string.ensures in
-    counted-token _ _ _ _ (pre) _ string.auto.1.1.0 _ 2 _ _ _ _ k (quoted-on _ _ _ _ (pre) _ string.auto.1.1.0 _ _ _ k) head.ensures
+    let k : Copied _ _ _ _ _ _ _ _ _ = rw c.in-At.is at c.string.ensures in
+    counted-token _ _ _ _ (pre) _ c.string.auto.out _ 2 _ _ _ _ k (quoted-on _ _ _ _ (pre) _ c.string.auto.out _ _ _ k) c.head.ensures

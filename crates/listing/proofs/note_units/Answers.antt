@@ -20,7 +20,7 @@ loop-p-smaller c =
 
 pub loop-p-preserved : goal.loop-p-preserved
 loop-p-preserved c =
-    (omega (arith, c.loop-p-test.true), c.note_unit.ensures, c.note_unit.auto.1.1.0 ∙ c.loop-p.invariant.2)
+    (omega (arith, c.loop-p-test.true), c.note_unit.ensures, c.note_unit.auto.column ∙ c.loop-p.invariant.2)
 
 pub returns : goal.returns
 returns c =

@@ -11,6 +11,7 @@ use Rattle.measure.proofs.grammar_size.Reads as grammar-size-reads
 use Rattle.static_errors.proofs.static_refusal.Reads as static-refusal-reads
 use Rattle.static_errors.proofs.version_mismatch.Reads as version-mismatch-reads
 use Rattle.text.proofs.plain.Reads as plain-reads
+use borrow.Enum.Refused.{opened}
 use Rattle.load.proofs.check_tree.Goals as goal
 
 -- src/lib.rt:77:9
@@ -22,7 +23,7 @@ static_refusal-ruling-requires c =
 pub fault_place-place-requires : goal.fault_place-place-requires
 fault_place-place-requires c =
     place-asks c.args.text.now c.args.table.now c.args.end c.requires c.static_refusal-ruling.result c.why_broken-rule.result
-    c.in_default.in_default-own.keys2
+    (opened c.in_default.in_default-own.keys2)
     c.why_broken-rule.ensures (c.static_refusal-ruling.ensures c.requires.grammar
     (to-static c.args.table.now c.args.end c.requires.grammar c.requires.within c.requires.stands))
 
@@ -35,7 +36,7 @@ returns-in_default c =
     c.at_character.ensures
     (place-for c.args.text.now c.why_broken-rule.result c.fault_place-place.result.0
     (at-most-10 g c.why_broken-rule.result (c.why_broken-rule.ensures ∙ e)) c.fault_place-place.ensures)
-    (broken g c.static_refusal-ruling.result c.why_broken-rule.result c.in_default.in_default-own.keys2 c.why_broken-rule.ensures e)
+    (broken g c.static_refusal-ruling.result c.why_broken-rule.result (opened c.in_default.in_default-own.keys2) c.why_broken-rule.ensures e)
 
 -- src/lib.rt:83:9
 pub grammar_size-size-requires : goal.grammar_size-size-requires

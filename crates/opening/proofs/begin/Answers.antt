@@ -7,7 +7,7 @@ pub need_of-need-requires : goal.need_of-need-requires
 need_of-need-requires c =
     let done = c.open_job-opened in
     let args = c.args in
-    small args.grammar.now args.record.now done.new.1.1.0 done.new.1.1.1.0 done.result done.ensures
+    small args.grammar.now args.record.now c.open_job-opened.new.table c.open_job-opened.new.text c.open_job-opened.result c.open_job-opened.ensures
 
 pub returns : goal.returns
 returns c =
@@ -15,4 +15,4 @@ returns c =
     let done = c.open_job-opened in
     let j = job args.grammar.now args.record.now args.main args.second in
     let need = c.need_of-need in
-    begins-lent main_need j done.new.1.1.0 done.new.1.1.1.0 need.result done.result done.ensures (need-is done.result need.result need.ensures) _ c.lend.ensures
+    begins-lent main_need j c.open_job-opened.new.table c.open_job-opened.new.text c.need_of-need.result c.open_job-opened.result c.open_job-opened.ensures (need-is c.open_job-opened.result c.need_of-need.result c.need_of-need.ensures) _ c.lend.ensures

@@ -10,4 +10,4 @@ returns c =
     let args = c.args in
     let done = c.open_job-opened in
     let j = job args.grammar.now args.record.now args.scratch args.second in
-    begins-lent (λ g r. 2 * args.numbers) j done.new.1.1.0 done.new.1.1.1.0 (2 * args.numbers) done.result done.ensures (λ s o e. refl) _ c.lend.ensures
+    begins-lent (λ g r. 2 * args.numbers) j c.open_job-opened.new.table c.open_job-opened.new.text (2 * args.numbers) c.open_job-opened.result c.open_job-opened.ensures (λ s o e. refl) _ c.lend.ensures

@@ -13,4 +13,4 @@ tidy-tidied-requires c =
 
 pub returns : goal.returns
 returns c =
-    tidy-concluded _ _ _ _ c.in-Grammar.is c.tidy-tidied.new.1.1.0 c.tidy-tidied.result _ c.tidy-tidied.ensures c.answer_to_tidied.ensures
+    tidy-concluded _ _ _ _ c.in-Grammar.is c.tidy-tidied.new.res c.tidy-tidied.result _ c.tidy-tidied.ensures c.answer_to_tidied.ensures

@@ -32,22 +32,22 @@ attempt-tried-requires c =
 pub returns-then-is_answer : goal.returns-then-is_answer
 unfolding staged
 returns-then-is_answer c =
-    λ g k. as-answer g c.args.text.now c.attempt-tried.new.1.1.1.1.1.0 true c.attempt-tried.result (record { 0 = 0 }) c.of_tried.ensures
+    λ g k. as-answer g c.args.text.now c.attempt-tried.new.parse true c.attempt-tried.result (record { 0 = 0 }) c.of_tried.ensures
     (sym c.is_answer.ensures ∙ c.if-is_answer.true)
     (c.attempt-tried.ensures (staged c.requires.0 c.note_rules.ensures k (c.flag.ensures.both c.if-not-flag.false)))
 
 pub locate-place-requires : goal.locate-place-requires
 locate-place-requires c =
-    (coded_kept c.requires.0 c.attempt-tried.auto.1.1.1.0, c.note_rules.ensures, c.flag.ensures.left)
+    (coded_kept c.requires.0 c.attempt-tried.auto.main, c.note_rules.ensures, c.flag.ensures.left)
 
 pub shape_of-main-then-is_refused : goal.shape_of-main-then-is_refused
 shape_of-main-then-is_refused c =
-    c.locate-place.auto.1.1.1.1.1.0 ∙ c.attempt-tried.auto.1.1.1.0
+    c.locate-place.auto.main ∙ c.attempt-tried.auto.main
 
 pub returns-then-is_refused : goal.returns-then-is_refused
 unfolding staged
 returns-then-is_refused c =
-    λ g k. as-refused g c.args.text.now c.attempt-tried.new.1.1.1.1.1.0 c.attempt-tried.result c.locate-place.result
+    λ g k. as-refused g c.args.text.now c.attempt-tried.new.parse c.attempt-tried.result c.locate-place.result
     (sym c.is_answer.ensures ∙ c.if-is_answer.false)
     (sym c.is_refused.ensures ∙ c.if-is_refused.true)
     (c.attempt-tried.ensures (staged c.requires.0 c.note_rules.ensures k (c.flag.ensures.both c.if-not-flag.false))) (c.locate-place.ensures g k)
@@ -56,24 +56,24 @@ pub attempt-again-requires : goal.attempt-again-requires
 attempt-again-requires c =
     (
       (staged c.requires.0 c.note_rules.ensures c.requires.0.code (c.flag.ensures.both c.if-not-flag.false)),
-      omega (arith, c.requires.0.room, c.attempt-tried.auto.1.1.1.0, c.locate-place.auto.1.1.1.1.1.0),
-      omega (arith, c.requires.2, c.attempt-tried.auto.1.1.1.1.1.0),
+      omega (arith, c.requires.0.room, c.attempt-tried.auto.main, c.locate-place.auto.main),
+      omega (arith, c.requires.2, c.attempt-tried.auto.parse),
     )
 
 pub shape_of-marks : goal.shape_of-marks
 shape_of-marks c =
-    c.flag.auto.1.1.1.0
+    c.flag.auto.marks
 
 pub shape_of-main : goal.shape_of-main
 shape_of-main c =
-    c.attempt-again.auto.1.1.1.0 ∙ c.locate-place.auto.1.1.1.1.1.0 ∙ c.attempt-tried.auto.1.1.1.0
+    c.attempt-again.auto.main ∙ c.locate-place.auto.main ∙ c.attempt-tried.auto.main
 
 pub shape_of-parse : goal.shape_of-parse
 shape_of-parse c =
-    c.attempt-again.auto.1.1.1.1.1.0 ∙ c.attempt-tried.auto.1.1.1.1.1.0
+    c.attempt-again.auto.parse ∙ c.attempt-tried.auto.parse
 
 pub returns : goal.returns
 unfolding staged
 returns c =
-    λ g k. as-tried g c.args.text.now c.attempt-again.new.1.1.1.1.1.0 c.attempt-again.result c.locate-place.result c.of_tried-2.ensures
+    λ g k. as-tried g c.args.text.now c.attempt-again.new.parse c.attempt-again.result c.locate-place.result c.of_tried-2.ensures
     (c.attempt-again.ensures (staged c.requires.0 c.note_rules.ensures k (c.flag.ensures.both c.if-not-flag.false))) (c.locate-place.ensures g k)

@@ -11,7 +11,7 @@ code_rules-top-requires c =
 pub choose_short-requires : goal.choose_short-requires
 choose_short-requires c =
     (
-      coded (locatable-anew c.requires refl) (c.code_rules-top.ensures c.requires.grammar c.requires.ready) c.code_rules-top.auto.1.1.1.0,
+      coded (locatable-anew c.requires refl) (c.code_rules-top.ensures c.requires.grammar c.requires.ready) c.code_rules-top.auto.code,
       c.requires.numbers,
       omega (arith, c.if-n-le-SHORT.true),
     )
@@ -23,7 +23,7 @@ returns-then-n-le-SHORT c =
 pub choose_middle-requires : goal.choose_middle-requires
 choose_middle-requires c =
     (
-      coded (locatable-anew c.requires refl) (c.code_rules-top.ensures c.requires.grammar c.requires.ready) c.code_rules-top.auto.1.1.1.0,
+      coded (locatable-anew c.requires refl) (c.code_rules-top.ensures c.requires.grammar c.requires.ready) c.code_rules-top.auto.code,
       c.requires.numbers,
       omega (arith, c.if-n-le-MIDDLE.true),
     )
@@ -35,7 +35,7 @@ returns-then-n-le-MIDDLE c =
 pub choose_long-requires : goal.choose_long-requires
 choose_long-requires c =
     (
-      coded (locatable-anew c.requires refl) (c.code_rules-top.ensures c.requires.grammar c.requires.ready) c.code_rules-top.auto.1.1.1.0,
+      coded (locatable-anew c.requires refl) (c.code_rules-top.ensures c.requires.grammar c.requires.ready) c.code_rules-top.auto.code,
       c.requires.numbers,
     )
 

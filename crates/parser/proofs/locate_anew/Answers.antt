@@ -18,13 +18,13 @@ pub note_rules-requires : goal.note_rules-requires
 note_rules-requires c =
     let pre = c.requires in
     let k = c.code_rules-top.ensures pre.grammar pre.ready in
-    (shape_of k pre.small (omega (arith, pre.small, c.code_rules-top.auto.1.1.1.0)), length-replicate {A = ℕ} 2048 0, all-zero 2048)
+    (shape_of k pre.small (omega (arith, pre.small, c.code_rules-top.auto.code)), length-replicate {A = ℕ} 2048 0, all-zero 2048)
 
 pub left-requires : goal.left-requires
 left-requires c =
     let pre = c.requires in
     let code = c.code_rules-top.ensures pre.grammar pre.ready in
-    lefting-of code (given-of code pre.long pre.small (omega (arith, pre.small, c.code_rules-top.auto.1.1.1.0)) pre.short
+    lefting-of code (given-of code pre.long pre.small (omega (arith, pre.small, c.code_rules-top.auto.code)) pre.short
     (omega (arith, length-replicate {A = ℕ} 308736 0, pre.short)))
     (all-zero 308736)
 
@@ -32,7 +32,7 @@ pub locate-requires : goal.locate-requires
 locate-requires c =
     let pre = c.requires in
     let k = c.code_rules-top.ensures pre.grammar pre.ready in
-    (coded pre k c.code_rules-top.auto.1.1.1.0, c.note_rules.ensures, left-flagged c.left.ensures)
+    (coded pre k c.code_rules-top.auto.code, c.note_rules.ensures, left-flagged c.left.ensures)
 
 pub returns : goal.returns
 returns c =

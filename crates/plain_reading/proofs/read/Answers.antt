@@ -26,8 +26,8 @@ pub fill-requires : goal.fill-requires
 fill-requires c =
     let pre = c.requires in
     let code = c.prepare-top.ensures pre.grammar pre.ready in
-    let a = roomy {f = c.prepare-top.new.1.1.1.1.1.0} code pre
-    (omega (arith, c.prepare-top.auto.1.1.1.1.0)) (omega (arith, c.prepare-top.auto.1.1.1.1.1.0)) refl in
+    let a = roomy {f = c.prepare-top.new.fits} code pre
+    (omega (arith, c.prepare-top.auto.code)) (omega (arith, c.prepare-top.auto.fits)) refl in
     safe _ _ _ _ _ _ _ _ (coded code a.small a.code-room a.short a.fits-room) a.room
 
 pub walk_filled-requires : goal.walk_filled-requires
@@ -39,8 +39,8 @@ walk_filled-requires c =
       text = c.args.text.now;
       long = refl;
       ruled = code;
-      roomy = roomy {f = c.prepare-top.new.1.1.1.1.1.0} code pre (omega (arith, c.prepare-top.auto.1.1.1.1.0)) (omega (arith, c.prepare-top.auto.1.1.1.1.1.0))
-          c.fill.auto.1.1.1.1.0;
+      roomy = roomy {f = c.prepare-top.new.fits} code pre (omega (arith, c.prepare-top.auto.code)) (omega (arith, c.prepare-top.auto.fits))
+          c.fill.auto.main;
       filled = c.fill.ensures;
       marks = length-replicate {A = ℕ} 308736 0;
       notes = (length-replicate {A = ℕ} 2048 0, all-zero 2048);
@@ -51,7 +51,7 @@ pub returns : goal.returns
 unfolding finished-plain
 returns c =
     let pre = c.requires in
-    let a = roomy {f = c.prepare-top.new.1.1.1.1.1.0} (c.prepare-top.ensures pre.grammar pre.ready) pre
-    (omega (arith, c.prepare-top.auto.1.1.1.1.0)) (omega (arith, c.prepare-top.auto.1.1.1.1.1.0)) c.fill.auto.1.1.1.1.0 in
+    let a = roomy {f = c.prepare-top.new.fits} (c.prepare-top.ensures pre.grammar pre.ready) pre
+    (omega (arith, c.prepare-top.auto.code)) (omega (arith, c.prepare-top.auto.fits)) c.fill.auto.main in
     λ g w. c.walk_filled.ensures.answers
     (finished-plain (c.prepare-top.ensures g w) a c.walk_filled.ensures.marked c.walk_filled.ensures.noted c.fill.ensures)

@@ -18,7 +18,7 @@ drain-requires c =
     record {
       kept = c.begin.ensures.moved.kept;
       users = c.list_uses.ensures;
-      uses-room = omega (arith, c.requires.shape.small, c.list_uses.auto.1.0);
+      uses-room = omega (arith, c.requires.shape.small, c.list_uses.auto.uses);
       pending = whole-pending c.requires c.begin.ensures;
     }
 

@@ -18,7 +18,7 @@ mark_live-requires c =
       record {
         long = s.long;
         shape = shape_of s.small w;
-        room = omega (arith, s.small, c.code_rules.auto.1.1.1.0);
+        room = omega (arith, s.small, c.code_rules.auto.code);
         here = here_of w;
         marks-long = length-replicate 1024 false;
       },

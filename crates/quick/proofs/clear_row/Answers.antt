@@ -35,10 +35,10 @@ loop-i-preserved c =
     let a = c.args in
     let g = c.requires in
     let l = c.loop-i in
-    let e : c.cell-y.result + l.i ≡ cell_at a.s.n.0 a.x l.i a.s.j.0 = omega (arith, c.cell-y.ensures) in (
+    let e : c.cell-y.result + c.loop-i.i ≡ cell_at a.s.n.0 a.x c.loop-i.i a.s.j.0 = omega (arith, c.cell-y.ensures) in (
       omega (arith, c.loop-i-test.true),
-      emptied-next a.s.n.0 a.x a.s.j.0 a.main.now l.i (c.cell-y.result + l.i) c.loop-i-test.true g.4 e
-          (omega (arith, l.invariant.1.long, in_row g.0 g.1 g.2 g.3 g.4 c.loop-i-test.true c.cell-y.ensures)) l.invariant.1,
+      emptied-next a.s.n.0 a.x a.s.j.0 a.main.now c.loop-i.i (c.cell-y.result + c.loop-i.i) c.loop-i-test.true g.4 e
+          (omega (arith, c.loop-i.invariant.1.long, in_row g.0 g.1 g.2 g.3 g.4 c.loop-i-test.true c.cell-y.ensures)) c.loop-i.invariant.1,
     )
 
 pub shape_of-main : goal.shape_of-main
@@ -49,4 +49,4 @@ pub returns : goal.returns
 returns c =
     let a = c.args in
     let l = c.loop-i in
-    subst (λ (i : ℕ). Emptied a.s.n.0 a.x a.s.j.0 i a.main.now l.main) (omega (arith, l.invariant.0, c.loop-i-test.false)) l.invariant.1
+    subst (λ (i : ℕ). Emptied a.s.n.0 a.x a.s.j.0 i a.main.now c.loop-i.main) (omega (arith, c.loop-i.invariant.0, c.loop-i-test.false)) c.loop-i.invariant.1

@@ -22,7 +22,7 @@ loop-j-init c =
       omega arith,
       refl,
       before-none _ _ _ _ _ a.main.now g.0 g.1,
-      c.note_units.auto.1.1.0 ∙ length-replicate {A = ℕ} 3789 0,
+      c.note_units.auto.column ∙ length-replicate {A = ℕ} 3789 0,
       c.note_units.ensures,
       no-queue a.size g.0.shape.small,
       no-count,
@@ -44,7 +44,7 @@ returns-then-is_doubtful c =
 pub fill_column-requires : goal.fill_column-requires
 fill_column-requires c =
     let l = c.loop-j in
-    (l.invariant.2, refl, omega (arith, c.loop-j-test.true), l.invariant.3, l.invariant.4, l.invariant.5, l.invariant.6)
+    (c.loop-j.invariant.2, refl, omega (arith, c.loop-j-test.true), c.loop-j.invariant.3, c.loop-j.invariant.4, c.loop-j.invariant.5, c.loop-j.invariant.6)
 
 pub loop-j-smaller : goal.loop-j-smaller
 loop-j-smaller c =
@@ -53,7 +53,7 @@ loop-j-smaller c =
 pub loop-j-preserved : goal.loop-j-preserved
 loop-j-preserved c =
     let d = c.fill_column.ensures in
-    (omega (arith, c.loop-j-test.true), c.fill_column.auto.1.1.1.0 ∙ c.loop-j.invariant.1, d.0, d.1, d.2, d.3, d.4)
+    (omega (arith, c.loop-j-test.true), c.fill_column.auto.main ∙ c.loop-j.invariant.1, d.0, d.1, d.2, d.3, d.4)
 
 pub shape_of-main : goal.shape_of-main
 shape_of-main c =
@@ -63,8 +63,8 @@ pub returns : goal.returns
 returns c =
     let a = c.args in
     let l = c.loop-j in
-    let e : l.j.0 ≡ a.n.0 + 1 = omega (arith, l.invariant.0, c.loop-j-test.false) in (
+    let e : c.loop-j.j.0 ≡ a.n.0 + 1 = omega (arith, c.loop-j.invariant.0, c.loop-j-test.false) in (
       λ _. filled _ _ _ _ _
-          (subst (λ (x : ℕ). Before a.code.now a.marks.now a.notes.now a.size a.n.0 x l.main) e l.invariant.2),
+          (subst (λ (x : ℕ). Before a.code.now a.marks.now a.notes.now a.size a.n.0 x c.loop-j.main) e c.loop-j.invariant.2),
       λ _. refl,
     )

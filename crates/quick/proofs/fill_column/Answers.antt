@@ -25,7 +25,7 @@ returns-then-column-eq0 c =
     let l = c.list_column.ensures in (
       before-unwanted _ _ _ _ _ _ g.2 g.0 l.1 l.0 c.if-column-eq0.true,
       l.0.long,
-      units-kept a.code.now a.notes.now a.s.size a.column.now c.list_column.new.1.1.1.1.0 g.0.tables.shape (λ z h h'. l.2 z (omega arith)) g.4,
+      units-kept a.code.now a.notes.now a.s.size a.column.now c.list_column.new.column g.0.tables.shape (λ z h h'. l.2 z (omega arith)) g.4,
       g.5,
       g.6,
     )
@@ -39,7 +39,7 @@ begin_column-requires c =
       g.1,
       g.2,
       l.0,
-      units-kept a.code.now a.notes.now a.s.size a.column.now c.list_column.new.1.1.1.1.0 g.0.tables.shape (λ z h h'. l.2 z (omega arith)) g.4,
+      units-kept a.code.now a.notes.now a.s.size a.column.now c.list_column.new.column g.0.tables.shape (λ z h h'. l.2 z (omega arith)) g.4,
     )
 
 pub loop-i-init : goal.loop-i-init
@@ -54,11 +54,11 @@ pub finish-requires : goal.finish-requires
 finish-requires c =
     let a = c.args in
     let l = c.loop-i in
-    let e : l.i ≡ l.i - 1 + 1 = omega (arith, c.loop-i-test.true) in (
-      subst (λ (x : ℕ). From a.code.now a.marks.now a.notes.now a.s.size a.s.n.0 a.s.j.0 x l.main l.column) e l.invariant.2,
-      omega (arith, c.loop-i-test.true, l.invariant.0),
-      l.invariant.3,
-      l.invariant.4,
+    let e : c.loop-i.i ≡ c.loop-i.i - 1 + 1 = omega (arith, c.loop-i-test.true) in (
+      subst (λ (x : ℕ). From a.code.now a.marks.now a.notes.now a.s.size a.s.n.0 a.s.j.0 x c.loop-i.main c.loop-i.column) e c.loop-i.invariant.2,
+      omega (arith, c.loop-i-test.true, c.loop-i.invariant.0),
+      c.loop-i.invariant.3,
+      c.loop-i.invariant.4,
     )
 
 pub past_untouched-i-requires : goal.past_untouched-i-requires
@@ -75,16 +75,16 @@ loop-i-preserved c =
     let l = c.loop-i in
     let d = c.finish.ensures in
     let p = c.past_untouched-i.ensures in (
-      omega (arith, l.invariant.0, p.order),
-      c.finish.auto.1.1.1.0 ∙ l.invariant.1,
-      from-passed _ _ _ _ _ _ (omega (arith, l.invariant.0)) p d.0,
+      omega (arith, c.loop-i.invariant.0, p.order),
+      c.finish.auto.main ∙ c.loop-i.invariant.1,
+      from-passed _ _ _ _ _ _ (omega (arith, c.loop-i.invariant.0)) p d.0,
       d.1,
       d.2,
     )
 
 pub shape_of-main : goal.shape_of-main
 shape_of-main c =
-    c.loop-i.invariant.1 ∙ c.begin_column.auto.1.1.1.0 ∙ c.list_column.auto.1.1.1.0
+    c.loop-i.invariant.1 ∙ c.begin_column.auto.main ∙ c.list_column.auto.main
 
 pub shape_of-queue : goal.shape_of-queue
 shape_of-queue c =
@@ -99,11 +99,11 @@ returns c =
     let a = c.args in
     let g = c.requires in
     let l = c.loop-i in
-    let e : l.i ≡ 0 = omega (arith, c.loop-i-test.false) in (
+    let e : c.loop-i.i ≡ 0 = omega (arith, c.loop-i-test.false) in (
       before-next _ _ _ _ _ _ g.0.empties
-          (subst (λ (x : ℕ). From a.code.now a.marks.now a.notes.now a.s.size a.s.n.0 a.s.j.0 x l.main l.column) e l.invariant.2),
-      l.invariant.2.rows.listed.long,
-      l.invariant.2.rows.units,
-      l.invariant.3,
-      l.invariant.4,
+          (subst (λ (x : ℕ). From a.code.now a.marks.now a.notes.now a.s.size a.s.n.0 a.s.j.0 x c.loop-i.main c.loop-i.column) e c.loop-i.invariant.2),
+      c.loop-i.invariant.2.rows.listed.long,
+      c.loop-i.invariant.2.rows.units,
+      c.loop-i.invariant.3,
+      c.loop-i.invariant.4,
     )

@@ -27,7 +27,7 @@ spread-requires c =
         column = g.0.rows.listed.long;
         full = g.0.full;
       },
-      low-kept a.code.now a.marks.now a.notes.now a.s.size a.s.n.0 a.s.i.0 a.s.j.0 a.main.now c.settle.new.1.1.1.0 a.column.now
+      low-kept a.code.now a.marks.now a.notes.now a.s.size a.s.n.0 a.s.i.0 a.s.j.0 a.main.now c.settle.new.main a.column.now
           a.column.now
           d.fell.le (λ y l. (refl, refl)) (λ y i l l' l''. g.0.low y i l l' (omega arith)),
       g.0.rows.hands,

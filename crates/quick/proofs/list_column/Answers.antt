@@ -25,8 +25,8 @@ loop-x-init c =
 pub list_dot-requires : goal.list_dot-requires
 list_dot-requires c =
     let l = c.loop-x in
-    let e : length l.main ≡ length c.args.main.now = l.invariant.2.long in
-    (rw e c.requires.0, c.requires.1, c.loop-x-test.true, l.invariant.1)
+    let e : length c.loop-x.main ≡ length c.args.main.now = c.loop-x.invariant.2.long in
+    (rw e c.requires.0, c.requires.1, c.loop-x-test.true, c.loop-x.invariant.1)
 
 pub loop-x-smaller : goal.loop-x-smaller
 loop-x-smaller c =
@@ -36,7 +36,7 @@ pub loop-x-preserved : goal.loop-x-preserved
 loop-x-preserved c =
     let l = c.loop-x in
     let d = c.list_dot.ensures in
-    (omega (arith, c.loop-x-test.true), d.0, cleared-next _ _ _ _ c.requires.1 l.invariant.2 d.1, λ z h. d.2 z h ∙ l.invariant.3 z h)
+    (omega (arith, c.loop-x-test.true), d.0, cleared-next _ _ _ _ c.requires.1 c.loop-x.invariant.2 d.1, λ z h. d.2 z h ∙ c.loop-x.invariant.3 z h)
 
 pub shape_of-main : goal.shape_of-main
 shape_of-main c =
@@ -50,8 +50,8 @@ pub returns : goal.returns
 returns c =
     let a = c.args in
     let l = c.loop-x in
-    let e : l.x ≡ a.s.size = omega (arith, l.invariant.0, c.loop-x-test.false) in (
-      subst (λ (x : ℕ). Listed a.code.now a.marks.now x a.s.j.0 l.column) e l.invariant.1.listed,
-      subst (λ (x : ℕ). ClearedTo a.code.now a.marks.now a.s.n.0 a.s.j.0 x a.main.now l.main) e l.invariant.2,
-      λ z h. l.invariant.3 z h ∙ get_or-set_other a.column.now 512 z 0 0 (λ d. omega arith),
+    let e : c.loop-x.x ≡ a.s.size = omega (arith, c.loop-x.invariant.0, c.loop-x-test.false) in (
+      subst (λ (x : ℕ). Listed a.code.now a.marks.now x a.s.j.0 c.loop-x.column) e c.loop-x.invariant.1.listed,
+      subst (λ (x : ℕ). ClearedTo a.code.now a.marks.now a.s.n.0 a.s.j.0 x a.main.now c.loop-x.main) e c.loop-x.invariant.2,
+      λ z h. c.loop-x.invariant.3 z h ∙ get_or-set_other a.column.now 512 z 0 0 (λ d. omega arith),
     )

@@ -34,15 +34,15 @@ loop-i-preserved c =
     let l = c.loop-i in
     let p = c.requires in (
       omega (arith, c.loop-i-test.true),
-      untouched-next l.i (set c.args.column.now 3788 0) l.column (omega (
+      untouched-next c.loop-i.i (set c.args.column.now 3788 0) c.loop-i.column (omega (
         arith,
         c.loop-i-test.true,
         p.0,
         p.1,
-        l.invariant.1.long,
+        c.loop-i.invariant.1.long,
         length-set
             c.args.column.now 3788 0,
-      )) (omega (arith, c.loop-i-test.true, p.1)) l.invariant.1,
+      )) (omega (arith, c.loop-i-test.true, p.1)) c.loop-i.invariant.1,
     )
 
 pub shape_of-column : goal.shape_of-column
@@ -53,5 +53,5 @@ pub returns : goal.returns
 returns c =
     let l = c.loop-i in
     let a = c.args in
-    untouched-from a.j a.column.now l.column
-    (subst (λ (i : ℕ). Untouched i (set a.column.now 3788 0) l.column) (omega (arith, l.invariant.0, c.loop-i-test.false)) l.invariant.1)
+    untouched-from a.j a.column.now c.loop-i.column
+    (subst (λ (i : ℕ). Untouched i (set a.column.now 3788 0) c.loop-i.column) (omega (arith, c.loop-i.invariant.0, c.loop-i-test.false)) c.loop-i.invariant.1)

@@ -16,9 +16,9 @@ returns-then-not-fill c =
 pub walk-requires : goal.walk-requires
 walk-requires c =
     let pre = c.requires in
-    (finished pre.0 (omega (arith, pre.1, c.fill.auto.1.1.1.1.1.0)) (c.fill.ensures.0 c.if-not-fill.false), pre.2)
+    (finished pre.0 (omega (arith, pre.1, c.fill.auto.main)) (c.fill.ensures.0 c.if-not-fill.false), pre.2)
 
 pub returns : goal.returns
 unfolding finished
 returns c =
-    λ t. c.walk.ensures (finished t (omega (arith, c.requires.1, c.fill.auto.1.1.1.1.1.0)) (c.fill.ensures.0 c.if-not-fill.false))
+    λ t. c.walk.ensures (finished t (omega (arith, c.requires.1, c.fill.auto.main)) (c.fill.ensures.0 c.if-not-fill.false))

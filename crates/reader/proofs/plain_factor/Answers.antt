@@ -9,7 +9,7 @@ pub insertion-requires : goal.insertion-requires
 insertion-requires c =
     let peek = c.peek in
     let pre = c.requires in
-    (pre, (is-ch peek.ensures 0x2b c.if-peek-eq-PLUS.true))
+    (pre, (is-ch c.peek.ensures 0x2b c.if-peek-eq-PLUS.true))
 
 pub returns-then-peek-eq-PLUS : goal.returns-then-peek-eq-PLUS
 returns-then-peek-eq-PLUS c =
@@ -17,7 +17,7 @@ returns-then-peek-eq-PLUS c =
     let if1 = c.if-peek-eq-PLUS in
     let peek = c.peek in
     let args = c.args in
-    plain-insertion args.text.now args.p.0 _ _ (is-ch peek.ensures 0x2b if1.true) insertion.result _ insertion.ensures
+    plain-insertion args.text.now args.p.0 _ _ (is-ch c.peek.ensures 0x2b c.if-peek-eq-PLUS.true) c.insertion.result _ c.insertion.ensures
 
 pub returns-in_default : goal.returns-in_default
 returns-in_default c =
@@ -25,7 +25,7 @@ returns-in_default c =
     let if1 = c.if-peek-eq-PLUS in
     let peek = c.peek in
     let args = c.args in
-    plain-bad args.text.now args.p.0 (not-ch peek.ensures 0x2b if1.false) (rw c.in_default.is at mark.ensures)
+    plain-bad args.text.now args.p.0 (not-ch c.peek.ensures 0x2b c.if-peek-eq-PLUS.false) (rw c.in_default.is at c.mark.ensures)
 
 pub used_name-requires : goal.used_name-requires
 used_name-requires c =
@@ -33,14 +33,14 @@ used_name-requires c =
     let mark = c.mark in
     let args = c.args in
     let pre = c.requires in
-    room-mark args.text.now args.p.0 _ _ _ _ (pre) (rw q.given.1 at mark.ensures)
+    room-mark args.text.now args.p.0 _ _ _ _ (pre) (rw c.in-At.is at c.mark.ensures)
 
 pub spaced-requires : goal.spaced-requires
 spaced-requires c =
     let used-name = c.used_name in
     let q = c.q-1 in
     let args = c.args in
-    name-step q.given.0.1.0 args.text.now q.given.0.0.0 _ _ used-name.result _ used-name.ensures
+    name-step c.in-At.m args.text.now c.in-At.q.0 _ _ c.used_name.result _ c.used_name.ensures
 
 pub returns-then-name_start : goal.returns-then-name_start
 returns-then-name_start c =
@@ -53,9 +53,9 @@ returns-then-name_start c =
     let if1 = c.if-peek-eq-PLUS in
     let peek = c.peek in
     let args = c.args in
-    plain-name args.text.now args.p.0 (not-ch peek.ensures 0x2b if1.false) _ _ (rw q.given.1 at mark.ensures)
-    (tested peek2.ensures namestart (sym name-start.ensures ∙ if2.true)) _ _ used-name.result _ c.spaced.result
-    used-name.ensures c.spaced.ensures
+    plain-name args.text.now args.p.0 (not-ch c.peek.ensures 0x2b c.if-peek-eq-PLUS.false) _ _ (rw c.in-At.is at c.mark.ensures)
+    (tested c.peek-2.ensures namestart (sym c.name_start.ensures ∙ c.if-name_start.true)) _ _ c.used_name.result _ c.spaced.result
+    c.used_name.ensures c.spaced.ensures
 
 pub returns-then-m-eq-ATTRIBUTE : goal.returns-then-m-eq-ATTRIBUTE
 returns-then-m-eq-ATTRIBUTE c =
@@ -66,8 +66,8 @@ returns-then-m-eq-ATTRIBUTE c =
     let if1 = c.if-peek-eq-PLUS in
     let peek = c.peek in
     let args = c.args in
-    plain-attribute args.text.now args.p.0 (not-ch peek.ensures 0x2b if1.false) _ _ (rw q.given.1 at mark.ensures)
-    (tested peek2.ensures namestart (sym name-start.ensures ∙ c.if-name_start.false)) c.if-m-eq-ATTRIBUTE.true
+    plain-attribute args.text.now args.p.0 (not-ch c.peek.ensures 0x2b c.if-peek-eq-PLUS.false) _ _ (rw c.in-At.is at c.mark.ensures)
+    (tested c.peek-2.ensures namestart (sym c.name_start.ensures ∙ c.if-name_start.false)) c.if-m-eq-ATTRIBUTE.true
 
 pub terminal-requires : goal.terminal-requires
 terminal-requires c =
@@ -77,8 +77,8 @@ terminal-requires c =
     let peek = c.peek in
     let args = c.args in
     let pre = c.requires in (
-      room-mark args.text.now args.p.0 _ _ _ _ (pre) (rw q.given.1 at mark.ensures),
-      mark-small args.text.now args.p.0 (not-ch peek.ensures 0x2b if1.false) _ _ (rw q.given.1 at mark.ensures),
+      room-mark args.text.now args.p.0 _ _ _ _ (pre) (rw c.in-At.is at c.mark.ensures),
+      mark-small args.text.now args.p.0 (not-ch c.peek.ensures 0x2b c.if-peek-eq-PLUS.false) _ _ (rw c.in-At.is at c.mark.ensures),
     )
 
 pub returns : goal.returns
@@ -93,5 +93,5 @@ returns c =
     let if1 = c.if-peek-eq-PLUS in
     let peek = c.peek in
     let args = c.args in
-    plain-terminal args.text.now args.p.0 (not-ch peek.ensures 0x2b if1.false) _ _ (rw q.given.1 at mark.ensures)
-    (tested peek2.ensures namestart (sym name-start.ensures ∙ if2.false)) if3.false _ _ terminal.result _ terminal.ensures
+    plain-terminal args.text.now args.p.0 (not-ch c.peek.ensures 0x2b c.if-peek-eq-PLUS.false) _ _ (rw c.in-At.is at c.mark.ensures)
+    (tested c.peek-2.ensures namestart (sym c.name_start.ensures ∙ c.if-name_start.false)) c.if-m-eq-ATTRIBUTE.false _ _ c.terminal.result _ c.terminal.ensures

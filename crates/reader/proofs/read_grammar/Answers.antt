@@ -9,14 +9,14 @@ pub returns-in_default : goal.returns-in_default
 returns-in_default c =
     let skip = c.skip in
     let args = c.args in
-    grammar-bad args.text.now (rw c.in_default.is at skip.ensures)
+    grammar-bad args.text.now (rw c.in_default.is at c.skip.ensures)
 
 pub prolog-requires : goal.prolog-requires
 prolog-requires c =
     let u = c.u-1 in
     let skip = c.skip in
     let pre = c.requires in
-    let k = skipped u.given.1 skip.ensures in
+    let k = skipped c.in-At.is c.skip.ensures in
     (grammar-room _ _ k _ (pre))
 
 pub returns-in_default-prolog : goal.returns-in_default-prolog
@@ -24,8 +24,8 @@ returns-in_default-prolog c =
     let prolog = c.prolog in
     let u = c.u-1 in
     let skip = c.skip in
-    let k = skipped u.given.1 skip.ensures in
-    grammar-no-prolog _ _ k (rw c.in_default-prolog.is at prolog.ensures)
+    let k = skipped c.in-At.is c.skip.ensures in
+    grammar-no-prolog _ _ k (rw c.in_default-prolog.is at c.prolog.ensures)
 
 pub rule-requires : goal.rule-requires
 rule-requires c =
@@ -34,9 +34,9 @@ rule-requires c =
     let u = c.u-1 in
     let skip = c.skip in
     let pre = c.requires in
-    let k = skipped u.given.1 skip.ensures in
-    let g = got v.given.1 prolog.ensures in
-    (room_after _ prolog_code _ _ _ _ 0 _ _ _ (grammar-room _ _ k _ (pre)) prolog.auto.1.1.0 g)
+    let k = skipped c.in-At.is c.skip.ensures in
+    let g = got c.in-At-prolog.is c.prolog.ensures in
+    (room_after _ prolog_code _ _ _ _ 0 _ _ _ (grammar-room _ _ k _ (pre)) c.prolog.auto.out g)
 
 pub returns-in_default-rule : goal.returns-in_default-rule
 returns-in_default-rule c =
@@ -45,9 +45,9 @@ returns-in_default-rule c =
     let prolog = c.prolog in
     let u = c.u-1 in
     let skip = c.skip in
-    let k = skipped u.given.1 skip.ensures in
-    let g = got v.given.1 prolog.ensures in
-    grammar-no-rule _ _ k _ _ _ _ g (rw c.in_default-rule.is at rule.ensures)
+    let k = skipped c.in-At.is c.skip.ensures in
+    let g = got c.in-At-prolog.is c.prolog.ensures in
+    grammar-no-rule _ _ k _ _ _ _ g (rw c.in_default-rule.is at c.rule.ensures)
 
 pub rules-requires : goal.rules-requires
 rules-requires c =
@@ -58,11 +58,11 @@ rules-requires c =
     let u = c.u-1 in
     let skip = c.skip in
     let pre = c.requires in
-    let k = skipped u.given.1 skip.ensures in
-    let g = got v.given.1 prolog.ensures in
-    let r = got w.given.1 rule.ensures in
-    room_after _ rule_code _ _ _ _ _ _ _ _ (room_after _ prolog_code _ _ _ _ 0 _ _ _ (grammar-room _ _ k _ (pre)) prolog.auto.1.1.0 g)
-    rule.auto.1.1.0 r
+    let k = skipped c.in-At.is c.skip.ensures in
+    let g = got c.in-At-prolog.is c.prolog.ensures in
+    let r = got c.in-At-rule.is c.rule.ensures in
+    room_after _ rule_code _ _ _ _ _ _ _ _ (room_after _ prolog_code _ _ _ _ 0 _ _ _ (grammar-room _ _ k _ (pre)) c.prolog.auto.out g)
+    c.rule.auto.out r
 
 pub returns-in_default-rules : goal.returns-in_default-rules
 returns-in_default-rules c =
@@ -73,10 +73,10 @@ returns-in_default-rules c =
     let prolog = c.prolog in
     let u = c.u-1 in
     let skip = c.skip in
-    let k = skipped u.given.1 skip.ensures in
-    let g = got v.given.1 prolog.ensures in
-    let r = got w.given.1 rule.ensures in
-    grammar-no-rules _ _ k _ _ _ _ g _ _ _ r (rw c.in_default-rules.is at rules.ensures)
+    let k = skipped c.in-At.is c.skip.ensures in
+    let g = got c.in-At-prolog.is c.prolog.ensures in
+    let r = got c.in-At-rule.is c.rule.ensures in
+    grammar-no-rules _ _ k _ _ _ _ g _ _ _ r (rw c.in_default-rules.is at c.rules.ensures)
 
 pub returns : goal.returns
 returns c =
@@ -87,7 +87,7 @@ returns c =
     let prolog = c.prolog in
     let u = c.u-1 in
     let skip = c.skip in
-    let k = skipped u.given.1 skip.ensures in
-    let g = got v.given.1 prolog.ensures in
-    let r = got w.given.1 rule.ensures in
-    grammar-got _ _ k _ _ _ _ g _ _ _ r _ _ _ (rw c.in-At-rules.is at rules.ensures)
+    let k = skipped c.in-At.is c.skip.ensures in
+    let g = got c.in-At-prolog.is c.prolog.ensures in
+    let r = got c.in-At-rule.is c.rule.ensures in
+    grammar-got _ _ k _ _ _ _ g _ _ _ r _ _ _ (rw c.in-At-rules.is at c.rules.ensures)

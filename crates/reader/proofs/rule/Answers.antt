@@ -12,15 +12,15 @@ pub returns-in_default : goal.returns-in_default
 returns-in_default c =
     let rule-head = c.rule_head in
     let args = c.args in
-    rule-no-head args.text.now args.p.0 (rw c.in_default.is at rule-head.ensures)
+    rule-no-head args.text.now args.p.0 (rw c.in_default.is at c.rule_head.ensures)
 
 pub alternatives-requires : goal.alternatives-requires
 alternatives-requires c =
     let y = c.y-1 in
     let rule-head = c.rule_head in
     let pre = c.requires in
-    let a = got y.given.1 rule-head.ensures in
-    room_after _ head_code _ _ _ _ _ _ _ _ (pre) rule-head.auto.1.1.0 a
+    let a = got c.in-At.is c.rule_head.ensures in
+    room_after _ head_code _ _ _ _ _ _ _ _ (pre) c.rule_head.auto.out a
 
 pub returns-in_default-alternatives : goal.returns-in_default-alternatives
 returns-in_default-alternatives c =
@@ -28,8 +28,8 @@ returns-in_default-alternatives c =
     let y = c.y-1 in
     let rule-head = c.rule_head in
     let pre = c.requires in
-    let a = got y.given.1 rule-head.ensures in
-    rule-no-body _ _ _ _ (pre) _ _ _ a (rw c.in_default-alternatives.is at alternatives.ensures)
+    let a = got c.in-At.is c.rule_head.ensures in
+    rule-no-body _ _ _ _ (pre) _ _ _ a (rw c.in_default-alternatives.is at c.alternatives.ensures)
 
 pub returns-then-peek-ne-FULL_STOP : goal.returns-then-peek-ne-FULL_STOP
 returns-then-peek-ne-FULL_STOP c =
@@ -38,9 +38,9 @@ returns-then-peek-ne-FULL_STOP c =
     let y = c.y-1 in
     let rule-head = c.rule_head in
     let pre = c.requires in
-    let a = got y.given.1 rule-head.ensures in
-    let v = got z.given.1 alternatives.ensures in
-    rule-no-stop _ _ _ _ (pre) _ _ _ a _ (alternatives.auto.1.1.1.0 ∙ rule-head.auto.1.1.0) _ _ v
+    let a = got c.in-At.is c.rule_head.ensures in
+    let v = got c.in-At-alternatives.is c.alternatives.ensures in
+    rule-no-stop _ _ _ _ (pre) _ _ _ a _ (c.alternatives.auto.out ∙ c.rule_head.auto.out) _ _ v
     (not-ch c.peek.ensures 46 c.if-peek-ne-FULL_STOP.true)
 
 pub put-end-requires : goal.put-end-requires
@@ -50,9 +50,9 @@ put-end-requires c =
     let y = c.y-1 in
     let rule-head = c.rule_head in
     let pre = c.requires in
-    let a = got y.given.1 rule-head.ensures in
-    let v = got z.given.1 alternatives.ensures in
-    stop-cell _ _ _ _ (pre) _ _ _ a _ (alternatives.auto.1.1.1.0 ∙ rule-head.auto.1.1.0) _ _ v
+    let a = got c.in-At.is c.rule_head.ensures in
+    let v = got c.in-At-alternatives.is c.alternatives.ensures in
+    stop-cell _ _ _ _ (pre) _ _ _ a _ (c.alternatives.auto.out ∙ c.rule_head.auto.out) _ _ v
     (is-ch c.peek.ensures 46 c.if-peek-ne-FULL_STOP.false)
 
 pub after-requires : goal.after-requires
@@ -63,20 +63,20 @@ after-requires c =
     let rule-head = c.rule_head in
     let good = c.well_formed in
     let pre = c.requires in
-    let a = got y.given.1 rule-head.ensures in
-    let v = got z.given.1 alternatives.ensures in
+    let a = got c.in-At.is c.rule_head.ensures in
+    let v = got c.in-At-alternatives.is c.alternatives.ensures in
     omega (
       arith,
-      stop-in _ _ _ _ (pre) _ _ _ a _ (alternatives.auto.1.1.1.0 ∙ rule-head.auto.1.1.0) _ _ v
+      stop-in _ _ _ _ (pre) _ _ _ a _ (c.alternatives.auto.out ∙ c.rule_head.auto.out) _ _ v
           (is-ch c.peek.ensures 46 c.if-peek-ne-FULL_STOP.false),
-      good.0,
+      c.well_formed.0,
     )
 
 pub shape_of-out : goal.shape_of-out
 shape_of-out c =
     let alternatives = c.alternatives in
     let rule-head = c.rule_head in
-    c.put-end.auto.0 ∙ alternatives.auto.1.1.1.0 ∙ rule-head.auto.1.1.0
+    c.put-end.auto.out ∙ c.alternatives.auto.out ∙ c.rule_head.auto.out
 
 pub returns : goal.returns
 returns c =
@@ -85,8 +85,8 @@ returns c =
     let y = c.y-1 in
     let rule-head = c.rule_head in
     let pre = c.requires in
-    let a = got y.given.1 rule-head.ensures in
-    let v = got z.given.1 alternatives.ensures in
+    let a = got c.in-At.is c.rule_head.ensures in
+    let v = got c.in-At-alternatives.is c.alternatives.ensures in
     rw (c.after.ensures, c.put-end.ensures.0, c.put-end.ensures.1)
-    (rule-got _ _ _ _ (pre) _ _ _ a _ (alternatives.auto.1.1.1.0 ∙ rule-head.auto.1.1.0) _ _ v (is-ch
+    (rule-got _ _ _ _ (pre) _ _ _ a _ (c.alternatives.auto.out ∙ c.rule_head.auto.out) _ _ v (is-ch
     c.peek.ensures 46 c.if-peek-ne-FULL_STOP.false))

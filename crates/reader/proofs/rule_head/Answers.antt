@@ -22,7 +22,7 @@ overflow_add-m c =
     let q = c.q-1 in
     let mark = mark' in
     let args = args' in
-    let v : Mark-read args.text.now args.p.0 q.given.0.0.0 q.given.0.1.0 = rw q.given.1 at mark.ensures in
+    let v : Mark-read args.text.now args.p.0 c.in-At.q.0 c.in-At.m = rw c.in-At.is at mark.ensures in
     let h = mark-few _ _ _ _ v in
     omega arith
 

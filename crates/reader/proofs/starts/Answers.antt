@@ -55,5 +55,5 @@ returns c =
     let quote = c.quote in
     let args = c.args in
     c.name_start.ensures ∙ sym
-    (starts-name args.c (sym quote.ensures ∙ if1.false) (sym is-mark.ensures ∙ if2.false) (ne_eqb _ _ if3.false)
-    (ne_eqb _ _ if4.false) (ne_eqb _ _ if5.false) (ne_eqb _ _ if6.false) (ne_eqb _ _ c.if-c-eq-TILDE.false))
+    (starts-name args.c (sym c.quote.ensures ∙ c.if-quote.false) (sym c.is_mark.ensures ∙ c.if-is_mark.false) (ne_eqb _ _ c.if-c-eq-OPEN_ROUND.false)
+    (ne_eqb _ _ c.if-c-eq-PLUS.false) (ne_eqb _ _ c.if-c-eq-NUMBER_SIGN.false) (ne_eqb _ _ c.if-c-eq-OPEN_SQUARE.false) (ne_eqb _ _ c.if-c-eq-TILDE.false))

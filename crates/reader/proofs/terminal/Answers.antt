@@ -17,8 +17,8 @@ returns-in_default c =
     let if1 = c.if-c-eq-TILDE in
     let peek = c.peek-c in
     let args = c.args in
-    exclude-bad args.text.now args.p.0 args.m args.out.now args.at.0 (is-ch peek.ensures 0x7e if1.true)
-    (rw (c.after.ensures, c.in_default.is) at skip.ensures)
+    exclude-bad args.text.now args.p.0 args.m args.out.now args.at.0 (is-ch c.peek-c.ensures 0x7e c.if-c-eq-TILDE.true)
+    (rw (c.after.ensures, c.in_default.is) at c.skip.ensures)
 
 pub set-requires : goal.set-requires
 set-requires c =
@@ -26,7 +26,7 @@ set-requires c =
     let skip = c.skip in
     let args = c.args in
     let pre = c.requires in
-    room-past args.text.now args.p.0 _ _ _ pre.0 (rw (c.after.ensures, q.given.1) at skip.ensures)
+    room-past args.text.now args.p.0 _ _ _ pre.0 (rw (c.after.ensures, c.in-At.is) at c.skip.ensures)
 
 pub returns-then-c-eq-TILDE : goal.returns-then-c-eq-TILDE
 returns-then-c-eq-TILDE c =
@@ -36,8 +36,8 @@ returns-then-c-eq-TILDE c =
     let if1 = c.if-c-eq-TILDE in
     let peek = c.peek-c in
     let args = c.args in
-    excluded args.text.now args.p.0 args.m args.out.now args.at.0 (is-ch peek.ensures 0x7e if1.true) _
-    (rw (c.after.ensures, q.given.1) at skip.ensures) set.result _ set.ensures
+    excluded args.text.now args.p.0 args.m args.out.now args.at.0 (is-ch c.peek-c.ensures 0x7e c.if-c-eq-TILDE.true) _
+    (rw (c.after.ensures, c.in-At.is) at c.skip.ensures) c.set.result _ c.set.ensures
 
 pub returns-then-c-eq-OPEN_SQUARE : goal.returns-then-c-eq-OPEN_SQUARE
 returns-then-c-eq-OPEN_SQUARE c =
@@ -46,14 +46,14 @@ returns-then-c-eq-OPEN_SQUARE c =
     let if1 = c.if-c-eq-TILDE in
     let peek = c.peek-c in
     let args = c.args in
-    included-set args.text.now args.p.0 args.m args.out.now args.at.0 (not-ch peek.ensures 0x7e if1.false)
-    (is-ch peek.ensures 0x5b if2.true) set2.result _ set2.ensures
+    included-set args.text.now args.p.0 args.m args.out.now args.at.0 (not-ch c.peek-c.ensures 0x7e c.if-c-eq-TILDE.false)
+    (is-ch c.peek-c.ensures 0x5b c.if-c-eq-OPEN_SQUARE.true) c.set-then-c-eq-OPEN_SQUARE.result _ c.set-then-c-eq-OPEN_SQUARE.ensures
 
 pub spaced-requires : goal.spaced-requires
 spaced-requires c =
     let read-chars = c.read_chars in
     let args = c.args in
-    chars-step (4 + args.m) (8 + args.m) args.text.now args.p.0 _ _ read-chars.result _ read-chars.ensures
+    chars-step (4 + args.m) (8 + args.m) args.text.now args.p.0 _ _ c.read_chars.result _ c.read_chars.ensures
 
 pub returns : goal.returns
 returns c =
@@ -62,5 +62,5 @@ returns c =
     let if1 = c.if-c-eq-TILDE in
     let peek = c.peek-c in
     let args = c.args in
-    a-literal args.text.now args.p.0 args.m args.out.now args.at.0 (not-ch peek.ensures 0x7e if1.false)
-    (not-ch peek.ensures 0x5b if2.false) read-chars.result _ c.spaced.result read-chars.ensures c.spaced.ensures
+    a-literal args.text.now args.p.0 args.m args.out.now args.at.0 (not-ch c.peek-c.ensures 0x7e c.if-c-eq-TILDE.false)
+    (not-ch c.peek-c.ensures 0x5b c.if-c-eq-OPEN_SQUARE.false) c.read_chars.result _ c.spaced.result c.read_chars.ensures c.spaced.ensures

@@ -22,7 +22,7 @@ pub returns-then-h-eq0 : goal.returns-then-h-eq0
 returns-then-h-eq0 c =
     let if2 = c.if-number_at-ne-AFTER_ALTERNATIVE in
     let number_at = c.number_at in
-    (λ e. absurd (let z : ◌≡◌ {A = ℕ} 0 1 = cc in omega arith), λ e l. (sym number_at.ensures.0 ∙ if2.false, c.if-h-eq0.true))
+    (λ e. absurd (let z : ◌≡◌ {A = ℕ} 0 1 = cc in omega arith), λ e l. (sym c.number_at.ensures.0 ∙ c.if-number_at-ne-AFTER_ALTERNATIVE.false, c.if-h-eq0.true))
 
 pub returns : goal.returns
 returns c = (λ e. (omega arith, λ o. c.if-h-eq0.false (o (omega arith)).1), λ e. absurd (let z : ◌≡◌ {A = ℕ} 0 1 = cc in omega arith))

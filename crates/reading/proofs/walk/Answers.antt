@@ -37,13 +37,13 @@ loop-out-init c =
     let high = c.rule_height.ensures c.args.code.now in
     let some = c.if-rule_height.false in
     let enter = c.enter-h in
-    (refl, refl, λ t. set_out t small (λ e. some (high ∙ e)) pre.room pre.stack enter.ensures)
+    (refl, refl, λ t. set_out t small (λ e. some (high ∙ e)) pre.room pre.stack c.enter-h.ensures)
 
 pub more-requires : goal.more-requires
 more-requires c =
     let t = c.requires.tables in
     let loop = c.loop-out in
-    λ l. omega (arith, place_inside t (loop.invariant.2 t) l, t.tables.shape.room)
+    λ l. omega (arith, place_inside t (c.loop-out.invariant.2 t) l, t.tables.shape.room)
 
 pub step-h-requires : goal.step-h-requires
 step-h-requires c =
@@ -62,7 +62,7 @@ loop-out-preserved c =
     let loop = c.loop-out in
     let step = c.step-h in
     let m = c.more.ensures.0 c.loop-out-test.true in
-    (omega (arith, loop.invariant.0), omega (arith, loop.invariant.1), λ t. go_on t (loop.invariant.2 t) m.0 m.1 step.ensures)
+    (omega (arith, c.loop-out.invariant.0), omega (arith, c.loop-out.invariant.1), λ t. go_on t (c.loop-out.invariant.2 t) m.0 m.1 c.step-h.ensures)
 
 pub shape_of-out-then-h-gt-READING_NUMBERS : goal.shape_of-out-then-h-gt-READING_NUMBERS
 shape_of-out-then-h-gt-READING_NUMBERS c =
@@ -76,7 +76,7 @@ pub returns-then-h-gt-READING_NUMBERS : goal.returns-then-h-gt-READING_NUMBERS
 returns-then-h-gt-READING_NUMBERS c =
     let loop = c.loop-out in
     let long = c.if-h-gt-READING_NUMBERS.true in
-    λ t. too_long (arrive-long t (loop.invariant.2 t) long)
+    λ t. too_long (arrive-long t (c.loop-out.invariant.2 t) long)
 
 pub shape_of-out : goal.shape_of-out
 shape_of-out c =
@@ -91,4 +91,4 @@ returns c =
     let loop = c.loop-out in
     let over = c.more.ensures.1 c.loop-out-test.false in
     let short = c.if-h-gt-READING_NUMBERS.false in
-    λ t. arrive t (loop.invariant.2 t) over short
+    λ t. arrive t (c.loop-out.invariant.2 t) over short

@@ -13,7 +13,7 @@ returns c =
     (rest_block (entry_at c.args.table.now c.args.from) (entry_at c.args.table.now (c.args.from + 3))
     c.args.i) (once_block (entry_at c.args.table.now c.args.from) c.args.i) c.rest.ensures
     (omega arith) (c.once.ensures
-    ∙ ap (λ (e : Entry). laid c.rest.new.0 (c.args.i + 5) (once_block e c.args.i))
+    ∙ ap (λ (e : Entry). laid c.rest.new.table (c.args.i + 5) (once_block e c.args.i))
     (entry_kept c.args.table.now c.args.i
     (rest_block (entry_at c.args.table.now c.args.from) (entry_at c.args.table.now (c.args.from + 3))
     c.args.i) c.args.from c.rest.ensures (omega (arith, c.requires.low, c.requires.room.fits))))

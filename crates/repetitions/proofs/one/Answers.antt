@@ -58,7 +58,7 @@ once-requires c =
     (
       record {
         room = record {
-          size = c.star.auto.0 ∙ c.requires.room.size;
+          size = c.star.auto.table ∙ c.requires.room.size;
           fits = omega (
             arith,
             c.requires.room.fits,
@@ -78,7 +78,7 @@ returns c =
       laid_then c.args.table.now c.args.i (c.args.i + 4)
           (star_block (entry_at c.args.table.now c.args.from) c.args.i)
           (once_block (entry_at c.args.table.now c.args.from) c.args.i) c.star.ensures (omega arith)
-          (c.once.ensures ∙ ap (λ (e : Entry). laid c.star.new.0 (c.args.i + 4)
+          (c.once.ensures ∙ ap (λ (e : Entry). laid c.star.new.table (c.args.i + 4)
           (once_block e c.args.i)) (entry_kept c.args.table.now c.args.i
           (star_block (entry_at c.args.table.now c.args.from) c.args.i) c.args.from c.star.ensures
           (omega (arith, c.requires.low, c.requires.room.fits, o.count))))

@@ -15,7 +15,7 @@ returns c =
     (laid_then c.args.table.now c.args.i (c.args.i + 1)
     (nums (entry_at c.args.table.now (c.args.from + 3)))
     (nums (entry_at c.args.table.now c.args.from) ++ nums (entry 4 c.args.i (entry_at c.args.table.now c.args.from).token)) c.copy.ensures
-    (omega arith) (c.again.ensures ∙ ap (λ (e : Entry). laid c.copy.new.0 (c.args.i + 1)
+    (omega arith) (c.again.ensures ∙ ap (λ (e : Entry). laid c.copy.new.table (c.args.i + 1)
     (nums e ++ nums (entry 4 c.args.i e.token))) (entry_kept c.args.table.now c.args.i
     (nums (entry_at c.args.table.now (c.args.from + 3))) c.args.from c.copy.ensures
     (omega (arith, c.requires.low, c.requires.room.fits)))))

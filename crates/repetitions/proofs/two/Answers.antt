@@ -24,7 +24,7 @@ refer-requires c =
     let o = is-maybe c.args.k (entry_at c.args.table.now c.args.from)
     (entry_at c.args.table.now (c.args.from + 3)) c.args.i c.if-k-eq-TO_REPEAT1SEP.false in (
       record {
-        room = record { size = c.listed.auto.0 ∙ c.requires.room.size; fits = omega (arith, c.requires.room.fits, o.count) };
+        room = record { size = c.listed.auto.table ∙ c.requires.room.size; fits = omega (arith, c.requires.room.fits, o.count) };
         low = c.requires.low;
         high = omega (arith, c.requires.high);
       },
@@ -34,7 +34,7 @@ refer-requires c =
 pub ends-requires : goal.ends-requires
 ends-requires c =
     record {
-      size = c.refer.auto.0 ∙ c.listed.auto.0 ∙ c.requires.room.size;
+      size = c.refer.auto.table ∙ c.listed.auto.table ∙ c.requires.room.size;
       fits = omega (
         arith,
         c.requires.room.fits,
@@ -52,7 +52,7 @@ returns c =
           (laid_then c.args.table.now c.args.i (c.args.i + 8)
           (list_block (entry_at c.args.table.now c.args.from) (entry_at c.args.table.now (c.args.from + 3))
           c.args.i) (nums (entry 4 (c.args.i + 5) (entry_at c.args.table.now c.args.from).token)) c.listed.ensures (omega arith)
-          (c.refer.ensures ∙ ap (λ (e : Entry). laid c.listed.new.0 (c.args.i + 8) (nums (entry 4 (c.args.i + 5) e.token)))
+          (c.refer.ensures ∙ ap (λ (e : Entry). laid c.listed.new.table (c.args.i + 8) (nums (entry 4 (c.args.i + 5) e.token)))
           (entry_kept c.args.table.now c.args.i
           (list_block (entry_at c.args.table.now c.args.from) (entry_at c.args.table.now (c.args.from + 3)) c.args.i)
           c.args.from c.listed.ensures (omega (arith, c.requires.low, c.requires.room.fits, o.count)))))

@@ -27,7 +27,7 @@ returns-in_default c =
 
 pub need_of-need-requires : goal.need_of-need-requires
 need_of-need-requires c =
-    small c.args.grammar.now c.args.record.now c.open_job-opened.new.1.1.0 c.open_job-opened.new.1.1.1.0 c.open_job-opened.result
+    small c.args.grammar.now c.args.record.now c.open_job-opened.new.table c.open_job-opened.new.text c.open_job-opened.result
     c.open_job-opened.ensures
 
 pub returns : goal.returns

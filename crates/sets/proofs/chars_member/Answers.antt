@@ -10,7 +10,7 @@ past_chars-requires c =
     let chars = c.chars-c in
     let args = c.args in
     let pre = c.requires in
-    chars-in args.text.now args.p.0 _ _ pre.0 pre.1 _ chars.auto.1.1.0 chars.result chars.ensures
+    chars-in args.text.now args.p.0 _ _ pre.0 pre.1 _ c.chars-c.auto.out c.chars-c.result c.chars-c.ensures
 
 pub returns-in_default : goal.returns-in_default
 returns-in_default c =
@@ -18,8 +18,8 @@ returns-in_default c =
     let chars = c.chars-c in
     let args = c.args in
     let pre = c.requires in
-    member-unspaced args.text.now args.p.0 _ _ pre.0 pre.1 _ chars.auto.1.1.0 chars.result chars.ensures
-    (rw c.in_default.is at past-chars.ensures)
+    member-unspaced args.text.now args.p.0 _ _ pre.0 pre.1 _ c.chars-c.auto.out c.chars-c.result c.chars-c.ensures
+    (rw c.in_default.is at c.past_chars.ensures)
 
 pub range_head-requires : goal.range_head-requires
 range_head-requires c =
@@ -29,8 +29,8 @@ range_head-requires c =
     let chars = c.chars-c in
     let args = c.args in
     let pre = c.requires in
-    head-room args.text.now args.p.0 _ _ pre.0 pre.1 _ chars.auto.1.1.0 chars.result _ chars.ensures
-    (rw w.given.1 at past-chars.ensures) (seen-in _ _ _ 0x2d peek.ensures c.if-peek-eq-HYPHEN.true (omega arith))
+    head-room args.text.now args.p.0 _ _ pre.0 pre.1 _ c.chars-c.auto.out c.chars-c.result _ c.chars-c.ensures
+    (rw c.in-At.is at c.past_chars.ensures) (seen-in _ _ _ 0x2d c.peek.ensures c.if-peek-eq-HYPHEN.true (omega arith))
 
 pub returns-in_default-range_head : goal.returns-in_default-range_head
 returns-in_default-range_head c =
@@ -42,8 +42,8 @@ returns-in_default-range_head c =
     let chars = c.chars-c in
     let args = c.args in
     let pre = c.requires in
-    no-range args.text.now args.p.0 _ _ pre.0 pre.1 _ chars.auto.1.1.0 chars.result _ _ chars.ensures
-    (rw c.in_default-range_head.is at range-head.ensures) (rw w.given.1 at past-chars.ensures) (is-ch peek.ensures 0x2d if1.true)
+    no-range args.text.now args.p.0 _ _ pre.0 pre.1 _ c.chars-c.auto.out c.chars-c.result _ _ c.chars-c.ensures
+    (rw c.in_default-range_head.is at c.range_head.ensures) (rw c.in-At.is at c.past_chars.ensures) (is-ch c.peek.ensures 0x2d c.if-peek-eq-HYPHEN.true)
 
 pub range_rest-requires : goal.range_rest-requires
 range_rest-requires c =
@@ -56,11 +56,11 @@ range_rest-requires c =
     let chars = c.chars-c in
     let args = c.args in
     let pre = c.requires in (
-      rest-room args.text.now args.p.0 _ _ pre.0 pre.1 _ chars.kept.1.1.0 chars.result chars.ensures _
-          (rw w.given.1 at past-chars.ensures) (is-ch peek.ensures 0x2d if1.true)
-          (seen-in _ _ _ 0x2d peek.ensures if1.true (omega arith)) _ _ _ (rw e.given.1 at range-head.ensures)
-          range-head.auto.1.0,
-      (seen-in _ _ _ 0x2d peek.ensures if1.true (omega arith)),
+      rest-room args.text.now args.p.0 _ _ pre.0 pre.1 _ c.chars-c.kept.1.1.0 c.chars-c.result c.chars-c.ensures _
+          (rw c.in-At.is at c.past_chars.ensures) (is-ch c.peek.ensures 0x2d c.if-peek-eq-HYPHEN.true)
+          (seen-in _ _ _ 0x2d c.peek.ensures c.if-peek-eq-HYPHEN.true (omega arith)) _ _ _ (rw c.in-At-range_head.is at c.range_head.ensures)
+          c.range_head.auto.out,
+      (seen-in _ _ _ 0x2d c.peek.ensures c.if-peek-eq-HYPHEN.true (omega arith)),
     )
 
 pub returns-then-peek-eq-HYPHEN : goal.returns-then-peek-eq-HYPHEN
@@ -75,17 +75,17 @@ returns-then-peek-eq-HYPHEN c =
     let chars = c.chars-c in
     let args = c.args in
     let pre = c.requires in
-    range-member args.text.now args.p.0 _ _ pre.0 pre.1 _ chars.kept.1.1.0 chars.result chars.ensures _
-    (rw w.given.1 at past-chars.ensures) (is-ch peek.ensures 0x2d if1.true)
-    (seen-in _ _ _ 0x2d peek.ensures if1.true (omega arith)) _ _ _ (rw e.given.1 at range-head.ensures) range-rest.result _
-    range-rest.ensures
+    range-member args.text.now args.p.0 _ _ pre.0 pre.1 _ c.chars-c.kept.1.1.0 c.chars-c.result c.chars-c.ensures _
+    (rw c.in-At.is at c.past_chars.ensures) (is-ch c.peek.ensures 0x2d c.if-peek-eq-HYPHEN.true)
+    (seen-in _ _ _ 0x2d c.peek.ensures c.if-peek-eq-HYPHEN.true (omega arith)) _ _ _ (rw c.in-At-range_head.is at c.range_head.ensures) c.range_rest.result _
+    c.range_rest.ensures
 
 pub chars_token-requires : goal.chars_token-requires
 chars_token-requires c =
     let chars = c.chars-c in
     let args = c.args in
     let pre = c.requires in
-    tokenable args.text.now args.p.0 _ _ pre.0 _ chars.auto.1.1.0 chars.result chars.ensures
+    tokenable args.text.now args.p.0 _ _ pre.0 _ c.chars-c.auto.out c.chars-c.result c.chars-c.ensures
 
 pub returns-in_default-chars_token : goal.returns-in_default-chars_token
 returns-in_default-chars_token c =
@@ -96,8 +96,8 @@ returns-in_default-chars_token c =
     let args = c.args in
     let pre = c.requires in
     absurd
-    (token-there args.text.now args.p.0 _ _ pre.0 pre.1 _ chars.auto.1.1.0 chars.result _ _
-    (rw c.in_default-chars_token.is at chars-token.ensures) (rw w.given.1 at past-chars.ensures))
+    (token-there args.text.now args.p.0 _ _ pre.0 pre.1 _ c.chars-c.auto.out c.chars-c.result _ _
+    (rw c.in_default-chars_token.is at c.chars_token.ensures) (rw c.in-At.is at c.past_chars.ensures))
 
 pub returns : goal.returns
 returns c =
@@ -109,6 +109,6 @@ returns c =
     let chars = c.chars-c in
     let args = c.args in
     let pre = c.requires in
-    chars-member args.text.now args.p.0 _ _ pre.0 pre.1 _ chars.auto.1.1.0 chars.result chars.ensures _
-    (rw w.given.1 at past-chars.ensures) (not-ch peek.ensures 0x2d if1.false) _ _ _
-    (rw c.in-At-chars_token.is at chars-token.ensures)
+    chars-member args.text.now args.p.0 _ _ pre.0 pre.1 _ c.chars-c.auto.out c.chars-c.result c.chars-c.ensures _
+    (rw c.in-At.is at c.past_chars.ensures) (not-ch c.peek.ensures 0x2d c.if-peek-eq-HYPHEN.false) _ _ _
+    (rw c.in-At-chars_token.is at c.chars_token.ensures)

@@ -33,8 +33,8 @@ returns-then-letter c =
     let pre = c.requires in
     rw (twice _ c.after-second.ensures c.after.ensures)
     (class-two args.text.now args.p.0 _ _ pre.0 pre.1 _ (rw
-    c.after-second.ensures at peek.ensures) _ (sym letter.ensures ∙ if1.true)
-    class-token.ensures)
+    c.after-second.ensures at c.peek-e.ensures) _ (sym c.letter.ensures ∙ c.if-letter.true)
+    c.class_token.ensures)
 
 pub class_token-requires-2 : goal.class_token-requires-2
 class_token-requires-2 c =
@@ -52,5 +52,5 @@ returns c =
     let pre = c.requires in
     rw c.after-second.ensures
     (class-one args.text.now args.p.0 _ _ pre.0 pre.1 _ (rw
-    c.after-second.ensures at peek.ensures) _ (sym letter.ensures ∙ if1.false)
-    class-token2.ensures)
+    c.after-second.ensures at c.peek-e.ensures) _ (sym c.letter.ensures ∙ c.if-letter.false)
+    c.class_token-2.ensures)

@@ -9,14 +9,14 @@ pub returns-in_default : goal.returns-in_default
 returns-in_default c =
     let members = c.members in
     let args = c.args in
-    filled_none args.text.now args.p.0 (rw c.in_default.is at members.ensures)
+    filled_none args.text.now args.p.0 (rw c.in_default.is at c.members.ensures)
 
 pub returns-then-peek-ne-CLOSE_SQUARE : goal.returns-then-peek-ne-CLOSE_SQUARE
 returns-then-peek-ne-CLOSE_SQUARE c =
     let w = c.w-1 in
     let members = c.members in
     let args = c.args in
-    filled-open args.text.now args.p.0 args.out.now args.at.0 _ _ _ (rw w.given.1 at members.ensures)
+    filled-open args.text.now args.p.0 args.out.now args.at.0 _ _ _ (rw c.in-At.is at c.members.ensures)
     (not-ch c.peek.ensures 0x5d c.if-peek-ne-CLOSE_SQUARE.true)
 
 pub token-requires : goal.token-requires
@@ -26,9 +26,9 @@ token-requires c =
     let members = c.members in
     let args = c.args in
     let pre = c.requires in (
-      (seen-in _ _ _ 0x5d peek.ensures c.if-peek-ne-CLOSE_SQUARE.false (omega arith)),
-      filled-cell args.text.now args.p.0 args.out.now args.at.0 _ _ _ (rw w.given.1 at members.ensures) (pre)
-          members.auto.1.1.0 (seen-in _ _ _ 0x5d peek.ensures c.if-peek-ne-CLOSE_SQUARE.false (omega arith)),
+      (seen-in _ _ _ 0x5d c.peek.ensures c.if-peek-ne-CLOSE_SQUARE.false (omega arith)),
+      filled-cell args.text.now args.p.0 args.out.now args.at.0 _ _ _ (rw c.in-At.is at c.members.ensures) (pre)
+          c.members.auto.out (seen-in _ _ _ 0x5d c.peek.ensures c.if-peek-ne-CLOSE_SQUARE.false (omega arith)),
     )
 
 pub returns : goal.returns
@@ -39,5 +39,5 @@ returns c =
     let w = c.w-1 in
     let members = c.members in
     let args = c.args in
-    filled-shut args.text.now args.p.0 args.out.now args.at.0 _ _ _ (rw w.given.1 at members.ensures)
-    (is-ch peek.ensures 0x5d if1.false) token.result _ token.ensures
+    filled-shut args.text.now args.p.0 args.out.now args.at.0 _ _ _ (rw c.in-At.is at c.members.ensures)
+    (is-ch c.peek.ensures 0x5d c.if-peek-ne-CLOSE_SQUARE.false) c.token.result _ c.token.ensures

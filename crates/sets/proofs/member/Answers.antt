@@ -10,13 +10,13 @@ class-requires c =
     let capital' = c.capital in
     let peek = c.peek in
     let pre = c.requires in
-    (pre, tested peek.ensures capital (sym capital'.ensures ∙ c.if-capital.true))
+    (pre, tested c.peek.ensures capital (sym c.capital.ensures ∙ c.if-capital.true))
 
 pub spaced-requires : goal.spaced-requires
 spaced-requires c =
     let class = c.class in
     let args = c.args in
-    class-step args.text.now args.p.0 _ _ class.result _ class.ensures
+    class-step args.text.now args.p.0 _ _ c.class.result _ c.class.ensures
 
 pub returns-then-capital : goal.returns-then-capital
 returns-then-capital c =
@@ -25,12 +25,12 @@ returns-then-capital c =
     let capital' = c.capital in
     let peek = c.peek in
     let args = c.args in
-    class-member args.text.now args.p.0 _ _ (tested peek.ensures capital (sym capital'.ensures ∙ if1.true)) class.result _
-    c.spaced.result class.ensures c.spaced.ensures
+    class-member args.text.now args.p.0 _ _ (tested c.peek.ensures capital (sym c.capital.ensures ∙ c.if-capital.true)) c.class.result _
+    c.spaced.result c.class.ensures c.spaced.ensures
 
 pub chars_member-requires : goal.chars_member-requires
 chars_member-requires c =
     let capital' = c.capital in
     let peek = c.peek in
     let pre = c.requires in
-    (pre, tested peek.ensures capital (sym capital'.ensures ∙ c.if-capital.false))
+    (pre, tested c.peek.ensures capital (sym c.capital.ensures ∙ c.if-capital.false))

@@ -21,21 +21,21 @@ pub shape_of-out-in_default : goal.shape_of-out-in_default
 shape_of-out-in_default c =
     let member = c.member in
     let loop = c.loop-q in
-    member.auto.1.1.0 ∙ loop.invariant.len
+    c.member.auto.out ∙ c.loop-q.invariant.len
 
 pub returns-in_default : goal.returns-in_default
 returns-in_default c =
     let member = c.member in
     let loop = c.loop-q in
     let args = c.args in
-    listing_none args.text.now args.p.0 args.out.now args.at.0 loop.out loop.from.0 loop.to.0 loop.invariant
-    (rw c.in_default.is at member.ensures)
+    listing_none args.text.now args.p.0 args.out.now args.at.0 c.loop-q.out c.loop-q.from.0 c.loop-q.to.0 c.loop-q.invariant
+    (rw c.in_default.is at c.member.ensures)
 
 pub shape_of-out-then-not-bar : goal.shape_of-out-then-not-bar
 shape_of-out-then-not-bar c =
     let member = c.member in
     let loop = c.loop-q in
-    member.auto.1.1.0 ∙ loop.invariant.len
+    c.member.auto.out ∙ c.loop-q.invariant.len
 
 pub returns-then-not-bar : goal.returns-then-not-bar
 returns-then-not-bar c =
@@ -44,8 +44,8 @@ returns-then-not-bar c =
     let member = c.member in
     let loop = c.loop-q in
     let args = c.args in
-    listing-last args.text.now args.p.0 args.out.now args.at.0 loop.out loop.from.0 loop.to.0 loop.invariant _ _ _
-    (rw q.given.1 at member.ensures) (tested peek.ensures bar (sym c.bar.ensures ∙ c.if-not-bar.true))
+    listing-last args.text.now args.p.0 args.out.now args.at.0 c.loop-q.out c.loop-q.from.0 c.loop-q.to.0 c.loop-q.invariant _ _ _
+    (rw c.in-At.is at c.member.ensures) (tested c.peek.ensures bar (sym c.bar.ensures ∙ c.if-not-bar.true))
 
 pub after-requires : goal.after-requires
 after-requires c =
@@ -57,9 +57,9 @@ after-requires c =
     let good = c.well_formed in
     omega (
       arith,
-      bar-in args.text.now args.p.0 args.out.now args.at.0 loop.out loop.from.0 loop.to.0 loop.invariant _ _ _
-          (rw q.given.1 at member.ensures) (tested peek.ensures bar (sym c.bar.ensures ∙ c.if-not-bar.false)),
-      good.0,
+      bar-in args.text.now args.p.0 args.out.now args.at.0 c.loop-q.out c.loop-q.from.0 c.loop-q.to.0 c.loop-q.invariant _ _ _
+          (rw c.in-At.is at c.member.ensures) (tested c.peek.ensures bar (sym c.bar.ensures ∙ c.if-not-bar.false)),
+      c.well_formed.0,
     )
 
 pub skip-requires : goal.skip-requires
@@ -71,8 +71,8 @@ skip-requires c =
     let args = c.args in
     omega (
       arith,
-      bar-in args.text.now args.p.0 args.out.now args.at.0 loop.out loop.from.0 loop.to.0 loop.invariant _ _ _
-          (rw q.given.1 at member.ensures) (tested peek.ensures bar (sym c.bar.ensures ∙ c.if-not-bar.false)),
+      bar-in args.text.now args.p.0 args.out.now args.at.0 c.loop-q.out c.loop-q.from.0 c.loop-q.to.0 c.loop-q.invariant _ _ _
+          (rw c.in-At.is at c.member.ensures) (tested c.peek.ensures bar (sym c.bar.ensures ∙ c.if-not-bar.false)),
       c.after.ensures,
     )
 
@@ -80,7 +80,7 @@ pub shape_of-out-in_default-skip : goal.shape_of-out-in_default-skip
 shape_of-out-in_default-skip c =
     let member = c.member in
     let loop = c.loop-q in
-    member.auto.1.1.0 ∙ loop.invariant.len
+    c.member.auto.out ∙ c.loop-q.invariant.len
 
 pub returns-in_default-skip : goal.returns-in_default-skip
 returns-in_default-skip c =
@@ -92,9 +92,9 @@ returns-in_default-skip c =
     let member = c.member in
     let loop = c.loop-q in
     let args = c.args in
-    listing-bad args.text.now args.p.0 args.out.now args.at.0 loop.out loop.from.0 loop.to.0 loop.invariant _ _ _
-    (rw q.given.1 at member.ensures) (tested peek.ensures bar (sym bar'.ensures ∙ if1.false))
-    (rw (c.after.ensures, c.in_default-skip.is) at skip.ensures)
+    listing-bad args.text.now args.p.0 args.out.now args.at.0 c.loop-q.out c.loop-q.from.0 c.loop-q.to.0 c.loop-q.invariant _ _ _
+    (rw c.in-At.is at c.member.ensures) (tested c.peek.ensures bar (sym c.bar.ensures ∙ c.if-not-bar.false))
+    (rw (c.after.ensures, c.in_default-skip.is) at c.skip.ensures)
 
 pub loop-q-smaller : goal.loop-q-smaller
 loop-q-smaller c =
@@ -106,9 +106,9 @@ loop-q-smaller c =
     let member = c.member in
     let loop = c.loop-q in
     let args = c.args in
-    listing-less args.text.now args.p.0 args.out.now args.at.0 loop.out loop.from.0 loop.to.0 loop.invariant _ _ _
-    (rw q.given.1 at member.ensures) (tested peek.ensures bar (sym bar'.ensures ∙ if1.false)) _
-    (rw (c.after.ensures, c.in-At-skip.is) at skip.ensures)
+    listing-less args.text.now args.p.0 args.out.now args.at.0 c.loop-q.out c.loop-q.from.0 c.loop-q.to.0 c.loop-q.invariant _ _ _
+    (rw c.in-At.is at c.member.ensures) (tested c.peek.ensures bar (sym c.bar.ensures ∙ c.if-not-bar.false)) _
+    (rw (c.after.ensures, c.in-At-skip.is) at c.skip.ensures)
 
 pub loop-q-preserved : goal.loop-q-preserved
 loop-q-preserved c =
@@ -120,6 +120,6 @@ loop-q-preserved c =
     let member = c.member in
     let loop = c.loop-q in
     let args = c.args in
-    listing-on args.text.now args.p.0 args.out.now args.at.0 loop.out loop.from.0 loop.to.0 loop.invariant _ _ _
-    (rw q.given.1 at member.ensures) (tested peek.ensures bar (sym bar'.ensures ∙ if1.false)) _
-    (rw (c.after.ensures, c.in-At-skip.is) at skip.ensures) member.auto.1.1.0
+    listing-on args.text.now args.p.0 args.out.now args.at.0 c.loop-q.out c.loop-q.from.0 c.loop-q.to.0 c.loop-q.invariant _ _ _
+    (rw c.in-At.is at c.member.ensures) (tested c.peek.ensures bar (sym c.bar.ensures ∙ c.if-not-bar.false)) _
+    (rw (c.after.ensures, c.in-At-skip.is) at c.skip.ensures) c.member.auto.out

@@ -8,4 +8,4 @@ pub range_end-requires : goal.range_end-requires
 range_end-requires c = simp length-set (omega arith)
 
 pub shape_of-out : goal.shape_of-out
-shape_of-out c = c.range_end.auto.1.0 ∙ simp length-set
+shape_of-out c = c.range_end.auto.out ∙ simp length-set

@@ -10,7 +10,7 @@ pub returns-in_default : goal.returns-in_default
 returns-in_default c =
     let skip = c.skip in
     let args = c.args in
-    rest-bad args.text.now args.p.0 (rw (c.after.ensures, c.in_default.is) at skip.ensures)
+    rest-bad args.text.now args.p.0 (rw (c.after.ensures, c.in_default.is) at c.skip.ensures)
 
 pub chars-c-requires : goal.chars-c-requires
 chars-c-requires c =
@@ -18,7 +18,7 @@ chars-c-requires c =
     let skip = c.skip in
     let args = c.args in
     let pre = c.requires in
-    rest-space args.text.now args.p.0 _ _ pre.0 pre.1 _ (rw (c.after.ensures, u.given.1) at skip.ensures)
+    rest-space args.text.now args.p.0 _ _ pre.0 pre.1 _ (rw (c.after.ensures, c.in-At.is) at c.skip.ensures)
 
 pub spaced-requires : goal.spaced-requires
 spaced-requires c =
@@ -29,9 +29,9 @@ spaced-requires c =
     let args = c.args in
     let pre = c.requires in
     rest_in args.text.now args.p.0 _ _ pre.0 pre.1 _ (rw
-    (c.after.ensures, u.given.1) at
-    skip.ensures) _ chars.auto.1.1.0 chars.result
-    chars.ensures range-end.result _ range-end.ensures
+    (c.after.ensures, c.in-At.is) at
+    c.skip.ensures) _ c.chars-c.auto.out c.chars-c.result
+    c.chars-c.ensures c.range_end.result _ c.range_end.ensures
 
 pub returns : goal.returns
 returns c =
@@ -42,6 +42,6 @@ returns c =
     let args = c.args in
     let pre = c.requires in
     rest_read args.text.now args.p.0 _ _ pre.0 pre.1 _ (rw
-    (c.after.ensures, u.given.1) at
-    skip.ensures) _ chars.auto.1.1.0
-    chars.result chars.ensures range-end.result _ range-end.ensures c.spaced.result c.spaced.ensures
+    (c.after.ensures, c.in-At.is) at
+    c.skip.ensures) _ c.chars-c.auto.out
+    c.chars-c.result c.chars-c.ensures c.range_end.result _ c.range_end.ensures c.spaced.result c.spaced.ensures

@@ -15,7 +15,7 @@ token-requires c =
     let peek = c.peek in
     let args = c.args in
     let pre = c.requires in
-    let h = seen-in args.text.now args.p.0 _ 0x5b peek.ensures c.if-peek-ne-OPEN_SQUARE.false (omega arith) in
+    let h = seen-in args.text.now args.p.0 _ 0x5b c.peek.ensures c.if-peek-ne-OPEN_SQUARE.false (omega arith) in
     (h, omega (arith, h, pre.cells))
 
 pub returns-in_default : goal.returns-in_default
@@ -24,7 +24,7 @@ returns-in_default c =
     let if1 = c.if-peek-ne-OPEN_SQUARE in
     let peek = c.peek in
     let args = c.args in
-    set-bad args.text.now args.p.0 (is-ch peek.ensures 0x5b if1.false) (rw c.in_default.is at token.ensures)
+    set-bad args.text.now args.p.0 (is-ch c.peek.ensures 0x5b c.if-peek-ne-OPEN_SQUARE.false) (rw c.in_default.is at c.token.ensures)
 
 pub token-requires-then-peek-eq-CLOSE_SQUARE : goal.token-requires-then-peek-eq-CLOSE_SQUARE
 token-requires-then-peek-eq-CLOSE_SQUARE c =
@@ -35,10 +35,10 @@ token-requires-then-peek-eq-CLOSE_SQUARE c =
     let peek = c.peek in
     let args = c.args in
     let pre = c.requires in (
-      (seen-in _ _ _ 0x5d peek2.ensures c.if-peek-eq-CLOSE_SQUARE.true (omega arith)),
-      set-cell args.text.now args.p.0 (is-ch peek.ensures 0x5b if1.false) _ args.out.now args.at.0 _ _ _
-          (rw v.given.1 at token.ensures) (pre) token.auto.1.1.1.0
-          (seen-in _ _ _ 0x5d peek2.ensures c.if-peek-eq-CLOSE_SQUARE.true (omega arith)),
+      (seen-in _ _ _ 0x5d c.peek-2.ensures c.if-peek-eq-CLOSE_SQUARE.true (omega arith)),
+      set-cell args.text.now args.p.0 (is-ch c.peek.ensures 0x5b c.if-peek-ne-OPEN_SQUARE.false) _ args.out.now args.at.0 _ _ _
+          (rw c.in-At.is at c.token.ensures) (pre) c.token.auto.out
+          (seen-in _ _ _ 0x5d c.peek-2.ensures c.if-peek-eq-CLOSE_SQUARE.true (omega arith)),
     )
 
 pub returns-then-peek-eq-CLOSE_SQUARE : goal.returns-then-peek-eq-CLOSE_SQUARE
@@ -51,8 +51,8 @@ returns-then-peek-eq-CLOSE_SQUARE c =
     let if1 = c.if-peek-ne-OPEN_SQUARE in
     let peek = c.peek in
     let args = c.args in
-    set-none args.text.now args.p.0 (is-ch peek.ensures 0x5b if1.false) _ args.out.now args.at.0 _ _ _
-    (rw v.given.1 at token.ensures) (is-ch peek2.ensures 0x5d if2.true) token2.result _ token2.ensures
+    set-none args.text.now args.p.0 (is-ch c.peek.ensures 0x5b c.if-peek-ne-OPEN_SQUARE.false) _ args.out.now args.at.0 _ _ _
+    (rw c.in-At.is at c.token.ensures) (is-ch c.peek-2.ensures 0x5d c.if-peek-eq-CLOSE_SQUARE.true) c.token-then-peek-eq-CLOSE_SQUARE.result _ c.token-then-peek-eq-CLOSE_SQUARE.ensures
 
 pub filled_set-requires : goal.filled_set-requires
 filled_set-requires c =
@@ -62,8 +62,8 @@ filled_set-requires c =
     let peek = c.peek in
     let args = c.args in
     let pre = c.requires in
-    set_room args.text.now args.p.0 (is-ch peek.ensures 0x5b if1.false) _ args.out.now args.at.0 _ _ _
-    (rw v.given.1 at token.ensures) (pre) token.auto.1.1.1.0
+    set_room args.text.now args.p.0 (is-ch c.peek.ensures 0x5b c.if-peek-ne-OPEN_SQUARE.false) _ args.out.now args.at.0 _ _ _
+    (rw c.in-At.is at c.token.ensures) (pre) c.token.auto.out
 
 pub returns : goal.returns
 returns c =
@@ -75,5 +75,5 @@ returns c =
     let if1 = c.if-peek-ne-OPEN_SQUARE in
     let peek = c.peek in
     let args = c.args in
-    set-some args.text.now args.p.0 (is-ch peek.ensures 0x5b if1.false) _ args.out.now args.at.0 _ _ _
-    (rw v.given.1 at token.ensures) (not-ch peek2.ensures 0x5d if2.false) filled-set.result _ filled-set.ensures
+    set-some args.text.now args.p.0 (is-ch c.peek.ensures 0x5b c.if-peek-ne-OPEN_SQUARE.false) _ args.out.now args.at.0 _ _ _
+    (rw c.in-At.is at c.token.ensures) (not-ch c.peek-2.ensures 0x5d c.if-peek-eq-CLOSE_SQUARE.false) c.filled_set.result _ c.filled_set.ensures

@@ -14,10 +14,10 @@ pub returns-in_default-skip : goal.returns-in_default-skip
 returns-in_default-skip c =
     let skip = c.skip in
     let step = c.step-1 in
-    rw step.given.1 (rw c.in_default-skip.is at skip.ensures)
+    rw c.in-At.is (rw c.in_default-skip.is at c.skip.ensures)
 
 pub returns : goal.returns
 returns c =
     let skip = c.skip in
     let step = c.step-1 in
-    rw step.given.1 (record { skipped = rw c.in-At-skip.is at skip.ensures; cell = refl })
+    rw c.in-At.is (record { skipped = rw c.in-At-skip.is at c.skip.ensures; cell = refl })

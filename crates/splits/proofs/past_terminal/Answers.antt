@@ -20,7 +20,7 @@ returns-then-s-i c =
     let at-fits = c.fits in
     sym
     (past-short a.code.now a.marks.now a.notes.now a.s.n.0 a.main.now a.p a.s.i.0 a.s.j.0
-    (sym at-fits.ensures ∙ c.if-not-fits.false) (omega (arith, c.number_at.ensures.0, c.if-s-i.true)))
+    (sym c.fits.ensures ∙ c.if-not-fits.false) (omega (arith, c.number_at.ensures.0, c.if-s-i.true)))
 
 pub rest_height-requires : goal.rest_height-requires
 rest_height-requires c =
@@ -34,6 +34,6 @@ returns c =
     let at-fits = c.fits in
     let wide = c.number_at.ensures.0 in
     let is = past_is a.code.now a.marks.now a.notes.now a.s.n.0 a.main.now a.p a.s.i.0 a.s.j.0
-    (sym at-fits.ensures ∙ c.if-not-fits.false) (omega (arith, c.if-s-i.false)) in
+    (sym c.fits.ensures ∙ c.if-not-fits.false) (omega (arith, c.if-s-i.false)) in
     c.rest_height.ensures ∙ ap (λ (z : ℕ). rest_of a.code.now a.marks.now a.notes.now a.s.n.0 a.main.now (a.p + 1) (a.s.i.0 + z) a.s.j.0) wide
     ∙ sym is

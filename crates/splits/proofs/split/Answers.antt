@@ -30,5 +30,5 @@ returns c =
     let a = c.args in
     let at-rule = c.rule_height-a in
     let is = split-is a.code.now a.marks.now a.notes.now a.s.n.0 a.main.now a.p a.s.i.0 a.s.j.0 a.m.0 c.number_at-rule.result
-    at-rule.result c.up.result c.number_at-rule.ensures.0 (at-rule.ensures a.code.now) c.if-a.false c.up.ensures in
+    c.rule_height-a.result c.up.result c.number_at-rule.ensures.0 (c.rule_height-a.ensures a.code.now) c.if-a.false c.up.ensures in
     c.larger.ensures ∙ ap (λ (z : ℕ). max c.up.result z) c.rest_height-b.ensures ∙ sym is

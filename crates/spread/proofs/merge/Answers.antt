@@ -56,8 +56,8 @@ loop-i-preserved c =
     let l = c.loop-i in
     (
       omega (arith, c.loop-i-test.true),
-      length-set l.main (c.args.y + l.i) c.better.result ∙ l.invariant.1,
-      λ (o M F : List ℕ) (size n m j p : ℕ) a. merged-next o M F size n m j a l.i c.better.result c.loop-i-test.true (l.invariant.2 o M F size n m j p a) c.better.ensures,
+      length-set c.loop-i.main (c.args.y + c.loop-i.i) c.better.result ∙ c.loop-i.invariant.1,
+      λ (o M F : List ℕ) (size n m j p : ℕ) a. merged-next o M F size n m j a c.loop-i.i c.better.result c.loop-i-test.true (c.loop-i.invariant.2 o M F size n m j p a) c.better.ensures,
     )
 
 pub shape_of-main : goal.shape_of-main
@@ -66,5 +66,5 @@ shape_of-main c = c.loop-i.invariant.1
 pub returns : goal.returns
 returns c =
     let l = c.loop-i in
-    λ (o M F : List ℕ) (size n m j p : ℕ) a. subst (λ (i : ℕ). Merged o M F size n m j c.args.main.now p i l.main)
-    (omega (arith, l.invariant.0, c.loop-i-test.false, a.count)) (l.invariant.2 o M F size n m j p a)
+    λ (o M F : List ℕ) (size n m j p : ℕ) a. subst (λ (i : ℕ). Merged o M F size n m j c.args.main.now p i c.loop-i.main)
+    (omega (arith, c.loop-i.invariant.0, c.loop-i-test.false, a.count)) (c.loop-i.invariant.2 o M F size n m j p a)

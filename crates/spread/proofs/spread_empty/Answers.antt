@@ -28,11 +28,11 @@ pub spread_dot-requires : goal.spread_dot-requires
 spread_dot-requires c =
     let l = c.loop-k in
     let q = c.requires in
-    let e : length l.main ≡ length c.args.main.now = l.invariant.1.fell.long in
-    let k : l.k < get_or c.args.column.now 512 0 = omega (arith, c.loop-k-test.true, c.wide.ensures, l.invariant.1.before 512 (omega arith)) in
-    let x = (q.1.each l.k k).0 in
-    let y = c.wide-x.ensures ∙ l.invariant.1.before l.k (omega (arith, q.1.count)) in
-    (rw e q.0, l.invariant.1.long ∙ q.1.long, omega arith, q.2, q.3, l.invariant.1.low q.4, l.invariant.1.full q.5)
+    let e : length c.loop-k.main ≡ length c.args.main.now = c.loop-k.invariant.1.fell.long in
+    let k : c.loop-k.k < get_or c.args.column.now 512 0 = omega (arith, c.loop-k-test.true, c.wide.ensures, c.loop-k.invariant.1.before 512 (omega arith)) in
+    let x = (q.1.each c.loop-k.k k).0 in
+    let y = c.wide-x.ensures ∙ c.loop-k.invariant.1.before c.loop-k.k (omega (arith, q.1.count)) in
+    (rw e q.0, c.loop-k.invariant.1.long ∙ q.1.long, omega arith, q.2, q.3, c.loop-k.invariant.1.low q.4, c.loop-k.invariant.1.full q.5)
 
 pub overflow_add-k : goal.overflow_add-k
 overflow_add-k c =
@@ -47,12 +47,12 @@ loop-k-preserved c =
     let a = c.args in
     let l = c.loop-k in
     let q = c.requires in
-    let k : l.k < get_or a.column.now 512 0 = omega (arith, c.loop-k-test.true, c.wide.ensures, l.invariant.1.before 512 (omega arith)) in
+    let k : c.loop-k.k < get_or a.column.now 512 0 = omega (arith, c.loop-k-test.true, c.wide.ensures, c.loop-k.invariant.1.before 512 (omega arith)) in
     let d = c.spread_dot.ensures in (
       omega (arith, k),
-      spread_join _ _ _ _ _ _ _ l.invariant.1 d.0,
-      done_next _ _ _ _ _ _ _ q.2 q.3 (λ (z : ℕ). get_or a.column.now z 0) d.0 l.invariant.2
-          (c.wide-x.ensures ∙ l.invariant.1.before l.k (omega (arith, k, q.1.count))) d.1,
+      spread_join _ _ _ _ _ _ _ c.loop-k.invariant.1 d.0,
+      done_next _ _ _ _ _ _ _ q.2 q.3 (λ (z : ℕ). get_or a.column.now z 0) d.0 c.loop-k.invariant.2
+          (c.wide-x.ensures ∙ c.loop-k.invariant.1.before c.loop-k.k (omega (arith, k, q.1.count))) d.1,
     )
 
 pub shape_of-main : goal.shape_of-main
@@ -68,7 +68,7 @@ returns c =
     let l = c.loop-k in
     let q = c.requires in
     record {
-      spread = l.invariant.1;
+      spread = c.loop-k.invariant.1;
       on = all-on _ _ _ _ _ _ _ q.0.shape q.1
-          (λ k h. l.invariant.2 k (omega (arith, c.loop-k-test.false, c.wide.ensures, l.invariant.1.before 512 (omega arith))));
+          (λ k h. c.loop-k.invariant.2 k (omega (arith, c.loop-k-test.false, c.wide.ensures, c.loop-k.invariant.1.before 512 (omega arith))));
     }

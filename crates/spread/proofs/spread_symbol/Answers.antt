@@ -46,7 +46,7 @@ low_run-from-requires c =
         arith,
         run_in o c.row-y.result c.high-k.result a.s.j.0 c.cell-z.result
             c.row-y.ensures.1 (omega (arith, c.high-k.ensures.most, o.order)) o.stop c.cell-z.ensures,
-        c.merge.auto.0,
+        c.merge.auto.main,
       ),
       omega (arith, c.less_one-h.ensures, c.requires.3),
     )
@@ -84,7 +84,7 @@ offset_bounds-column-y-2 c =
 pub bounds-column-y-2 : goal.bounds-column-y-2
 bounds-column-y-2 c =
     let o = c.requires.0 in
-    omega (arith, c.row-y.ensures.1, o.shape.small, o.column, c.touch.ensures.long, length-set c.touch.new.1.0 (3276 + c.row-y.result) c.low_run-from.result)
+    omega (arith, c.row-y.ensures.1, o.shape.small, o.column, c.touch.ensures.long, length-set c.touch.new.column (3276 + c.row-y.result) c.low_run-from.result)
 
 pub returns : goal.returns
 returns c =
@@ -95,8 +95,8 @@ returns c =
     subst (λ (r : ℕ). High a.column.now r a.s.i.0 c.less_one-h.result c.high-k.result) e c.high-k.ensures in
     let g = merging a.code.now M F a.s.size a.s.n.0 a.s.i.0 a.s.j.0 o c.high-k.ensures.most c.requires.1 c.requires.2 w
     c.wide-rule.ensures c.cell-x.ensures c.row-y.ensures.0 c.cell-z.ensures c.less_one-h.ensures in
-    subst (λ (r : ℕ). DotSpread a.code.now M F a.s.size a.s.n.0 a.s.i.0 a.s.j.0 a.main.now a.column.now c.merge.new.0
-    (set (set c.touch.new.1.0 (3276 + r) c.low_run-from.result) (2764 + r) c.less_one-h.result) a.o.dot) (sym e)
+    subst (λ (r : ℕ). DotSpread a.code.now M F a.s.size a.s.n.0 a.s.i.0 a.s.j.0 a.main.now a.column.now c.merge.new.main
+    (set (set c.touch.new.column (3276 + r) c.low_run-from.result) (2764 + r) c.less_one-h.result) a.o.dot) (sym e)
     (symbol_end a.code.now M F a.s.size a.s.n.0 a.s.i.0 a.s.j.0 g (omega (arith, o.placed.order, o.placed.stop, o.placed.short)) o.placed.shape.small h o.low
     (omega (arith, c.row-y.ensures)) (c.merge.ensures a.code.now M F a.s.size a.s.n.0 a.s.i.0 a.s.j.0 a.o.dot g) c.touch.ensures
     (c.touch.ensures.long ∙ o.placed.column) c.low_run-from.ensures)

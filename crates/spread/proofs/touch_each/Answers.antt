@@ -55,10 +55,10 @@ pub loop-i-preserved : goal.loop-i-preserved
 loop-i-preserved c =
     let l = c.loop-i in
     let a = c.args in
-    let room : 2563 + l.i < length l.column = omega (arith, c.loop-i-test.true, c.requires.1, l.invariant.1.long) in (
+    let room : 2563 + c.loop-i.i < length c.loop-i.column = omega (arith, c.loop-i-test.true, c.requires.1, c.loop-i.invariant.1.long) in (
       omega (arith, c.loop-i-test.true),
-      touching-next a.main.now a.x l.i c.marked-t.result a.column.now l.column room l.invariant.1 c.marked-t.ensures,
-      λ d. let w = c.both-all.ensures d in all-next l.i c.marked-t.result l.column room (l.invariant.2 w.1) w.0,
+      touching-next a.main.now a.x c.loop-i.i c.marked-t.result a.column.now c.loop-i.column room c.loop-i.invariant.1 c.marked-t.ensures,
+      λ d. let w = c.both-all.ensures d in all-next c.loop-i.i c.marked-t.result c.loop-i.column room (c.loop-i.invariant.2 w.1) w.0,
     )
 
 pub shape_of-column : goal.shape_of-column
@@ -68,7 +68,7 @@ pub returns : goal.returns
 returns c =
     let l = c.loop-i in
     let a = c.args in
-    let e : l.i ≡ a.k = omega (arith, l.invariant.0, c.loop-i-test.false) in (
-      subst (λ (i : ℕ). Touching a.main.now a.x i a.column.now l.column) e l.invariant.1,
-      λ d. subst (λ (i : ℕ). AllFlagged i l.column) e (l.invariant.2 d),
+    let e : c.loop-i.i ≡ a.k = omega (arith, c.loop-i.invariant.0, c.loop-i-test.false) in (
+      subst (λ (i : ℕ). Touching a.main.now a.x i a.column.now c.loop-i.column) e c.loop-i.invariant.1,
+      λ d. subst (λ (i : ℕ). AllFlagged i c.loop-i.column) e (c.loop-i.invariant.2 d),
     )

@@ -25,7 +25,7 @@ put_head-requires c =
 
 pub shape_of-state : goal.shape_of-state
 shape_of-state c =
-    c.put_head.auto.0 ∙ c.keep-2.ensures.long ∙ c.keep.ensures.long
+    c.put_head.auto.state ∙ c.keep-2.ensures.long ∙ c.keep.ensures.long
 
 pub returns : goal.returns
 returns c =

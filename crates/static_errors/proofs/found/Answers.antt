@@ -23,7 +23,7 @@ returns-then-same_name c =
     let w = c.wide in
     let s = c.same_name in
     law.found_here c.args.table.now c.args.a c.args.index.now c.args.from c.args.n c.loop-i.i c.requires.listing.few c.loop-i.invariant c.loop-i-test.true
-    w.result w.ensures s.result s.ensures c.if-same_name.true
+    c.wide.result c.wide.ensures c.same_name.result c.same_name.ensures c.if-same_name.true
 
 pub overflow_add-i : goal.overflow_add-i
 overflow_add-i c = let l = c.loop-i-test.true in let h = c.requires.listing.few in omega arith
@@ -36,7 +36,7 @@ loop-i-preserved c =
     let w = c.wide in
     let s = c.same_name in
     law.found-next c.args.table.now c.args.a c.args.index.now c.args.from c.args.n c.loop-i.i c.requires.listing.few c.loop-i.invariant c.loop-i-test.true
-    w.result w.ensures s.result s.ensures c.if-same_name.false
+    c.wide.result c.wide.ensures c.same_name.result c.same_name.ensures c.if-same_name.false
 
 pub returns : goal.returns
 returns c =

@@ -38,7 +38,7 @@ pub slice_bounds-text-end : goal.slice_bounds-text-end
 slice_bounds-text-end c =
     let j = job c.args.grammar.now c.args.record.now (length c.args.main.now) c.args.second in
     let w = resumed-at j _ _ _ _ _ c.in-At.is c.resume-begun.ensures in
-    omega (arith, w.started.input.count, w.started.input.short, c.resume-begun.auto.1.1.1.1.1.1.0)
+    omega (arith, w.started.input.count, w.started.input.short, c.resume-begun.auto.text)
 
 pub slice_bounds-round-end-2 : goal.slice_bounds-round-end-2
 slice_bounds-round-end-2 c =
@@ -48,7 +48,7 @@ slice_bounds-round-end-2 c =
 pub round-last-requires : goal.round-last-requires
 round-last-requires c =
     let j = job c.args.grammar.now c.args.record.now (length c.args.main.now) c.args.second in
-    readable j c.resume-begun.new.1.1.1.1.1.0 c.resume-begun.new.1.1.1.1.1.1.0 c.args.main.now _ _
+    readable j c.resume-begun.new.table c.resume-begun.new.text c.args.main.now _ _
     (resumed-at j _ _ _ _ _ c.in-At.is c.resume-begun.ensures) refl (search rules)
 
 pub overflow_add-done : goal.overflow_add-done

@@ -37,4 +37,4 @@ pub returns : goal.returns
 returns c =
     let j = job c.args.grammar.now c.args.record.now (length c.args.main.now) c.args.second in
     let w = begun-at j _ _ _ _ c.in-At.is c.begin-begun.ensures in
-    started-done j _ _ _ _ _ _ _ w c.answered.ensures c.clear.auto.0 _ c.need-need.ensures c.clear.ensures c.begin.ensures
+    started-done j _ _ _ _ _ _ _ w c.answered.ensures c.clear.auto.main _ c.need-need.ensures c.clear.ensures c.begin.ensures

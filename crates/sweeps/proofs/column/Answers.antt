@@ -33,7 +33,7 @@ pub loop-i-preserved : goal.loop-i-preserved
 loop-i-preserved c =
     let a = c.args in (
       omega (arith, c.loop-i.invariant.0),
-      c.stretch-here.auto.1.1.0 ∙ c.loop-i.invariant.1,
+      c.stretch-here.auto.main ∙ c.loop-i.invariant.1,
       λ run. told c.either-added.ensures (starts-next a.code.now a.fits.now a.layer.size a.layer.n a.layer.height a.j c.loop-i.i
           c.loop-i-test.true c.requires.1
           (c.loop-i.invariant.2 run) (c.stretch-here.ensures (c.loop-i.invariant.2 run).running)),

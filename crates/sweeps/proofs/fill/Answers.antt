@@ -39,27 +39,27 @@ loop-height-init c =
 
 pub sweep-requires : goal.sweep-requires
 sweep-requires c =
-    let e = c.loop-height.invariant.0 ∙ c.clear.auto.0 in rw e c.requires
+    let e = c.loop-height.invariant.0 ∙ c.clear.auto.main in rw e c.requires
 
 pub overflow_add-height : goal.overflow_add-height
 overflow_add-height c =
     let a = c.args in
-    let sh : Shape a.code.now a.size a.n (length c.clear.new.0) = rw c.clear.auto.0 c.requires.shape in
-    omega (arith, below_none a.code.now a.fits.now a.size a.n (length c.clear.new.0) sh (c.loop-height.invariant.1 sh))
+    let sh : Shape a.code.now a.size a.n (length c.clear.new.main) = rw c.clear.auto.main c.requires.shape in
+    omega (arith, below_none a.code.now a.fits.now a.size a.n (length c.clear.new.main) sh (c.loop-height.invariant.1 sh))
 
 pub loop-height-smaller : goal.loop-height-smaller
 loop-height-smaller c =
     let a = c.args in
-    let sh : Shape a.code.now a.size a.n (length c.clear.new.0) = rw c.clear.auto.0 c.requires.shape in
+    let sh : Shape a.code.now a.size a.n (length c.clear.new.main) = rw c.clear.auto.main c.requires.shape in
     let w = c.loop-height.invariant.1 sh in
-    let s = c.sweep.ensures (omega (arith, below_none a.code.now a.fits.now a.size a.n (length c.clear.new.0) sh w)) w.upto in
-    fewer a.code.now a.fits.now a.size a.n (length c.clear.new.0) sh c.loop-height.main c.sweep.new.1.1.1.1.1.0
-    (more-cells a.code.now a.fits.now a.size a.n (length c.clear.new.0) sh w s c.loop-height-test.true)
+    let s = c.sweep.ensures (omega (arith, below_none a.code.now a.fits.now a.size a.n (length c.clear.new.main) sh w)) w.upto in
+    fewer a.code.now a.fits.now a.size a.n (length c.clear.new.main) sh c.loop-height.main c.sweep.new.main
+    (more-cells a.code.now a.fits.now a.size a.n (length c.clear.new.main) sh w s c.loop-height-test.true)
 
 pub loop-height-preserved : goal.loop-height-preserved
 loop-height-preserved c =
     let a = c.args in (
-      c.sweep.auto.1.1.1.1.1.0 ∙ c.loop-height.invariant.0,
+      c.sweep.auto.main ∙ c.loop-height.invariant.0,
       λ sh. let w = c.loop-height.invariant.1 sh in
           let s = c.sweep.ensures (omega (arith, below_none a.code.now a.fits.now a.size a.n _ sh w)) w.upto in
           rising-next a.code.now a.fits.now a.size a.n _ sh w s c.loop-height-test.true,
@@ -67,13 +67,13 @@ loop-height-preserved c =
 
 pub shape_of-main : goal.shape_of-main
 shape_of-main c =
-    c.sweep.auto.1.1.1.1.1.0 ∙ c.loop-height.invariant.0 ∙ c.clear.auto.0
+    c.sweep.auto.main ∙ c.loop-height.invariant.0 ∙ c.clear.auto.main
 
 pub returns : goal.returns
 returns c =
     let a = c.args in
-    let sh : Shape a.code.now a.size a.n (length c.clear.new.0) = rw c.clear.auto.0 c.requires.shape in
+    let sh : Shape a.code.now a.size a.n (length c.clear.new.main) = rw c.clear.auto.main c.requires.shape in
     let w = c.loop-height.invariant.1 sh in
-    let s = c.sweep.ensures (omega (arith, below_none a.code.now a.fits.now a.size a.n (length c.clear.new.0) sh w)) w.upto in
-    filled a.code.now a.fits.now a.size a.n c.clear.new.0 c.sweep.new.1.1.1.1.1.0 c.clear.ensures
-    (settled a.code.now a.fits.now a.size a.n (length c.clear.new.0) sh w s c.loop-height-test.false) sh.cells.room
+    let s = c.sweep.ensures (omega (arith, below_none a.code.now a.fits.now a.size a.n (length c.clear.new.main) sh w)) w.upto in
+    filled a.code.now a.fits.now a.size a.n c.clear.new.main c.sweep.new.main c.clear.ensures
+    (settled a.code.now a.fits.now a.size a.n (length c.clear.new.main) sh w s c.loop-height-test.false) sh.cells.room

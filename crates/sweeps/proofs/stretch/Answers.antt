@@ -29,7 +29,7 @@ pub loop-p-preserved : goal.loop-p-preserved
 loop-p-preserved c =
     let a = c.args in (
       omega (arith, c.loop-p.invariant.0),
-      c.visit-here.auto.1.1.0 ∙ c.loop-p.invariant.1,
+      c.visit-here.auto.main ∙ c.loop-p.invariant.1,
       λ run. told c.either-added.ensures (dots-next a.code.now a.fits.now a.layer.size a.layer.n a.layer.height a.i a.j c.loop-p.p c.loop-p-test.true
           (c.loop-p.invariant.2 run) (c.visit-here.ensures (c.loop-p.invariant.2 run).running)),
     )

@@ -30,7 +30,7 @@ pub loop-j-preserved : goal.loop-j-preserved
 loop-j-preserved c =
     let a = c.args in (
       omega (arith, c.loop-j-test.true),
-      c.column-here.auto.1.1.0 ∙ c.loop-j.invariant.1,
+      c.column-here.auto.main ∙ c.loop-j.invariant.1,
       λ run. told c.either-added.ensures (ends_next a.code.now a.fits.now a.size a.n a.height c.loop-j.j
           (omega (arith, c.loop-j-test.true))
           (c.loop-j.invariant.2 run) (c.column-here.ensures (c.loop-j.invariant.2 run).running)),

@@ -4,7 +4,7 @@ use Rattle.sweeps.proofs.visit.Goals as goal
 
 pub add_rule-requires : goal.add_rule-requires
 add_rule-requires c =
-    (rw c.add_dot.auto.1.1.0 c.requires.0.shape, c.requires.1)
+    (rw c.add_dot.auto.main c.requires.0.shape, c.requires.1)
 
 pub returns : goal.returns
 returns c =

@@ -18,7 +18,7 @@ returns-then-count-room c =
 -- src/lib.rt:161:60
 pub slice_bounds-put_all-end : goal.slice_bounds-put_all-end
 slice_bounds-put_all-end c =
-    sym (length-take-le c.put_grammar-n.result.0 c.put_grammar-n.new.0 (omega (arith, c.if-count-gt-GRAMMAR_BYTES.false, c.put_grammar-n.auto.0)))
+    sym (length-take-le c.put_grammar-n.result.0 c.put_grammar-n.new.out (omega (arith, c.if-count-gt-GRAMMAR_BYTES.false, c.put_grammar-n.auto.out)))
 
 -- src/lib.rt:146:1
 pub returns : goal.returns

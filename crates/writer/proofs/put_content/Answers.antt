@@ -32,7 +32,7 @@ loop-n-preserved-in-Text c =
     let i = c.loop-n.invariant in
     let N = c.next-event.ensures in (
       omega (arith, i.0),
-      omega (arith, i.1, c.put_text-o.auto.1.1.0),
+      omega (arith, i.1, c.put_text-o.auto.out),
       ap (λ (o : Output). o.limit) c.put_text-o.ensures.0 ∙ i.2,
       on-text (Owing _ _ _ _ _) i.3 N c.in-Text.is c.skip-at.ensures
           (Owing _ _ _ _ _) (λ r k₀ k t s l. owing-text i.2 t k l c.put_text-o.ensures.0
@@ -67,7 +67,7 @@ pub loop-n-preserved-in-Open : goal.loop-n-preserved-in-Open
 loop-n-preserved-in-Open c =
     let i = c.loop-n.invariant in (
       omega (arith, i.0),
-      omega (arith, i.1, c.put_open-o.auto.1.1.1.1.0),
+      omega (arith, i.1, c.put_open-o.auto.out),
       ap (λ (o : Output). o.limit) c.put_open-o.ensures.is ∙ i.2,
       open-enter (Owing _ _ _ _ _) i.3 c.next-event.ensures
           c.in-Open.is (rw c.put_open-o.ensures.kept at c.enter-at.ensures)

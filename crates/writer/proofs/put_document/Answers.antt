@@ -49,7 +49,7 @@ pub put_content-inner-requires : goal.put_content-inner-requires
 put_content-inner-requires c =
     (
       room-left (ap (λ (o : Output). o.limit) (started-is c.args.from c.put_start-name.ensures.0 c.put_attributes-tag.ensures))
-          c.requires.0.0 (omega (arith, c.put_attributes-tag.auto.1.1.1.1.0, c.put_start-name.auto.1.0)),
+          c.requires.0.0 (omega (arith, c.put_attributes-tag.auto.out, c.put_start-name.auto.out)),
       row-again c.at_root-first.ensures c.put_attributes-tag.ensures.kept (root-row (rooted c.requires.1.0 c.requires.1.1.job _
           (found_first c.args.parse.now c.look-a.ensures.0 c.alternative-item.ensures))),
     )
@@ -58,14 +58,14 @@ pub put_close-whole-requires : goal.put_close-whole-requires
 put_close-whole-requires c =
     let T = started-is c.args.from c.put_start-name.ensures.0 c.put_attributes-tag.ensures in (
       room-left (c.put_content-inner.ensures.limit ∙ ap (λ (o : Output). o.limit) T) c.requires.0.0
-          (omega (arith, c.put_content-inner.auto.1.1.1.1.0, c.put_attributes-tag.auto.1.1.1.1.0, c.put_start-name.auto.1.0)),
+          (omega (arith, c.put_content-inner.auto.out, c.put_attributes-tag.auto.out, c.put_start-name.auto.out)),
       c.head_at-head.ensures.fits,
     )
 
 pub shape_of-out : goal.shape_of-out
 shape_of-out c =
-    let k = c.put_content-inner.auto.1.1.1.1.0 in
-    omega (arith, c.put_close-whole.auto.1.0, k, c.put_attributes-tag.auto.1.1.1.1.0, c.put_start-name.auto.1.0)
+    let k = c.put_content-inner.auto.out in
+    omega (arith, c.put_close-whole.auto.out, k, c.put_attributes-tag.auto.out, c.put_start-name.auto.out)
 
 pub returns : goal.returns
 returns c =

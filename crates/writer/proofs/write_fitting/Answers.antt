@@ -17,7 +17,7 @@ returns c =
     record {
       answered = λ g t J W C.
           let a = c.args in
-          all-written c.put_document-n.result.0 c.put_document-n.new.1.1.1.1.1.0 a.out.now
+          all-written c.put_document-n.result.0 c.put_document-n.new.out a.out.now
           (bytes a.plan.due.ambiguous a.plan.due.mismatch (document g a.«record».now t))
           (document-fits a.plan W C c.requires.0) (documented c.fresh-all.ensures c.put_document-n.ensures J W C);
     }

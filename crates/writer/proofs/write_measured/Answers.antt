@@ -17,7 +17,7 @@ returns-then-m-room c =
     record {
       answered = λ g t J W C.
           let a = c.args in
-          too_long c.put_document-m.result.0 c.put_document-m.new.1.1.1.1.1.0 a.out.now
+          too_long c.put_document-m.result.0 c.put_document-m.new.out a.out.now
           (bytes a.plan.due.ambiguous a.plan.due.mismatch (document g a.«record».now t))
           (documented c.fresh-dry.ensures c.put_document-m.ensures J W C) c.if-m-room.true;
     }
@@ -35,7 +35,7 @@ returns c =
           let a = c.args in
           let k = c.put_document-m.ensures.kept in
           written c.put_document-m.result.0 c.put_document-n.result.0
-          c.put_document-m.new.1.1.1.1.1.0 c.put_document-n.new.1.1.1.1.1.0
+          c.put_document-m.new.out c.put_document-n.new.out
           a.out.now (bytes a.plan.due.ambiguous a.plan.due.mismatch (document g a.«record».now t))
           (documented c.fresh-dry.ensures c.put_document-m.ensures J W C) c.if-m-room.false
           (documented c.fresh-wet.ensures c.put_document-n.ensures (rw k J) W C);

@@ -86,8 +86,8 @@ pub loop-n-preserved-in-Attribute : goal.loop-n-preserved-in-Attribute
 loop-n-preserved-in-Attribute c =
     let i = c.loop-n.invariant in
     let A = attribute-is c.next-event.ensures c.in-Attribute.is in (
-      omega (arith, i.0, c.next-event.auto.1.1.0),
-      omega (arith, i.1, c.add_name.auto.1.0),
+      omega (arith, i.0, c.next-event.auto.scratch),
+      omega (arith, i.1, c.add_name.auto.seen),
       omega (arith, i.2, names-at-most c.either-twice.result c.loop-n.count c.names_on-count.ensures, A.later, c.past-at-in-Attribute.ensures.later),
       attribute-past (Tally _ _ _ _) i.3 c.next-event.ensures c.in-Attribute.is c.past-at-in-Attribute.ensures (Tally _ _ _ _)
           (λ r k₀ k m n v N O. rw c.add_name.ensures.0

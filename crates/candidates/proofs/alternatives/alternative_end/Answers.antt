@@ -18,13 +18,13 @@ pub overflow_add-p : goal.overflow_add-p
 overflow_add-p c =
     let loop = c.loop-p in
     let pre = c.requires in
-    omega (arith, end-ahead pre.1 loop.invariant, pre.1.inside)
+    omega (arith, end-ahead pre.1 c.loop-p.invariant, pre.1.inside)
 
 pub loop-p-smaller : goal.loop-p-smaller
 loop-p-smaller c =
     let loop = c.loop-p in
     let pre = c.requires in
-    omega (arith, end-ahead pre.1 loop.invariant, pre.1.inside)
+    omega (arith, end-ahead pre.1 c.loop-p.invariant, pre.1.inside)
 
 pub loop-p-preserved : goal.loop-p-preserved
 loop-p-preserved c = unmet-next c.loop-p.invariant (λ e. c.loop-p-test.true (c.number_at.ensures.0 ∙ e))
@@ -33,4 +33,4 @@ pub returns : goal.returns
 returns c =
     let loop = c.loop-p in
     let pre = c.requires in
-    end-found pre.1 loop.invariant (sym c.number_at.ensures.0 ∙ c.loop-p-test.false)
+    end-found pre.1 c.loop-p.invariant (sym c.number_at.ensures.0 ∙ c.loop-p-test.false)

@@ -14,4 +14,4 @@ pub returns : goal.returns
 returns c =
     let height = c.alternative_height in
     let left = c.if-same.false in
-    tells-ne height.result 4294967295 (λ f. (left, λ e. f (height.ensures ∙ e))) (λ w e. w.1 (sym height.ensures ∙ e))
+    tells-ne c.alternative_height.result 4294967295 (λ f. (left, λ e. f (c.alternative_height.ensures ∙ e))) (λ w e. w.1 (sym c.alternative_height.ensures ∙ e))

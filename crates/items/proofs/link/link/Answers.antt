@@ -20,7 +20,7 @@ loop-p-smaller c = omega (arith, c.loop-p-test.true)
 
 pub loop-p-preserved : goal.loop-p-preserved
 loop-p-preserved c =
-    (linking-next c.loop-p.invariant.0 c.resolve.new.0 c.resolve.auto.0 c.resolve.ensures, omega (arith, c.loop-p-test.true))
+    (linking-next c.loop-p.invariant.0 c.resolve.new.table c.resolve.auto.table c.resolve.ensures, omega (arith, c.loop-p-test.true))
 
 pub shape_of-table : goal.shape_of-table
 shape_of-table c = c.loop-p.invariant.0.size

@@ -87,7 +87,7 @@ overflow_add-result c =
     omega (arith, c.requires.fits, c.requires.deep, c.loop-q.invariant.0.read, c.loop-q.invariant.0.wrote, c.loop-q.invariant.1)
 
 pub shape_of-table : goal.shape_of-table
-shape_of-table c = c.item.auto.0 ∙ copy-size c.loop-q.invariant.0
+shape_of-table c = c.item.auto.table ∙ copy-size c.loop-q.invariant.0
 
 pub returns : goal.returns
 returns c =

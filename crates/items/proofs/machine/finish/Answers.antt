@@ -23,11 +23,11 @@ block-next-requires c =
 
 pub bounds-table-r-2 : goal.bounds-table-r-2
 bounds-table-r-2 c =
-    simp length-set (omega (arith, c.block-next.auto.0, c.requires.rep.has.size, c.requires.rep.rules, (finished-items c.requires.act c.requires.fit).1))
+    simp length-set (omega (arith, c.block-next.auto.table, c.requires.rep.has.size, c.requires.rep.rules, (finished-items c.requires.act c.requires.fit).1))
 
 pub returns : goal.returns
 returns c =
     λ a b rep act fit. rep-finished rep fit act c.block-next.ensures
-    (ap (λ (n : ℕ). set (set c.block-next.new.0 (13824 + 2 * c.args.s.rules)
+    (ap (λ (n : ℕ). set (set c.block-next.new.table (13824 + 2 * c.args.s.rules)
     (get_or c.args.table.now (14850 + 3 * c.args.s.base) 0)) n c.args.s.items)
     (let z : 13825 + 2 * c.args.s.rules ≡ suc (13824 + 2 * c.args.s.rules) = omega arith in z)) refl refl refl refl

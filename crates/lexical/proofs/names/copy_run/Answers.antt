@@ -20,14 +20,14 @@ bounds-text-i c = omega arith
 pub shape_of-out-then-not-name_follower : goal.shape_of-out-then-not-name_follower
 shape_of-out-then-not-name_follower c =
     let loop = c.loop-from in
-    loop.invariant.len
+    c.loop-from.invariant.len
 
 pub returns-then-not-name_follower : goal.returns-then-not-name_follower
 returns-then-not-name_follower c =
     let loop-test = c.loop-from-test in
     let loop = c.loop-from in
-    copy-end run _ _ _ _ _ _ _ loop.invariant 0 _ (omega arith) (omega arith)
-    (run-stop _ _ loop-test.true (sym c.name_follower.ensures ∙ c.if-not-name_follower.true))
+    copy-end run _ _ _ _ _ _ _ c.loop-from.invariant 0 _ (omega arith) (omega arith)
+    (run-stop _ _ c.loop-from-test.true (sym c.name_follower.ensures ∙ c.if-not-name_follower.true))
 
 pub offset_bounds-out-j : goal.offset_bounds-out-j
 offset_bounds-out-j c =
@@ -35,14 +35,14 @@ offset_bounds-out-j c =
     let loop = c.loop-from in
     let good = c.well_formed in
     let pre = c.requires in
-    omega (arith, copy-room run _ _ _ _ _ _ _ loop.invariant (pre) loop-test.true, loop.invariant.len, good.1.1.0)
+    omega (arith, copy-room run _ _ _ _ _ _ _ c.loop-from.invariant (pre) c.loop-from-test.true, c.loop-from.invariant.len, c.well_formed.1.1.0)
 
 pub bounds-out-j : goal.bounds-out-j
 bounds-out-j c =
     let loop-test = c.loop-from-test in
     let loop = c.loop-from in
     let pre = c.requires in
-    copy-room run _ _ _ _ _ _ _ loop.invariant (pre) loop-test.true
+    copy-room run _ _ _ _ _ _ _ c.loop-from.invariant (pre) c.loop-from-test.true
 
 pub after-from-requires : goal.after-from-requires
 after-from-requires c = omega arith
@@ -53,7 +53,7 @@ overflow_add-to c =
     let loop = c.loop-from in
     let good = c.well_formed in
     let pre = c.requires in
-    omega (arith, copy-room run _ _ _ _ _ _ _ loop.invariant (pre) loop-test.true, loop.invariant.len, good.1.1.0)
+    omega (arith, copy-room run _ _ _ _ _ _ _ c.loop-from.invariant (pre) c.loop-from-test.true, c.loop-from.invariant.len, c.well_formed.1.1.0)
 
 pub loop-from-smaller : goal.loop-from-smaller
 loop-from-smaller c = omega (arith, c.after-from.ensures)
@@ -64,8 +64,8 @@ loop-from-preserved c =
     let loop = c.loop-from in
     let pre = c.requires in
     rw c.after-from.ensures
-    (copy-on run _ _ _ _ _ _ _ loop.invariant _ _ (omega arith) (omega arith) (copy-room run _ _ _ _ _ _ _ loop.invariant (pre) loop-test.true)
-    (run-char _ _ loop-test.true (sym c.name_follower.ensures ∙ c.if-not-name_follower.false)))
+    (copy-on run _ _ _ _ _ _ _ c.loop-from.invariant _ _ (omega arith) (omega arith) (copy-room run _ _ _ _ _ _ _ c.loop-from.invariant (pre) c.loop-from-test.true)
+    (run-char _ _ c.loop-from-test.true (sym c.name_follower.ensures ∙ c.if-not-name_follower.false)))
 
 pub shape_of-out : goal.shape_of-out
 shape_of-out c = c.loop-from.invariant.len

@@ -17,4 +17,4 @@ unfolding ended
 returns c =
     let is-mark = c.is_mark in
     let if1 = c.if-text-i in
-    rw (at-char _ _ if1.false, sym is-mark.ensures ∙ c.if-is_mark.false) c.name_start.ensures
+    rw (at-char _ _ c.if-text-i.false, sym c.is_mark.ensures ∙ c.if-is_mark.false) c.name_start.ensures

@@ -11,22 +11,22 @@ pub returns-in_default : goal.returns-in_default
 returns-in_default c =
     let name-run = c.name_run in
     let args = c.args in
-    no_name args.text.now args.p.0 (rw c.in_default.is at name-run.ensures)
+    no_name args.text.now args.p.0 (rw c.in_default.is at c.name_run.ensures)
 
 pub head-requires : goal.head-requires
 head-requires c =
     let name-run = c.name_run in
     let pre = c.requires in
-    let v : Named _ _ _ _ _ _ _ = rw c.in-At.is at name-run.ensures in
-    headable _ _ _ _ (pre) _ name-run.auto.1.1.0 _ 0 _ _ v.copied (run_on _ _ v.starts _ _ _ _ _ v.copied)
+    let v : Named _ _ _ _ _ _ _ = rw c.in-At.is at c.name_run.ensures in
+    headable _ _ _ _ (pre) _ c.name_run.auto.out _ 0 _ _ v.copied (run_on _ _ v.starts _ _ _ _ _ v.copied)
 
 pub returns : goal.returns
 returns c =
     let name-run = c.name_run in
     let args = c.args in
     let pre = c.requires in
-    let v : Named _ _ _ _ _ _ _ = rw c.in-At.is at name-run.ensures in
-    counted-token _ _ _ _ (pre) _ name-run.auto.1.1.0 (λ x. read_name (drop args.p.0 args.text.now) ≡ x) 0 _ _ _ _
+    let v : Named _ _ _ _ _ _ _ = rw c.in-At.is at c.name_run.ensures in
+    counted-token _ _ _ _ (pre) _ c.name_run.auto.out (λ x. read_name (drop args.p.0 args.text.now) ≡ x) 0 _ _ _ _
     (recopy (λ x. run (drop args.p.0 args.text.now) ≡ x) (λ x. read_name (drop args.p.0 args.text.now) ≡ x)
     (λ x e. name-same args.text.now args.p.0 v.starts x e) v.copied)
     (run_on args.text.now args.p.0 v.starts _ _ _ _ _ v.copied) c.head.ensures

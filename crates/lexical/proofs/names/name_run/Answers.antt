@@ -14,6 +14,6 @@ returns c =
     let name-start = c.name_start in
     let peek = c.peek in
     record {
-      starts = tested peek.ensures namestart (sym name-start.ensures ∙ c.if-not-name_start.false);
-      copied = copy_run.ensures;
+      starts = tested c.peek.ensures namestart (sym c.name_start.ensures ∙ c.if-not-name_start.false);
+      copied = c.copy_run-run.ensures;
     }

@@ -13,7 +13,7 @@ returns-then-text-n-ne-FULL_STOP c =
     let if1 = c.if-n-i in
     let args = c.args in
     let pre = c.requires in
-    stops-no-dot args.text.now args.p.0 args.q.0 pre.0 pre.1 if1.false c.if-text-n-ne-FULL_STOP.true
+    stops-no-dot args.text.now args.p.0 args.q.0 pre.0 pre.1 c.if-n-i.false c.if-text-n-ne-FULL_STOP.true
 
 pub returns-in_default : goal.returns-in_default
 returns-in_default c =
@@ -22,7 +22,7 @@ returns-in_default c =
     let if1 = c.if-n-i in
     let args = c.args in
     let pre = c.requires in
-    stops-open args.text.now args.p.0 args.q.0 pre.0 pre.1 if1.false if2.false (rw c.in_default.is at skip.ensures)
+    stops-open args.text.now args.p.0 args.q.0 pre.0 pre.1 c.if-n-i.false c.if-text-n-ne-FULL_STOP.false (rw c.in_default.is at c.skip.ensures)
 
 pub returns : goal.returns
 returns c =
@@ -32,5 +32,5 @@ returns c =
     let if1 = c.if-n-i in
     let args = c.args in
     let pre = c.requires in
-    stops_then args.text.now args.p.0 args.q.0 pre.0 pre.1 if1.false if2.false _ c.ended.result
-    (rw w.given.1 at skip.ensures) c.ended.ensures
+    stops_then args.text.now args.p.0 args.q.0 pre.0 pre.1 c.if-n-i.false c.if-text-n-ne-FULL_STOP.false _ c.ended.result
+    (rw c.in-At.is at c.skip.ensures) c.ended.ensures

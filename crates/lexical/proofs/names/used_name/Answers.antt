@@ -12,13 +12,13 @@ pub returns-in_default : goal.returns-in_default
 returns-in_default c =
     let name-run = c.name_run in
     let args = c.args in
-    no-use args.text.now args.p.0 (rw c.in_default.is at name-run.ensures)
+    no-use args.text.now args.p.0 (rw c.in_default.is at c.name_run.ensures)
 
 pub stops-requires : goal.stops-requires
 stops-requires c =
     let name-run = c.name_run in
     let args = c.args in
-    let v : Named _ _ _ _ _ _ _ = rw c.in-At.is at name-run.ensures in
+    let v : Named _ _ _ _ _ _ _ = rw c.in-At.is at c.name_run.ensures in
     (run_on args.text.now args.p.0 v.starts _ _ _ _ _ v.copied, v.copied.onward.within)
 
 pub overflow_sub-m : goal.overflow_sub-m
@@ -31,18 +31,18 @@ head-requires c =
     let name-run = c.name_run in
     let args = c.args in
     let pre = c.requires in
-    let v : Named _ _ _ _ _ _ _ = rw c.in-At.is at name-run.ensures in
-    let h = headable _ _ _ _ (pre) _ name-run.auto.1.1.0 _ 0 _ _ v.copied (run_on args.text.now args.p.0 v.starts _ _ _ _ _ v.copied) in
-    headable _ _ _ _ (pre) _ name-run.auto.1.1.0 (λ x. read-use (drop args.p.0 args.text.now) ≡ x) 0 _ _
-    (use-stop args.text.now args.p.0 _ _ _ _ _ v.starts v.copied stops.result stops.ensures c.if-stops.true h.high name-run.auto.1.1.0)
-    (stop-on args.text.now args.p.0 _ _ _ _ _ v.starts v.copied stops.result stops.ensures c.if-stops.true)
+    let v : Named _ _ _ _ _ _ _ = rw c.in-At.is at c.name_run.ensures in
+    let h = headable _ _ _ _ (pre) _ c.name_run.auto.out _ 0 _ _ v.copied (run_on args.text.now args.p.0 v.starts _ _ _ _ _ v.copied) in
+    headable _ _ _ _ (pre) _ c.name_run.auto.out (λ x. read-use (drop args.p.0 args.text.now) ≡ x) 0 _ _
+    (use-stop args.text.now args.p.0 _ _ _ _ _ v.starts v.copied c.stops.result c.stops.ensures c.if-stops.true h.high c.name_run.auto.out)
+    (stop-on args.text.now args.p.0 _ _ _ _ _ v.starts v.copied c.stops.result c.stops.ensures c.if-stops.true)
 
 pub overflow_sub-result : goal.overflow_sub-result
 overflow_sub-result c =
     let name-run = c.name_run in
     let args = c.args in
     let pre = c.requires in
-    let v : Named _ _ _ _ _ _ _ = rw c.in-At.is at name-run.ensures in
+    let v : Named _ _ _ _ _ _ _ = rw c.in-At.is at c.name_run.ensures in
     let h = run_on args.text.now args.p.0 v.starts _ _ _ _ _ v.copied in
     omega (arith, h, v.copied.cells, v.copied.count, pre.cells)
 
@@ -57,19 +57,19 @@ returns-then-stops c =
     let name-run = c.name_run in
     let args = c.args in
     let pre = c.requires in
-    let v : Named _ _ _ _ _ _ _ = rw c.in-At.is at name-run.ensures in
-    let h = headable _ _ _ _ (pre) _ name-run.auto.1.1.0 _ 0 _ _ v.copied (run_on args.text.now args.p.0 v.starts _ _ _ _ _ v.copied) in
-    counted-token _ _ _ _ (pre) _ name-run.auto.1.1.0 (λ x. read-use (drop args.p.0 args.text.now) ≡ x) 0 _ _ _ _
-    (use-stop args.text.now args.p.0 _ _ _ _ _ v.starts v.copied stops.result stops.ensures
-    c.if-stops.true h.high name-run.auto.1.1.0)
-    (stop-on args.text.now args.p.0 _ _ _ _ _ v.starts v.copied stops.result stops.ensures c.if-stops.true) head.ensures
+    let v : Named _ _ _ _ _ _ _ = rw c.in-At.is at c.name_run.ensures in
+    let h = headable _ _ _ _ (pre) _ c.name_run.auto.out _ 0 _ _ v.copied (run_on args.text.now args.p.0 v.starts _ _ _ _ _ v.copied) in
+    counted-token _ _ _ _ (pre) _ c.name_run.auto.out (λ x. read-use (drop args.p.0 args.text.now) ≡ x) 0 _ _ _ _
+    (use-stop args.text.now args.p.0 _ _ _ _ _ v.starts v.copied c.stops.result c.stops.ensures
+    c.if-stops.true h.high c.name_run.auto.out)
+    (stop-on args.text.now args.p.0 _ _ _ _ _ v.starts v.copied c.stops.result c.stops.ensures c.if-stops.true) c.head.ensures
 
 pub head-requires-2 : goal.head-requires-2
 head-requires-2 c =
     let name-run = c.name_run in
     let pre = c.requires in
-    let v : Named _ _ _ _ _ _ _ = rw c.in-At.is at name-run.ensures in
-    headable _ _ _ _ (pre) _ name-run.auto.1.1.0 _ 0 _ _ v.copied (run_on _ _ v.starts _ _ _ _ _ v.copied)
+    let v : Named _ _ _ _ _ _ _ = rw c.in-At.is at c.name_run.ensures in
+    headable _ _ _ _ (pre) _ c.name_run.auto.out _ 0 _ _ v.copied (run_on _ _ v.starts _ _ _ _ _ v.copied)
 
 pub returns : goal.returns
 returns c =
@@ -77,7 +77,7 @@ returns c =
     let name-run = c.name_run in
     let args = c.args in
     let pre = c.requires in
-    let v : Named _ _ _ _ _ _ _ = rw c.in-At.is at name-run.ensures in
-    counted-token _ _ _ _ (pre) _ name-run.auto.1.1.0 (λ x. read-use (drop args.p.0 args.text.now) ≡ x) 0 _ _ _ _
-    (use-run args.text.now args.p.0 _ _ _ _ _ v.starts v.copied stops.result stops.ensures c.if-stops.false)
+    let v : Named _ _ _ _ _ _ _ = rw c.in-At.is at c.name_run.ensures in
+    counted-token _ _ _ _ (pre) _ c.name_run.auto.out (λ x. read-use (drop args.p.0 args.text.now) ≡ x) 0 _ _ _ _
+    (use-run args.text.now args.p.0 _ _ _ _ _ v.starts v.copied c.stops.result c.stops.ensures c.if-stops.false)
     (run_on args.text.now args.p.0 v.starts _ _ _ _ _ v.copied) c.head-2.ensures

@@ -18,7 +18,7 @@ returns-then-not-digit c =
     let peek = c.peek in
     let args = c.args in
     let pre = c.requires in
-    hex-none args.text.now args.p.0 (pre) (tested (rw c.after-first.ensures at peek.ensures) digit (sym
+    hex-none args.text.now args.p.0 (pre) (tested (rw c.after-first.ensures at c.peek.ensures) digit (sym
     c.digit.ensures ∙ c.if-not-digit.true))
 
 pub digits-requires : goal.digits-requires
@@ -31,4 +31,4 @@ digits-requires c =
 pub returns : goal.returns
 returns c =
     let digit' = c.digit in let peek = c.peek in let args = c.args in let pre = c.requires in hex-some
-    args.text.now args.p.0 (pre) (tested (rw c.after-first.ensures at peek.ensures) digit (sym digit'.ensures ∙ c.if-not-digit.false)) c.digits.result (rw c.after-first.ensures at c.digits.ensures)
+    args.text.now args.p.0 (pre) (tested (rw c.after-first.ensures at c.peek.ensures) digit (sym c.digit.ensures ∙ c.if-not-digit.false)) c.digits.result (rw c.after-first.ensures at c.digits.ensures)

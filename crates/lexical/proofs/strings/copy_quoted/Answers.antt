@@ -23,7 +23,7 @@ after-next-requires c = omega arith
 pub shape_of-out-then-peek-q : goal.shape_of-out-then-peek-q
 shape_of-out-then-peek-q c =
     let loop = c.loop-from in
-    loop.invariant.len
+    c.loop-from.invariant.len
 
 pub returns-then-peek-q : goal.returns-then-peek-q
 returns-then-peek-q c =
@@ -31,8 +31,8 @@ returns-then-peek-q c =
     let loop-test = c.loop-from-test in
     let loop = c.loop-from in
     let args = c.args in
-    rw c.after-next.ensures (copy-end (quoted-by args.q) _ _ _ _ _ _ _ loop.invariant 1 _ (omega arith) (omega arith)
-    (chars-last _ _ _ loop-test.true if1.true (λ e. c.if-peek-q.true ((rw c.after-next.ensures at c.peek.ensures) ∙ e))))
+    rw c.after-next.ensures (copy-end (quoted-by args.q) _ _ _ _ _ _ _ c.loop-from.invariant 1 _ (omega arith) (omega arith)
+    (chars-last _ _ _ c.loop-from-test.true c.if-c-q.true (λ e. c.if-peek-q.true ((rw c.after-next.ensures at c.peek.ensures) ∙ e))))
 
 pub offset_bounds-out-j : goal.offset_bounds-out-j
 offset_bounds-out-j c =
@@ -41,7 +41,7 @@ offset_bounds-out-j c =
     let args = c.args in
     let good = c.well_formed in
     let pre = c.requires in
-    omega (arith, copy-room (quoted-by args.q) _ _ _ _ _ _ _ loop.invariant pre.0 loop-test.true, loop.invariant.len, good.1.1.1.0)
+    omega (arith, copy-room (quoted-by args.q) _ _ _ _ _ _ _ c.loop-from.invariant pre.0 c.loop-from-test.true, c.loop-from.invariant.len, c.well_formed.1.1.1.0)
 
 pub bounds-out-j : goal.bounds-out-j
 bounds-out-j c =
@@ -49,7 +49,7 @@ bounds-out-j c =
     let loop = c.loop-from in
     let args = c.args in
     let pre = c.requires in
-    copy-room (quoted-by args.q) _ _ _ _ _ _ _ loop.invariant pre.0 loop-test.true
+    copy-room (quoted-by args.q) _ _ _ _ _ _ _ c.loop-from.invariant pre.0 c.loop-from-test.true
 
 pub after-from-requires : goal.after-from-requires
 after-from-requires c = omega (arith, c.after-next.ensures)
@@ -61,7 +61,7 @@ overflow_add-to c =
     let args = c.args in
     let good = c.well_formed in
     let pre = c.requires in
-    omega (arith, copy-room (quoted-by args.q) _ _ _ _ _ _ _ loop.invariant pre.0 loop-test.true, loop.invariant.len, good.1.1.1.0)
+    omega (arith, copy-room (quoted-by args.q) _ _ _ _ _ _ _ c.loop-from.invariant pre.0 c.loop-from-test.true, c.loop-from.invariant.len, c.well_formed.1.1.1.0)
 
 pub loop-from-smaller-then-c-q : goal.loop-from-smaller-then-c-q
 loop-from-smaller-then-c-q c =
@@ -74,17 +74,17 @@ loop-from-preserved-then-c-q c =
     let loop = c.loop-from in
     let args = c.args in
     let pre = c.requires in
-    rw (twice _ c.after-next.ensures c.after-from.ensures) (copy-on (quoted-by args.q) _ _ _ _ _ _ _ loop.invariant args.q _
+    rw (twice _ c.after-next.ensures c.after-from.ensures) (copy-on (quoted-by args.q) _ _ _ _ _ _ _ c.loop-from.invariant args.q _
     (second-in _ _ _ (sym (rw c.after-next.ensures at c.peek.ensures) ∙ c.if-peek-q.false)
     (quote-small _ pre.1)) (omega arith)
-    (copy-room (quoted-by args.q) _ _ _ _ _ _ _ loop.invariant pre.0 loop-test.true)
-    (chars-quote _ _ _ loop-test.true if1.true (sym (rw c.after-next.ensures at
+    (copy-room (quoted-by args.q) _ _ _ _ _ _ _ c.loop-from.invariant pre.0 c.loop-from-test.true)
+    (chars-quote _ _ _ c.loop-from-test.true c.if-c-q.true (sym (rw c.after-next.ensures at
     c.peek.ensures) ∙ c.if-peek-q.false) (quote-small _ pre.1)))
 
 pub shape_of-out-then-not-plain : goal.shape_of-out-then-not-plain
 shape_of-out-then-not-plain c =
     let loop = c.loop-from in
-    loop.invariant.len
+    c.loop-from.invariant.len
 
 pub returns-then-not-plain : goal.returns-then-not-plain
 returns-then-not-plain c =
@@ -92,8 +92,8 @@ returns-then-not-plain c =
     let loop-test = c.loop-from-test in
     let loop = c.loop-from in
     let args = c.args in
-    copy-no (quoted-by args.q) _ _ _ _ _ _ _ loop.invariant
-    (chars-no _ _ _ loop-test.true if1.false (sym c.plain.ensures ∙ c.if-not-plain.true))
+    copy-no (quoted-by args.q) _ _ _ _ _ _ _ c.loop-from.invariant
+    (chars-no _ _ _ c.loop-from-test.true c.if-c-q.false (sym c.plain.ensures ∙ c.if-not-plain.true))
 
 pub offset_bounds-out-j-else-c-q : goal.offset_bounds-out-j-else-c-q
 offset_bounds-out-j-else-c-q c =
@@ -102,7 +102,7 @@ offset_bounds-out-j-else-c-q c =
     let args = c.args in
     let good = c.well_formed in
     let pre = c.requires in
-    omega (arith, copy-room (quoted-by args.q) _ _ _ _ _ _ _ loop.invariant pre.0 loop-test.true, loop.invariant.len, good.1.1.1.0)
+    omega (arith, copy-room (quoted-by args.q) _ _ _ _ _ _ _ c.loop-from.invariant pre.0 c.loop-from-test.true, c.loop-from.invariant.len, c.well_formed.1.1.1.0)
 
 pub bounds-out-j-else-c-q : goal.bounds-out-j-else-c-q
 bounds-out-j-else-c-q c =
@@ -110,7 +110,7 @@ bounds-out-j-else-c-q c =
     let loop = c.loop-from in
     let args = c.args in
     let pre = c.requires in
-    copy-room (quoted-by args.q) _ _ _ _ _ _ _ loop.invariant pre.0 loop-test.true
+    copy-room (quoted-by args.q) _ _ _ _ _ _ _ c.loop-from.invariant pre.0 c.loop-from-test.true
 
 pub overflow_add-to-else-c-q : goal.overflow_add-to-else-c-q
 overflow_add-to-else-c-q c =
@@ -119,7 +119,7 @@ overflow_add-to-else-c-q c =
     let args = c.args in
     let good = c.well_formed in
     let pre = c.requires in
-    omega (arith, copy-room (quoted-by args.q) _ _ _ _ _ _ _ loop.invariant pre.0 loop-test.true, loop.invariant.len, good.1.1.1.0)
+    omega (arith, copy-room (quoted-by args.q) _ _ _ _ _ _ _ c.loop-from.invariant pre.0 c.loop-from-test.true, c.loop-from.invariant.len, c.well_formed.1.1.1.0)
 
 pub loop-from-smaller : goal.loop-from-smaller
 loop-from-smaller c = omega (arith, c.after-next.ensures)
@@ -131,9 +131,9 @@ loop-from-preserved c =
     let loop = c.loop-from in
     let args = c.args in
     let pre = c.requires in
-    rw c.after-next.ensures (copy-on (quoted-by args.q) _ _ _ _ _ _ _ loop.invariant _ _ (omega arith) (omega arith)
-    (copy-room (quoted-by args.q) _ _ _ _ _ _ _ loop.invariant pre.0 loop-test.true)
-    (chars-plain _ _ _ loop-test.true if1.false (sym c.plain.ensures ∙ c.if-not-plain.false)))
+    rw c.after-next.ensures (copy-on (quoted-by args.q) _ _ _ _ _ _ _ c.loop-from.invariant _ _ (omega arith) (omega arith)
+    (copy-room (quoted-by args.q) _ _ _ _ _ _ _ c.loop-from.invariant pre.0 c.loop-from-test.true)
+    (chars-plain _ _ _ c.loop-from-test.true c.if-c-q.false (sym c.plain.ensures ∙ c.if-not-plain.false)))
 
 pub shape_of-out : goal.shape_of-out
 shape_of-out c = c.loop-from.invariant.len

@@ -10,15 +10,15 @@ pub returns-then-not-quote : goal.returns-then-not-quote
 returns-then-not-quote c =
     let peek = c.peek-q in
     let args = c.args in
-    string-none args.text.now args.p.0 (tested peek.ensures quote (sym c.quote.ensures ∙ c.if-not-quote.true))
+    string-none args.text.now args.p.0 (tested c.peek-q.ensures quote (sym c.quote.ensures ∙ c.if-not-quote.true))
 
 pub copy_quoted-requires : goal.copy_quoted-requires
 copy_quoted-requires c =
     let quote = c.quote in
     let peek = c.peek-q in
     let pre = c.requires in (
-      rw c.after.ensures (string-space _ _ _ peek.ensures (sym quote.ensures ∙ c.if-not-quote.false) _ _ (pre)),
-      sym quote.ensures ∙ c.if-not-quote.false,
+      rw c.after.ensures (string-space _ _ _ c.peek-q.ensures (sym c.quote.ensures ∙ c.if-not-quote.false) _ _ (pre)),
+      sym c.quote.ensures ∙ c.if-not-quote.false,
     )
 
 pub returns-in_default : goal.returns-in_default
@@ -28,8 +28,8 @@ returns-in_default c =
     let quote = c.quote in
     let peek = c.peek-q in
     let args = c.args in
-    string-bad args.text.now args.p.0 _ peek.ensures (sym quote.ensures ∙ if1.false)
-    (rw (c.after.ensures, c.in_default.is) at copy-quoted.ensures)
+    string-bad args.text.now args.p.0 _ c.peek-q.ensures (sym c.quote.ensures ∙ c.if-not-quote.false)
+    (rw (c.after.ensures, c.in_default.is) at c.copy_quoted.ensures)
 
 pub returns-then-b-at : goal.returns-then-b-at
 returns-then-b-at c =
@@ -39,8 +39,8 @@ returns-then-b-at c =
     let quote = c.quote in
     let peek = c.peek-q in
     let args = c.args in
-    string-empty args.text.now args.p.0 _ peek.ensures (sym quote.ensures ∙ if1.false) _ _ _ _ _
-    (rw (c.after.ensures, u.given.1) at copy-quoted.ensures) c.if-b-at.true
+    string-empty args.text.now args.p.0 _ c.peek-q.ensures (sym c.quote.ensures ∙ c.if-not-quote.false) _ _ _ _ _
+    (rw (c.after.ensures, c.in-At.is) at c.copy_quoted.ensures) c.if-b-at.true
 
 pub returns : goal.returns
 returns c =
@@ -50,5 +50,5 @@ returns c =
     let quote = c.quote in
     let peek = c.peek-q in
     let args = c.args in
-    string-read args.text.now args.p.0 _ peek.ensures (sym quote.ensures ∙ if1.false) _ _ _ _ _
-    (rw (c.after.ensures, u.given.1) at copy-quoted.ensures) c.if-b-at.false
+    string-read args.text.now args.p.0 _ c.peek-q.ensures (sym c.quote.ensures ∙ c.if-not-quote.false) _ _ _ _ _
+    (rw (c.after.ensures, c.in-At.is) at c.copy_quoted.ensures) c.if-b-at.false

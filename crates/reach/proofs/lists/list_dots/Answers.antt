@@ -10,6 +10,6 @@ put_keys-requires c = (c.requires.keying, omega (arith, c.requires.keying.shape.
 pub returns : goal.returns
 returns c = members c.list_uses.ensures (omega (
   arith,
-  c.list_uses.auto.1.0,
+  c.list_uses.auto.uses,
   c.requires.room,
 )) c.put_keys.ensures

@@ -11,7 +11,7 @@ pub returns-in_default : goal.returns-in_default
 returns-in_default c =
     let spaced = c.spaced in
     let args = c.args in
-    closed-unspaced (one_of args.first args.second) args.text.now args.word _ c.in_default.is spaced.ensures
+    closed-unspaced (one_of args.first args.second) args.text.now args.word _ c.in_default.is c.spaced.ensures
 
 pub returns-then-not-one_of : goal.returns-then-not-one_of
 returns-then-not-one_of c =
@@ -19,8 +19,8 @@ returns-then-not-one_of c =
     let w = c.w-1 in
     let spaced = c.spaced in
     let args = c.args in
-    closed-no (one_of args.first args.second) args.text.now args.word _ _ _ w.given.1 spaced.ensures
-    (tested peek.ensures (one_of args.first args.second) (sym c.one_of.ensures ∙ c.if-not-one_of.true))
+    closed-no (one_of args.first args.second) args.text.now args.word _ _ _ c.in-At.is c.spaced.ensures
+    (tested c.peek.ensures (one_of args.first args.second) (sym c.one_of.ensures ∙ c.if-not-one_of.true))
 
 pub after-requires : goal.after-requires
 after-requires c =
@@ -29,9 +29,9 @@ after-requires c =
     let args = c.args in
     let good = c.well_formed in
     let pre = c.requires in
-    let h = in-text args.text.now w.given.0.0.0 (one_of args.first args.second) (one-of-end _ _ pre.1.0 pre.1.1)
-    (tested peek.ensures (one_of args.first args.second) (sym c.one_of.ensures ∙ c.if-not-one_of.false)) in
-    omega (arith, h, good.0)
+    let h = in-text args.text.now c.in-At.w.0 (one_of args.first args.second) (one-of-end _ _ pre.1.0 pre.1.1)
+    (tested c.peek.ensures (one_of args.first args.second) (sym c.one_of.ensures ∙ c.if-not-one_of.false)) in
+    omega (arith, h, c.well_formed.0)
 
 pub skip-requires : goal.skip-requires
 skip-requires c =
@@ -39,8 +39,8 @@ skip-requires c =
     let w = c.w-1 in
     let args = c.args in
     let pre = c.requires in
-    let h = in-text args.text.now w.given.0.0.0 (one_of args.first args.second) (one-of-end _ _ pre.1.0 pre.1.1)
-    (tested peek.ensures (one_of args.first args.second) (sym c.one_of.ensures ∙ c.if-not-one_of.false)) in
+    let h = in-text args.text.now c.in-At.w.0 (one_of args.first args.second) (one-of-end _ _ pre.1.0 pre.1.1)
+    (tested c.peek.ensures (one_of args.first args.second) (sym c.one_of.ensures ∙ c.if-not-one_of.false)) in
     omega (arith, h, c.after.ensures)
 
 pub returns-in_default-skip : goal.returns-in_default-skip
@@ -52,9 +52,9 @@ returns-in_default-skip c =
     let w = c.w-1 in
     let spaced = c.spaced in
     let args = c.args in
-    closed-bad (one_of args.first args.second) args.text.now args.word _ _ _ w.given.1 spaced.ensures
-    (tested peek.ensures (one_of args.first args.second) (sym one-of.ensures ∙ if1.false))
-    (rw (c.after.ensures, c.in_default-skip.is) at skip.ensures)
+    closed-bad (one_of args.first args.second) args.text.now args.word _ _ _ c.in-At.is c.spaced.ensures
+    (tested c.peek.ensures (one_of args.first args.second) (sym c.one_of.ensures ∙ c.if-not-one_of.false))
+    (rw (c.after.ensures, c.in_default-skip.is) at c.skip.ensures)
 
 pub returns : goal.returns
 returns c =
@@ -65,6 +65,6 @@ returns c =
     let w = c.w-1 in
     let spaced = c.spaced in
     let args = c.args in
-    closed-got (one_of args.first args.second) args.text.now args.word _ _ _ w.given.1 spaced.ensures
-    (tested peek.ensures (one_of args.first args.second) (sym one-of.ensures ∙ if1.false)) _
-    (rw (c.after.ensures, c.in-At-skip.is) at skip.ensures)
+    closed-got (one_of args.first args.second) args.text.now args.word _ _ _ c.in-At.is c.spaced.ensures
+    (tested c.peek.ensures (one_of args.first args.second) (sym c.one_of.ensures ∙ c.if-not-one_of.false)) _
+    (rw (c.after.ensures, c.in-At-skip.is) at c.skip.ensures)

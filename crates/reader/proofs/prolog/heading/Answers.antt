@@ -12,14 +12,14 @@ pub returns-in_default : goal.returns-in_default
 returns-in_default c =
     let word = c.word in
     let args = c.args in
-    heading-no-ixml args.text.now args.p.0 (rw c.in_default.is at word.ensures)
+    heading-no-ixml args.text.now args.p.0 (rw c.in_default.is at c.word.ensures)
 
 pub required-requires : goal.required-requires
 required-requires c =
     let word = c.word in
     let args = c.args in
     let a : Passed (λ x. read_word (chars "ixml") (drop args.p.0 args.text.now) ≡ x) args.text.now args.p.0
-    c.in-At.u.0 = rw c.in-At.is at word.ensures in
+    c.in-At.u.0 = rw c.in-At.is at c.word.ensures in
     a.onward.within
 
 pub returns-in_default-required : goal.returns-in_default-required
@@ -28,9 +28,9 @@ returns-in_default-required c =
     let u = c.u-1 in
     let word = c.word in
     let args = c.args in
-    let a : Passed (λ x. read_word (chars "ixml") (drop args.p.0 args.text.now) ≡ x) args.text.now args.p.0 u.given.0.0.0 =
-    rw u.given.1 at word.ensures in
-    heading-no-space args.text.now args.p.0 u.given.0.0.0 a (rw c.in_default-required.is at required.ensures)
+    let a : Passed (λ x. read_word (chars "ixml") (drop args.p.0 args.text.now) ≡ x) args.text.now args.p.0 c.in-At.u.0 =
+    rw c.in-At.is at c.word.ensures in
+    heading-no-space args.text.now args.p.0 c.in-At.u.0 a (rw c.in_default-required.is at c.required.ensures)
 
 pub word-requires-2 : goal.word-requires-2
 word-requires-2 c =
@@ -38,8 +38,8 @@ word-requires-2 c =
     let required = c.required in
     let u = c.u-1 in
     let args = c.args in
-    let b : Passed (λ x. spacing.required (drop u.given.0.0.0 args.text.now) ≡ x) args.text.now u.given.0.0.0
-    v.given.0.0.0 = rw v.given.1 at required.ensures in
+    let b : Passed (λ x. spacing.required (drop c.in-At.u.0 args.text.now) ≡ x) args.text.now c.in-At.u.0
+    c.in-At-required.v.0 = rw c.in-At-required.is at c.required.ensures in
     b.onward.within
 
 pub returns : goal.returns
@@ -49,8 +49,8 @@ returns c =
     let u = c.u-1 in
     let word = c.word in
     let args = c.args in
-    let a : Passed (λ x. read_word (chars "ixml") (drop args.p.0 args.text.now) ≡ x) args.text.now args.p.0 u.given.0.0.0 =
-    rw u.given.1 at word.ensures in
-    let b : Passed (λ x. spacing.required (drop u.given.0.0.0 args.text.now) ≡ x) args.text.now u.given.0.0.0
-    v.given.0.0.0 = rw v.given.1 at required.ensures in
-    heading-word args.text.now args.p.0 u.given.0.0.0 a v.given.0.0.0 b c.word-2.result c.word-2.ensures
+    let a : Passed (λ x. read_word (chars "ixml") (drop args.p.0 args.text.now) ≡ x) args.text.now args.p.0 c.in-At.u.0 =
+    rw c.in-At.is at c.word.ensures in
+    let b : Passed (λ x. spacing.required (drop c.in-At.u.0 args.text.now) ≡ x) args.text.now c.in-At.u.0
+    c.in-At-required.v.0 = rw c.in-At-required.is at c.required.ensures in
+    heading-word args.text.now args.p.0 c.in-At.u.0 a c.in-At-required.v.0 b c.word-2.result c.word-2.ensures

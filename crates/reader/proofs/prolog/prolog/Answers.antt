@@ -12,7 +12,7 @@ returns-in_default c =
     let heading = c.heading in
     let args = c.args in
     let pre = c.requires in
-    prolog-none args.text.now args.p.0 args.out.now args.at.0 pre.place (rw c.in_default.is at heading.ensures)
+    prolog-none args.text.now args.p.0 args.out.now args.at.0 pre.place (rw c.in_default.is at c.heading.ensures)
 
 pub version-requires : goal.version-requires
 version-requires c =
@@ -20,9 +20,9 @@ version-requires c =
     let heading = c.heading in
     let args = c.args in
     let pre = c.requires in
-    let a : Passed (λ x. parser.heading (drop args.p.0 args.text.now) ≡ x) args.text.now args.p.0 u.given.0.0.0 = rw
-    u.given.1 at heading.ensures in
-    room-on args.text.now args.p.0 u.given.0.0.0 args.out.now args.at.0 (pre) a.onward
+    let a : Passed (λ x. parser.heading (drop args.p.0 args.text.now) ≡ x) args.text.now args.p.0 c.in-At.u.0 = rw
+    c.in-At.is at c.heading.ensures in
+    room-on args.text.now args.p.0 c.in-At.u.0 args.out.now args.at.0 (pre) a.onward
 
 pub returns : goal.returns
 returns c =
@@ -30,7 +30,7 @@ returns c =
     let u = c.u-1 in
     let heading = c.heading in
     let args = c.args in
-    let a : Passed (λ x. parser.heading (drop args.p.0 args.text.now) ≡ x) args.text.now args.p.0 u.given.0.0.0 = rw
-    u.given.1 at heading.ensures in
-    prolog-some args.text.now args.p.0 u.given.0.0.0 a args.out.now args.at.0 version.result version.new.1.1.0
-    version.ensures
+    let a : Passed (λ x. parser.heading (drop args.p.0 args.text.now) ≡ x) args.text.now args.p.0 c.in-At.u.0 = rw
+    c.in-At.is at c.heading.ensures in
+    prolog-some args.text.now args.p.0 c.in-At.u.0 a args.out.now args.at.0 c.version.result c.version.new.out
+    c.version.ensures

@@ -20,7 +20,7 @@ returns-then-peek-w c =
     let loop-test = c.loop-k-test in
     let loop = c.loop-k in
     let args = c.args in
-    spelled-no args.w.now args.text.now args.p.0 loop.at.0 loop.k loop.invariant loop-test.true _ peek.ensures c.if-peek-w.true
+    spelled-no args.w.now args.text.now args.p.0 c.loop-k.at.0 c.loop-k.k c.loop-k.invariant c.loop-k-test.true _ c.peek.ensures c.if-peek-w.true
 
 pub after-at-requires : goal.after-at-requires
 after-at-requires c =
@@ -29,12 +29,12 @@ after-at-requires c =
     let loop = c.loop-k in
     let args = c.args in
     let good = c.well_formed in
-    let l : get_or args.w.now loop.k 0 < 256 = omega (arith, c.type_inv.w loop.k) in
+    let l : get_or args.w.now c.loop-k.k 0 < 256 = omega (arith, c.type_inv.w c.loop-k.k) in
     omega (
       arith,
-      spelled-in args.w.now args.text.now args.p.0 loop.at.0 loop.k loop.invariant loop-test.true _ peek.ensures
+      spelled-in args.w.now args.text.now args.p.0 c.loop-k.at.0 c.loop-k.k c.loop-k.invariant c.loop-k-test.true _ c.peek.ensures
           c.if-peek-w.false l,
-      good.0,
+      c.well_formed.0,
     )
 
 pub overflow_add-k : goal.overflow_add-k
@@ -49,12 +49,12 @@ loop-k-preserved c =
     let loop-test = c.loop-k-test in
     let loop = c.loop-k in
     let args = c.args in
-    let l : get_or args.w.now loop.k 0 < 256 = omega (arith, c.type_inv.w loop.k) in
+    let l : get_or args.w.now c.loop-k.k 0 < 256 = omega (arith, c.type_inv.w c.loop-k.k) in
     rw c.after-at.ensures
-    (spelled-on args.w.now args.text.now args.p.0 loop.at.0 loop.k loop.invariant loop-test.true _ peek.ensures c.if-peek-w.false l)
+    (spelled-on args.w.now args.text.now args.p.0 c.loop-k.at.0 c.loop-k.k c.loop-k.invariant c.loop-k-test.true _ c.peek.ensures c.if-peek-w.false l)
 
 pub returns : goal.returns
 returns c =
     let loop = c.loop-k in
     let args = c.args in
-    spelled-end args.w.now args.text.now args.p.0 loop.at.0 loop.k loop.invariant c.loop-k-test.false
+    spelled-end args.w.now args.text.now args.p.0 c.loop-k.at.0 c.loop-k.k c.loop-k.invariant c.loop-k-test.false

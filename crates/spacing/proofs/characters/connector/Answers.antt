@@ -19,4 +19,4 @@ pub returns : goal.returns
 returns c =
     let if2 = c.if-c-eq-FULL_STOP in
     let if1 = c.if-c-eq-HYPHEN in
-    rw (ne_eqb _ _ if1.false, ne_eqb _ _ if2.false, ne_eqb _ _ c.if-c-eq-MIDDLE_DOT.false, ne_eqb _ _ c.if-c-eq-UNDERTIE.false) (sym (or-false _))
+    rw (ne_eqb _ _ c.if-c-eq-HYPHEN.false, ne_eqb _ _ c.if-c-eq-FULL_STOP.false, ne_eqb _ _ c.if-c-eq-MIDDLE_DOT.false, ne_eqb _ _ c.if-c-eq-UNDERTIE.false) (sym (or-false _))

@@ -17,4 +17,4 @@ returns c =
     let between2 = c.between-2 in
     let if1 = c.if-between in
     let between = c.between in
-    rw (sym between.ensures ∙ if1.false, sym between2.ensures ∙ c.if-between-2.false) c.between-3.ensures
+    rw (sym c.between.ensures ∙ c.if-between.false, sym c.between-2.ensures ∙ c.if-between-2.false) c.between-3.ensures

@@ -24,8 +24,8 @@ returns-then-c-lt-PAST_ASCII c =
     let if2 = c.if-name_start in
     let name-start = c.name_start in
     rw (
-      sym name-start.ensures ∙ if2.false,
-      sym connector.ensures ∙ if3.false,
+      sym c.name_start.ensures ∙ c.if-name_start.false,
+      sym c.connector.ensures ∙ c.if-connector.false,
       no_digit _ c.if-c-lt-PAST_ASCII.true (sym c.between.ensures ∙ c.if-between.false),
       no-mark _ c.if-c-lt-PAST_ASCII.true,
     )
@@ -37,7 +37,7 @@ returns-then-in_class c =
     let connector = c.connector in
     let if2 = c.if-name_start in
     let name-start = c.name_start in
-    rw (sym name-start.ensures ∙ if2.false, sym connector.ensures ∙ if3.false, is-nd _ c.in_class.ensures ∙ c.if-in_class.true)
+    rw (sym c.name_start.ensures ∙ c.if-name_start.false, sym c.connector.ensures ∙ c.if-connector.false, is-nd _ c.in_class.ensures ∙ c.if-in_class.true)
 
 pub returns : goal.returns
 unfolding namefollower
@@ -48,8 +48,8 @@ returns c =
     let if2 = c.if-name_start in
     let name-start = c.name_start in
     rw (
-      sym name-start.ensures ∙ if2.false,
-      sym connector.ensures ∙ if3.false,
-      is-nd _ in-class.ensures ∙ c.if-in_class.false,
+      sym c.name_start.ensures ∙ c.if-name_start.false,
+      sym c.connector.ensures ∙ c.if-connector.false,
+      is-nd _ c.in_class.ensures ∙ c.if-in_class.false,
       is-mn _ c.in_class-2.ensures,
     )

@@ -29,4 +29,4 @@ unfolding whitespace
 returns c =
     let if3 = c.if-in_class in
     let in-class = c.in_class in
-    rw (is-zs _ in-class.ensures ∙ if3.false, ne_eqb _ _ c.if-c-eq-TAB.false, ne_eqb _ _ c.if-c-eq-LINE_FEED.false)
+    rw (is-zs _ c.in_class.ensures ∙ c.if-in_class.false, ne_eqb _ _ c.if-c-eq-TAB.false, ne_eqb _ _ c.if-c-eq-LINE_FEED.false)
