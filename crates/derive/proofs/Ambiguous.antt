@@ -87,7 +87,7 @@ module _ (g : Grammar) (r : Text) where
       let one = bounded-one g r n.0 (omega arith) a.derives in
       finds (else_at k s ss i j e es) i (suc j - i) m (forward g r a.derives) (omega arith)
       (both-and (can_one g r k s i m) (if_same (eqb m e) (elsewhere (can_one g r k) ss m j es) (can g r k ss m j)) one
-      (same_if m e (elsewhere (can_one g r k) ss m j es) (can g r k ss m j) (λ q. elsewhere-complete es n.1 l w (λ p. f (λ ι. q ι ∷ p ι))) (λ _. way-bounded n.1 l w)))
+      (same_if m e (elsewhere (can_one g r k) ss m j es) (can g r k ss m j) (λ q. elsewhere-complete {ss = ss} es n.1 l w (λ p. f (λ ι. q ι ∷ p ι))) (λ _. way-bounded n.1 l w)))
 
   -- at one node
   other-sound : {s : Symbol} {i j a : ℕ} {es : List ℕ} → T (has_other g r s i j a es) → OtherWay g r s i j a es
@@ -141,6 +141,7 @@ module _ (g : Grammar) (r : Text) where
       let y = ambiguous_in g r c (alternative g s a) i in
       let z = ambiguous_in g r t ss m in
       or_right (has_other g r s i m a (ends c)) (y || z) (or_right y z (ambiguous-complete d n.1 q w))
+  ambiguous-complete (d-end {i = i}) n q x16 = elim x16 [ ]
 
   -- for any derivation of the record
   pub ambiguous-is : {t : Row} → Derivation g r t → T (ambiguous_of g r t) ↔ AnotherWay g r t (root g ∷ []) 0 (length r)

@@ -13,7 +13,7 @@ use Rattle.derive.specs.Derive.{Row, Row-discrete, leaf, node, alternative, Deri
 use Rattle.derive.specs.Chosen.{ends, Reading, Second}
 use Rattle.derive.specs.Another.{AnotherWay, aw-skip, aw-here, aw-inside, aw-later}
 use Rattle.derive.proofs.Unique.{same_row}
-use Rattle.derive.proofs.Rows.{single-ends}
+use Rattle.derive.proofs.Rows.{single-ends, end_row}
 use Rattle.derive.proofs.Heights.{way-row, row-way}
 use Rattle.derive.proofs.Chosen.{chosen-derives}
 
@@ -36,10 +36,11 @@ module _ (g : Grammar) (r : Text) where
       }
   another (d-node {t = t} {a = a} {m = m} h k d) (aw-inside w) = let u = another k w in record { row = node a m u.row t; derives = d-node h u.derives d; new = λ e. u.new (cc) }
   another (d-node {c = c} {a = a} {m = m} h k d) (aw-later w) = let u = another d w in record { row = node a m c u.row; derives = d-node h k u.derives; new = λ e. u.new (cc) }
+  another (d-end {i = i}) x6 = elim x6 [ ]
 
   -- two derivations that end their trees at the same places differ in the way at some node
   pub differ : {t t' : Row} {ss : List Symbol} {i j : ℕ} → Derives g r t ss i j → Derives g r t' ss i j → ends t' ≡ ends t → (t' ≡ t → ⊥) → AnotherWay g r t ss i j
-  differ d-end d-end e f = absurd (f refl)
+  differ d-end d e f = absurd (f (end_row g r d))
   differ (d-leaf {x} {t = t} {i = i} l d) (d-leaf {t = t'} l' d') e f = let q : ends t' ≡ ends t = cc in aw-skip (differ d d' q (λ p. f (ap (leaf (i + width x)) p)))
   differ (d-leaf l d) (d-node h' k' d') e f = absurd (omega arith)
   differ (d-node h k d) (d-leaf l d') e f = absurd (omega arith)

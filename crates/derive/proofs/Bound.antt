@@ -75,6 +75,7 @@ module _ {A : Type 0} where
   pub count_same : (p q : A → Bool) → ((x : A) → T (p x) → T (q x)) → (xs : List A) → count q xs ≤ count p xs → {x : A} → In x xs → T (q x) → T (p x)
   count_same p q h (y ∷ ys) l (in_head e) t = subst (λ (z : A). T (p z)) (sym e) (num-same (p y) (q y) (omega (arith, count-mono p q h ys)) (subst (λ (z : A). T (q z)) e t))
   count_same p q h (y ∷ ys) l (in_Tail m) t = count_same p q h ys (omega (arith, num-mono (p y) (q y) (h y))) m t
+  count_same p q h [] l x5 t = elim x5 [ ]
 
 pub in-ending : (i j n : ℕ) → i ≤ n → In (i, j) (ending_at j n)
 in-ending i j zero h = let e : i ≡ 0 = omega arith in in_head (λ ι. (e ι, j))

@@ -33,6 +33,7 @@ module _ {A : Type 0} where
   pub any-in : (f : A → Bool) (xs : List A) {x : A} → In x xs → T (f x) → T (any f xs)
   any-in f (y ∷ ys) (in_head e) t = or_left (f y) (any f ys) (subst (λ (z : A). T (f z)) e t)
   any-in f (y ∷ ys) (in_Tail m) t = or_right (f y) (any f ys) (any-in f ys m t)
+  any-in f [] x4 t = elim x4 [ ]
 
   -- an element that passes
   pub record Passing (f : A → Bool) (xs : List A) : Type 0 where
@@ -61,6 +62,7 @@ module _ {A : Type 0} where
   numbered : (xs : List A) (d : A) {x : A} → In x xs → Numbered xs d x
   numbered (y ∷ ys) d (in_head e) = record { a = 0; below = omega arith; is = sym e }
   numbered (y ∷ ys) d (in_Tail m) = let w = numbered ys d m in record { a = suc w.a; below = omega (arith, w.below); is = w.is }
+  numbered [] d x3 = elim x3 [ ]
 
   pub all_append : (f : A → Bool) (xs ys : List A) → T (all f xs) → T (all f ys) → T (all f (xs ++ ys))
   all_append f [] ys h k = k

@@ -45,6 +45,10 @@ module _ (g : Grammar) (r : Text) where
   split (d-leaf {x} {t = t} {i = i} l d) = record { place = i + width x; tree = leaf (i + width x) end; others = t; one = d-leaf l d-end; rest = d; whole = refl; places = refl }
   split (d-node {c = c} {t = t} {a = a} {m = m} h k d) = record { place = m; tree = node a m c end; others = t; one = d-node h k d-end; rest = d; whole = refl; places = refl }
 
+  -- no symbols have one row alone
+  pub end_row : {t : Row} {i j : ℕ} → Derives g r t [] i j → t ≡ end
+  end_row d-end = refl
+
   pub single-ends : {t : Row} {s : Symbol} {i j : ℕ} → Derives g r t (s ∷ []) i j → ends t ≡ j ∷ []
   single-ends (d-leaf l d-end) = refl
   single-ends (d-node h c d-end) = refl

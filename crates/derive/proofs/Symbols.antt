@@ -43,6 +43,7 @@ module _ {A B : Type 0} where
   pub in-concat : (f : A → List B) (xs : List A) {x : A} {y : B} → In x xs → In y (f x) → In y (concat_map f xs)
   in-concat f (x ∷ xs) {y = y} (in_head e) h = in_left (concat_map f xs) (subst (λ (z : A). In y (f z)) e h)
   in-concat f (x ∷ xs) (in_Tail m) h = in_right (f x) (in-concat f xs m h)
+  in-concat f [] {y = y} x4 h = elim x4 [ ]
 
   -- where an element of the joined lists comes from
   record From (f : A → List B) (xs : List A) (y : B) : Type 0 where
@@ -142,6 +143,7 @@ module _ (g : Grammar) where
   kept-get : {s : Symbol} (ss : List Symbol) → Kept ss → In s ss → InsideAll (alts g s)
   kept-get (x ∷ ss) h (in_head e) = subst (λ (z : Symbol). InsideAll (alts g z)) (sym e) h.0
   kept-get (x ∷ ss) h (in_Tail m) = kept-get ss h.1 m
+  kept-get {s = s} [] h x'' = elim x'' [ ]
 
   member : {s w : Symbol} → In w (written g) → In s (family w) → In s (symbols_of g)
   member h k = in_Tail (in-concat family (written g) h k)
@@ -229,6 +231,7 @@ module _ (g : Grammar) where
   pub inside-in : {s : Symbol} (ss : List Symbol) → Inside ss → In s ss → In s (symbols_of g)
   inside-in {s} (x ∷ ss) h (in_head e) = subst (λ (z : Symbol). In z (symbols_of g)) (sym e) h.0
   inside-in (x ∷ ss) h (in_Tail m) = inside-in ss h.1 m
+  inside-in {s = s} [] h x'' = elim x'' [ ]
 
   pub in-inside : (ss : List Symbol) → ((s : Symbol) → In s ss → In s (symbols_of g)) → Inside ss
   in-inside [] h = tt

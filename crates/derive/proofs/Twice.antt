@@ -13,7 +13,7 @@ use Rattle.derive.specs.Derive.{Row, end, leaf, node, alternative, Derives, d-en
 use Rattle.derive.specs.Chosen.{ends}
 use Rattle.derive.specs.Another.{AnotherWay, aw-skip, aw-here, aw-inside, aw-later}
 use Rattle.derive.specs.Pick.{beside}
-use Rattle.derive.proofs.Rows.{join, ends-beside, single-ends}
+use Rattle.derive.proofs.Rows.{join, ends-beside, single-ends, end_row}
 use Rattle.derive.proofs.Heights.{way-row, row-way}
 
 module _ (g : Grammar) (r : Text) where
@@ -48,7 +48,7 @@ module _ (g : Grammar) (r : Text) where
     other : ends row ≡ ends t → ⊥
 
   ends-twice : {t u : Row} {ss : List Symbol} {i j : ℕ} → Derives g r t ss i j → Derives g r u ss i j → (ends u ≡ ends t → ⊥) → Twice t ss i j
-  ends-twice d-end d-end f = absurd (f refl)
+  ends-twice d-end d f = absurd (f (ap ends (end_row g r d)))
   ends-twice (d-leaf {x} {i = i} l d) (d-leaf l' d') f = tw-skip (ends-twice d d' (λ e. f (ap (λ (es : List ℕ). (i + width x) ∷ es) e)))
   ends-twice (d-leaf l d) (d-node h k d') f = absurd (omega arith)
   ends-twice (d-node h k d) (d-leaf l d') f = absurd (omega arith)
@@ -71,6 +71,7 @@ module _ (g : Grammar) (r : Text) where
       ]
   another-twice (d-node h k d) (aw-inside w) = tw-inside (another-twice k w)
   another-twice (d-node h k d) (aw-later w) = tw-later (another-twice d w)
+  another-twice (d-end {i = i}) x6 = elim x6 [ ]
 
   twice-another : {t : Row} {ss : List Symbol} {i j : ℕ} → Derives g r t ss i j → Twice t ss i j → AnotherWay g r t ss i j ⊎ OtherEnds t ss i j
   twice-another (d-leaf {x} {ss} {t} {i} {j} l d) (tw-skip w) = elim (twice-another d w) as (λ _. AnotherWay g r (leaf (i + width x) t)
@@ -96,6 +97,7 @@ module _ (g : Grammar) (r : Text) where
         | inl v ↦ inl (aw-later v)
         | inr v ↦ inr (record { row = node a m c v.row; derives = d-node h k v.derives; other = λ e. v.other (tail-eq_of_cons-eq e) })
       ]
+  twice-another (d-end {i = i}) x6 = elim x6 [ ]
 
   -- for one symbol on a stretch, the end place of which is given
   pub twice-is : {t : Row} {s : Symbol} {i j : ℕ} → Derives g r t (s ∷ []) i j → AnotherWay g r t (s ∷ []) i j ↔ Twice t (s ∷ []) i j

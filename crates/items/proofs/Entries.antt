@@ -162,7 +162,7 @@ module _ {g : Grammar} {K : List ℕ} where
 
   members_run : {at : ℕ} {a : Abs} (ms : List Member) (S : Starts) → Ok K a → Run g K (member_tokens ms) at a a S S
   members_run [] S o = skip-run set-end S skip-end o
-  members_run (m ∷ ms) S o = run-then {us = member_token m ∷ []} {vs = member_tokens ms} (skip-run (member_token m) S (skip-member m) o) (members_run ms S o)
+  members_run {at = at} {a = a} (m ∷ ms) S o = run-then {us = member_token m ∷ []} {vs = member_tokens ms} (skip-run (member_token m) S (skip-member m) o) (members_run {at = at + length (encode (member_token m ∷ []))} ms S o)
 
   terminal-run : {at : ℕ} {a : Abs} (x : Terminal) (S : Starts) → Ok K a → a.depth + 1 ≤ 512 → Run g K (terminal_tokens x) at a (pushed a (entry 1 0 at) a.base) S S
   unfolding action_of

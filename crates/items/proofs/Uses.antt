@@ -57,7 +57,7 @@ module _ {T : List ℕ} {g : Grammar} {S : Starts} where
   alternative-at zero (al-last w k) h = w
   alternative-at zero (al-more w k v) h = w
   alternative-at (suc a) (al-last w k) h = absurd (omega arith)
-  alternative-at (suc a) (al-more w k v) h = alternative-at a v (omega arith)
+  alternative-at {x = x} (suc a) (al-more {ss = ss} {ts = ts} w k v) h = alternative-at {x = x + (length {A = Symbol} ss + 1)} a v (omega arith)
 
   here : {p x : ℕ} {ss : List Symbol} → p ≡ x → Spells T g S x ss → Spelt T g S p
   here {p} {x} {ss} e w = record { after = ss; spells = rw e w }
@@ -66,7 +66,7 @@ module _ {T : List ℕ} {g : Grammar} {S : Starts} where
   pub run-spelt : {x : ℕ} {ss : List Symbol} → Spells T g S x ss → (p d : ℕ) → p ≡ x + d → d ≤ length ss → Spelt T g S p
   run-spelt w p zero e l = here (omega arith) w
   run-spelt (sp_end k) p (suc d) e l = absurd (omega arith)
-  run-spelt (sp-item r w) p (suc d) e l = run-spelt w p d (omega arith) (omega arith)
+  run-spelt {x = x} (sp-item {s = s} {ss = ss} r w) p (suc d) e l = run-spelt {x = x + 1} w p d (omega arith) (omega arith)
 
   pub rule-spelt : {x : ℕ} {ts : List (List Symbol)} → Alternatives T g S x ts → (p : ℕ) → x ≤ p → p < x + weight ts → Spelt T g S p
   rule-spelt {x} (al-last {ss = ss} w k) p h l = run-spelt w p (p - x) (omega arith) (omega arith)

@@ -13,7 +13,6 @@ build_items-root-requires c =
 
 pub some_unproductive-requires : goal.some_unproductive-requires
 some_unproductive-requires c =
-    let load-grammar = c.load_grammar-loaded in
     record {
       grammar = (loaded _ _ _ _ c.in-Grammar.is c.load_grammar-loaded.ensures).tree;
       ready = is-ready _ _ _ _ c.in-Grammar.is c.load_grammar-loaded.ensures _ _ _ c.wide-size.ensures
@@ -24,7 +23,6 @@ some_unproductive-requires c =
 
 pub returns-then-some_unproductive : goal.returns-then-some_unproductive
 returns-then-some_unproductive c =
-    let load-grammar = c.load_grammar-loaded in
     let built = c.build_items-root.ensures _ (readable _ _ _ _ c.in-Grammar.is c.load_grammar-loaded.ensures) in
     let ready = is-ready _ _ _ _ c.in-Grammar.is c.load_grammar-loaded.ensures _ _ _ c.wide-size.ensures built in
     unproductive-turned _ _ _ _ c.in-Grammar.is c.load_grammar-loaded.ensures _ _ _ c.wide-size.ensures built _ c.plain.ensures
@@ -32,7 +30,6 @@ returns-then-some_unproductive c =
 
 pub returns : goal.returns
 returns c =
-    let load-grammar = c.load_grammar-loaded in
     let built = c.build_items-root.ensures _ (readable _ _ _ _ c.in-Grammar.is c.load_grammar-loaded.ensures) in
     let ready = is-ready _ _ _ _ c.in-Grammar.is c.load_grammar-loaded.ensures _ _ _ c.wide-size.ensures built in
     kept _ _ _ _ c.in-Grammar.is c.load_grammar-loaded.ensures _ _ _ c.wide-size.ensures built

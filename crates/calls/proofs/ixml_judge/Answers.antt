@@ -17,7 +17,6 @@ returns-in_default c =
 pub slice_bounds-text-end : goal.slice_bounds-text-end
 slice_bounds-text-end c =
     let args = c.args in
-    let begin-list = c.begin_list-begun in
     let j = job args.grammar.now args.record.now (length args.scratch.now) (length args.second.now) in
     let e = c.in-At.is in
     got_in (started args.list.now j [] c.begin_list-begun.new.table c.begin_list-begun.new.text c.begin_list-begun.result c.begin_list-begun.ensures _ e).input
@@ -25,7 +24,6 @@ slice_bounds-text-end c =
 pub slice_bounds-conclude_list-end-2 : goal.slice_bounds-conclude_list-end-2
 slice_bounds-conclude_list-end-2 c =
     let args = c.args in
-    let begin-list = c.begin_list-begun in
     let j = job args.grammar.now args.record.now (length args.scratch.now) (length args.second.now) in
     let e = c.in-At.is in
     got-part (started args.list.now j [] c.begin_list-begun.new.table c.begin_list-begun.new.text c.begin_list-begun.result c.begin_list-begun.ensures _ e).input
@@ -33,7 +31,6 @@ slice_bounds-conclude_list-end-2 c =
 pub conclude_list-requires : goal.conclude_list-requires
 conclude_list-requires c =
     let args = c.args in
-    let begin-list = c.begin_list-begun in
     let j = job args.grammar.now args.record.now (length args.scratch.now) (length args.second.now) in
     let e = c.in-At.is in
     judgeable args.list.now j [] c.begin_list-begun.new.table c.begin_list-begun.new.text c.begin_list-begun.result c.begin_list-begun.ensures _ e (search

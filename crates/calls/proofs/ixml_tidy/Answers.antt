@@ -4,10 +4,8 @@ use Rattle.calls.proofs.ixml_tidy.Goals as goal
 
 pub give_tidy-requires : goal.give_tidy-requires
 give_tidy-requires c =
-    let done = c.accept_grammar-accepted in
     tokened c.args.grammar.now c.accept_grammar-accepted.new.table c.accept_grammar-accepted.result c.accept_grammar-accepted.ensures (search rules)
 
 pub returns : goal.returns
 returns c =
-    let done = c.accept_grammar-accepted in
     tidy-given c.args.grammar.now _ c.accept_grammar-accepted.new.table c.accept_grammar-accepted.result c.accept_grammar-accepted.ensures _ _ c.give_tidy.ensures

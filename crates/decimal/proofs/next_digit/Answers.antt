@@ -9,6 +9,5 @@ use Rattle.decimal.proofs.next_digit.Goals as goal
 pub returns : goal.returns
 unfolding next_digit
 returns c =
-    let digit = c.digit_of in
     let v = c.args.value in
     ap (λ (t : Float). add binary64 (mul binary64 t v) (num c.digit_of.result)) ten ∙ ap (λ (d : ℕ). add binary64 (mul binary64 (num 10) v) (num d)) c.digit_of.ensures

@@ -7,7 +7,6 @@ use Rattle.job.proofs.parse_record.Goals as goal
 pub read_begun-requires : goal.read_begun-requires
 read_begun-requires c =
     let j = job c.args.grammar.now c.args.record.now (length c.args.main.now) c.args.lending.second in
-    let done = c.begin-begun in
     prepared j c.begin-begun.new.table c.begin-begun.new.text (length c.args.main.now) (length c.args.parse.now)
     c.begin-begun.result c.begin-begun.ensures (search rules) (search rules) c.requires.room
 

@@ -14,32 +14,20 @@ hex-requires c = is-ch c.peek.ensures 0x23 c.if-peek-eq-NUMBER_SIGN.true
 
 pub returns-in_default : goal.returns-in_default
 returns-in_default c =
-    let hex = c.hex in
-    let if1 = c.if-peek-eq-NUMBER_SIGN in
-    let peek = c.peek in
     let args = c.args in
     chars-no-hex args.text.now args.p.0 (is-ch c.peek.ensures 0x23 c.if-peek-eq-NUMBER_SIGN.true) (rw c.in_default.is at c.hex.ensures)
 
 pub returns-then-peek-eq-NUMBER_SIGN : goal.returns-then-peek-eq-NUMBER_SIGN
 returns-then-peek-eq-NUMBER_SIGN c =
-    let hex = c.hex in
-    let if1 = c.if-peek-eq-NUMBER_SIGN in
-    let peek = c.peek in
     coding _ _ _ _ _ (is-ch c.peek.ensures 0x23 c.if-peek-eq-NUMBER_SIGN.true) (rw c.in-Value.is at c.hex.ensures)
 
 pub returns-in_default-string : goal.returns-in_default-string
 returns-in_default-string c =
-    let string = c.string in
-    let if1 = c.if-peek-eq-NUMBER_SIGN in
-    let peek = c.peek in
     let args = c.args in
     chars-no-string args.text.now args.p.0 (not-ch c.peek.ensures 0x23 c.if-peek-eq-NUMBER_SIGN.false) (rw c.in_default-string.is at c.string.ensures)
 
 pub returns : goal.returns
 returns c =
-    let string' = c.string in
-    let if1 = c.if-peek-eq-NUMBER_SIGN in
-    let peek = c.peek in
     let args = c.args in
     recopy (λ x. read-string (drop args.p.0 args.text.now) ≡ x) (λ x. read-chars (drop args.p.0 args.text.now) ≡ map string x)
     (λ x e. chars-string args.text.now args.p.0 (not-ch c.peek.ensures 0x23 c.if-peek-eq-NUMBER_SIGN.false) x e)

@@ -7,14 +7,12 @@ use Rattle.lexical.proofs.chars_token.Goals as goal
 
 pub head-requires : goal.head-requires
 head-requires c =
-    let chars = c.c-1 in
     let pre = c.requires in
     rw c.in-Quoted.is at (pre)
 
 pub offset_bounds-out-j : goal.offset_bounds-out-j
 offset_bounds-out-j c =
     let args = c.args in
-    let good = c.well_formed in
     let pre = c.requires in
     let h : args.at.0 + 2 ≤ length args.out.now = rw c.in-Coded.is at (pre) in
     omega (arith, c.well_formed.1.1.1.0)
@@ -29,7 +27,6 @@ bounds-out-j c =
 pub overflow_add-out : goal.overflow_add-out
 overflow_add-out c =
     let args = c.args in
-    let good = c.well_formed in
     let pre = c.requires in
     let h : args.at.0 + 2 ≤ length args.out.now = rw c.in-Coded.is at (pre) in
     omega (arith, c.well_formed.1.1.1.0)
@@ -37,7 +34,6 @@ overflow_add-out c =
 pub offset_bounds-out-j-in-Coded : goal.offset_bounds-out-j-in-Coded
 offset_bounds-out-j-in-Coded c =
     let args = c.args in
-    let good = c.well_formed in
     let pre = c.requires in
     let h : args.at.0 + 2 ≤ length args.out.now = rw c.in-Coded.is at (pre) in
     omega (arith, c.well_formed.1.1.1.0)
@@ -52,15 +48,12 @@ bounds-out-j-in-Coded c =
 pub overflow_add-result : goal.overflow_add-result
 overflow_add-result c =
     let args = c.args in
-    let good = c.well_formed in
     let pre = c.requires in
     let h : args.at.0 + 2 ≤ length args.out.now = rw c.in-Coded.is at (pre) in
     omega (arith, c.well_formed.1.1.1.0)
 
 pub returns-in-Quoted : goal.returns-in-Quoted
 returns-in-Quoted c =
-    let head = c.head in
-    let chars = c.c-1 in
     rw c.in-Quoted.is (record { step = (refl, refl); table = c.head.ensures })
 
 pub returns-in-Coded : goal.returns-in-Coded

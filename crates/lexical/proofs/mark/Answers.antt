@@ -7,34 +7,23 @@ use Rattle.lexical.proofs.mark.Goals as goal
 
 pub returns-then-not-is_mark : goal.returns-then-not-is_mark
 returns-then-not-is_mark c =
-    let peek = c.peek-c in
     let pre = c.requires in
     no-mark _ _ _ c.peek-c.ensures (sym c.is_mark.ensures ∙ c.if-not-is_mark.true) (pre)
 
 pub skip-requires : goal.skip-requires
 skip-requires c =
-    let peek = c.peek-c in
     let args = c.args in
     let h = mark-in args.text.now args.p.0 _ c.peek-c.ensures (sym c.is_mark.ensures ∙ c.if-not-is_mark.false) in
     omega (arith, c.after.ensures)
 
 pub returns-in_default : goal.returns-in_default
 returns-in_default c =
-    let skip = c.skip in
-    let if1 = c.if-not-is_mark in
-    let is-mark = c.is_mark in
-    let peek = c.peek-c in
     let args = c.args in
     mark-bad args.text.now args.p.0 _ c.peek-c.ensures (sym c.is_mark.ensures ∙ c.if-not-is_mark.false)
     (rw (c.after.ensures, c.in_default.is) at c.skip.ensures)
 
 pub returns : goal.returns
 returns c =
-    let q = c.q-1 in
-    let skip = c.skip in
-    let if1 = c.if-not-is_mark in
-    let is-mark = c.is_mark in
-    let peek = c.peek-c in
     let args = c.args in
     mark-read args.text.now args.p.0 _ c.peek-c.ensures (sym c.is_mark.ensures ∙ c.if-not-is_mark.false) _ _
     (rw (c.after.ensures, c.in-At.is) at c.skip.ensures) c.mark_number.ensures

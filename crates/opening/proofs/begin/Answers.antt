@@ -5,14 +5,11 @@ use Rattle.opening.proofs.begin.Goals as goal
 
 pub need_of-need-requires : goal.need_of-need-requires
 need_of-need-requires c =
-    let done = c.open_job-opened in
     let args = c.args in
     small args.grammar.now args.record.now c.open_job-opened.new.table c.open_job-opened.new.text c.open_job-opened.result c.open_job-opened.ensures
 
 pub returns : goal.returns
 returns c =
     let args = c.args in
-    let done = c.open_job-opened in
     let j = job args.grammar.now args.record.now args.main args.second in
-    let need = c.need_of-need in
     begins-lent main_need j c.open_job-opened.new.table c.open_job-opened.new.text c.need_of-need.result c.open_job-opened.result c.open_job-opened.ensures (need-is c.open_job-opened.result c.need_of-need.result c.need_of-need.ensures) _ c.lend.ensures

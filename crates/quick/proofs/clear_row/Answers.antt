@@ -34,7 +34,6 @@ pub loop-i-preserved : goal.loop-i-preserved
 loop-i-preserved c =
     let a = c.args in
     let g = c.requires in
-    let l = c.loop-i in
     let e : c.cell-y.result + c.loop-i.i ≡ cell_at a.s.n.0 a.x c.loop-i.i a.s.j.0 = omega (arith, c.cell-y.ensures) in (
       omega (arith, c.loop-i-test.true),
       emptied-next a.s.n.0 a.x a.s.j.0 a.main.now c.loop-i.i (c.cell-y.result + c.loop-i.i) c.loop-i-test.true g.4 e
@@ -48,5 +47,4 @@ shape_of-main c =
 pub returns : goal.returns
 returns c =
     let a = c.args in
-    let l = c.loop-i in
     subst (λ (i : ℕ). Emptied a.s.n.0 a.x a.s.j.0 i a.main.now c.loop-i.main) (omega (arith, c.loop-i.invariant.0, c.loop-i-test.false)) c.loop-i.invariant.1

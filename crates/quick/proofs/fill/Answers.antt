@@ -43,7 +43,6 @@ returns-then-is_doubtful c =
 
 pub fill_column-requires : goal.fill_column-requires
 fill_column-requires c =
-    let l = c.loop-j in
     (c.loop-j.invariant.2, refl, omega (arith, c.loop-j-test.true), c.loop-j.invariant.3, c.loop-j.invariant.4, c.loop-j.invariant.5, c.loop-j.invariant.6)
 
 pub loop-j-smaller : goal.loop-j-smaller
@@ -62,7 +61,6 @@ shape_of-main c =
 pub returns : goal.returns
 returns c =
     let a = c.args in
-    let l = c.loop-j in
     let e : c.loop-j.j.0 ≡ a.n.0 + 1 = omega (arith, c.loop-j.invariant.0, c.loop-j-test.false) in (
       λ _. filled _ _ _ _ _
           (subst (λ (x : ℕ). Before a.code.now a.marks.now a.notes.now a.size a.n.0 x c.loop-j.main) e c.loop-j.invariant.2),

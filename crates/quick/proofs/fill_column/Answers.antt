@@ -53,7 +53,6 @@ overflow_sub-i c = omega (arith, c.loop-i-test.true)
 pub finish-requires : goal.finish-requires
 finish-requires c =
     let a = c.args in
-    let l = c.loop-i in
     let e : c.loop-i.i ≡ c.loop-i.i - 1 + 1 = omega (arith, c.loop-i-test.true) in (
       subst (λ (x : ℕ). From a.code.now a.marks.now a.notes.now a.s.size a.s.n.0 a.s.j.0 x c.loop-i.main c.loop-i.column) e c.loop-i.invariant.2,
       omega (arith, c.loop-i-test.true, c.loop-i.invariant.0),
@@ -72,7 +71,6 @@ loop-i-smaller c =
 
 pub loop-i-preserved : goal.loop-i-preserved
 loop-i-preserved c =
-    let l = c.loop-i in
     let d = c.finish.ensures in
     let p = c.past_untouched-i.ensures in (
       omega (arith, c.loop-i.invariant.0, p.order),
@@ -98,7 +96,6 @@ pub returns : goal.returns
 returns c =
     let a = c.args in
     let g = c.requires in
-    let l = c.loop-i in
     let e : c.loop-i.i ≡ 0 = omega (arith, c.loop-i-test.false) in (
       before-next _ _ _ _ _ _ g.0.empties
           (subst (λ (x : ℕ). From a.code.now a.marks.now a.notes.now a.s.size a.s.n.0 a.s.j.0 x c.loop-i.main c.loop-i.column) e c.loop-i.invariant.2),

@@ -24,7 +24,6 @@ loop-x-init c =
 
 pub list_dot-requires : goal.list_dot-requires
 list_dot-requires c =
-    let l = c.loop-x in
     let e : length c.loop-x.main ≡ length c.args.main.now = c.loop-x.invariant.2.long in
     (rw e c.requires.0, c.requires.1, c.loop-x-test.true, c.loop-x.invariant.1)
 
@@ -34,7 +33,6 @@ loop-x-smaller c =
 
 pub loop-x-preserved : goal.loop-x-preserved
 loop-x-preserved c =
-    let l = c.loop-x in
     let d = c.list_dot.ensures in
     (omega (arith, c.loop-x-test.true), d.0, cleared-next _ _ _ _ c.requires.1 c.loop-x.invariant.2 d.1, λ z h. d.2 z h ∙ c.loop-x.invariant.3 z h)
 
@@ -49,7 +47,6 @@ shape_of-column c =
 pub returns : goal.returns
 returns c =
     let a = c.args in
-    let l = c.loop-x in
     let e : c.loop-x.x ≡ a.s.size = omega (arith, c.loop-x.invariant.0, c.loop-x-test.false) in (
       subst (λ (x : ℕ). Listed a.code.now a.marks.now x a.s.j.0 c.loop-x.column) e c.loop-x.invariant.1.listed,
       subst (λ (x : ℕ). ClearedTo a.code.now a.marks.now a.s.n.0 a.s.j.0 x a.main.now c.loop-x.main) e c.loop-x.invariant.2,

@@ -31,7 +31,6 @@ loop-i-smaller c = omega (arith, c.loop-i-test.true)
 
 pub loop-i-preserved : goal.loop-i-preserved
 loop-i-preserved c =
-    let l = c.loop-i in
     let p = c.requires in (
       omega (arith, c.loop-i-test.true),
       untouched-next c.loop-i.i (set c.args.column.now 3788 0) c.loop-i.column (omega (
@@ -51,7 +50,6 @@ shape_of-column c =
 
 pub returns : goal.returns
 returns c =
-    let l = c.loop-i in
     let a = c.args in
     untouched-from a.j a.column.now c.loop-i.column
     (subst (λ (i : ℕ). Untouched i (set a.column.now 3788 0) c.loop-i.column) (omega (arith, c.loop-i.invariant.0, c.loop-i-test.false)) c.loop-i.invariant.1)

@@ -13,31 +13,23 @@ skip-requires c = omega (
 
 pub returns-in_default : goal.returns-in_default
 returns-in_default c =
-    let skip = c.skip in
     let args = c.args in
     let pre = c.requires in
     insertion-bad args.text.now args.p.0 pre.1 (rw (c.after.ensures, c.in_default.is) at c.skip.ensures)
 
 pub read_chars-requires : goal.read_chars-requires
 read_chars-requires c =
-    let q = c.q-1 in
-    let skip = c.skip in
     let args = c.args in
     let pre = c.requires in
     room-past args.text.now args.p.0 _ _ _ pre.0 (rw (c.after.ensures, c.in-At.is) at c.skip.ensures)
 
 pub spaced-requires : goal.spaced-requires
 spaced-requires c =
-    let read-chars = c.read_chars in
-    let q = c.q-1 in
     let args = c.args in
     chars-step 29 30 args.text.now c.in-At.q.0 _ _ c.read_chars.result _ c.read_chars.ensures
 
 pub returns : goal.returns
 returns c =
-    let read-chars = c.read_chars in
-    let q = c.q-1 in
-    let skip = c.skip in
     let args = c.args in
     let pre = c.requires in
     inserted args.text.now args.p.0 pre.1 _ (rw

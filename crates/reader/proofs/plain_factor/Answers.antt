@@ -7,51 +7,32 @@ use Rattle.reader.proofs.plain_factor.Goals as goal
 
 pub insertion-requires : goal.insertion-requires
 insertion-requires c =
-    let peek = c.peek in
     let pre = c.requires in
     (pre, (is-ch c.peek.ensures 0x2b c.if-peek-eq-PLUS.true))
 
 pub returns-then-peek-eq-PLUS : goal.returns-then-peek-eq-PLUS
 returns-then-peek-eq-PLUS c =
-    let insertion = c.insertion in
-    let if1 = c.if-peek-eq-PLUS in
-    let peek = c.peek in
     let args = c.args in
     plain-insertion args.text.now args.p.0 _ _ (is-ch c.peek.ensures 0x2b c.if-peek-eq-PLUS.true) c.insertion.result _ c.insertion.ensures
 
 pub returns-in_default : goal.returns-in_default
 returns-in_default c =
-    let mark = c.mark in
-    let if1 = c.if-peek-eq-PLUS in
-    let peek = c.peek in
     let args = c.args in
     plain-bad args.text.now args.p.0 (not-ch c.peek.ensures 0x2b c.if-peek-eq-PLUS.false) (rw c.in_default.is at c.mark.ensures)
 
 pub used_name-requires : goal.used_name-requires
 used_name-requires c =
-    let q = c.q-1 in
-    let mark = c.mark in
     let args = c.args in
     let pre = c.requires in
     room-mark args.text.now args.p.0 _ _ _ _ (pre) (rw c.in-At.is at c.mark.ensures)
 
 pub spaced-requires : goal.spaced-requires
 spaced-requires c =
-    let used-name = c.used_name in
-    let q = c.q-1 in
     let args = c.args in
     name-step c.in-At.m args.text.now c.in-At.q.0 _ _ c.used_name.result _ c.used_name.ensures
 
 pub returns-then-name_start : goal.returns-then-name_start
 returns-then-name_start c =
-    let used-name = c.used_name in
-    let if2 = c.if-name_start in
-    let name-start = c.name_start in
-    let peek2 = c.peek-2 in
-    let q = c.q-1 in
-    let mark = c.mark in
-    let if1 = c.if-peek-eq-PLUS in
-    let peek = c.peek in
     let args = c.args in
     plain-name args.text.now args.p.0 (not-ch c.peek.ensures 0x2b c.if-peek-eq-PLUS.false) _ _ (rw c.in-At.is at c.mark.ensures)
     (tested c.peek-2.ensures namestart (sym c.name_start.ensures ∙ c.if-name_start.true)) _ _ c.used_name.result _ c.spaced.result
@@ -59,22 +40,12 @@ returns-then-name_start c =
 
 pub returns-then-m-eq-ATTRIBUTE : goal.returns-then-m-eq-ATTRIBUTE
 returns-then-m-eq-ATTRIBUTE c =
-    let name-start = c.name_start in
-    let peek2 = c.peek-2 in
-    let q = c.q-1 in
-    let mark = c.mark in
-    let if1 = c.if-peek-eq-PLUS in
-    let peek = c.peek in
     let args = c.args in
     plain-attribute args.text.now args.p.0 (not-ch c.peek.ensures 0x2b c.if-peek-eq-PLUS.false) _ _ (rw c.in-At.is at c.mark.ensures)
     (tested c.peek-2.ensures namestart (sym c.name_start.ensures ∙ c.if-name_start.false)) c.if-m-eq-ATTRIBUTE.true
 
 pub terminal-requires : goal.terminal-requires
 terminal-requires c =
-    let q = c.q-1 in
-    let mark = c.mark in
-    let if1 = c.if-peek-eq-PLUS in
-    let peek = c.peek in
     let args = c.args in
     let pre = c.requires in (
       room-mark args.text.now args.p.0 _ _ _ _ (pre) (rw c.in-At.is at c.mark.ensures),
@@ -83,15 +54,6 @@ terminal-requires c =
 
 pub returns : goal.returns
 returns c =
-    let terminal = c.terminal in
-    let if3 = c.if-m-eq-ATTRIBUTE in
-    let if2 = c.if-name_start in
-    let name-start = c.name_start in
-    let peek2 = c.peek-2 in
-    let q = c.q-1 in
-    let mark = c.mark in
-    let if1 = c.if-peek-eq-PLUS in
-    let peek = c.peek in
     let args = c.args in
     plain-terminal args.text.now args.p.0 (not-ch c.peek.ensures 0x2b c.if-peek-eq-PLUS.false) _ _ (rw c.in-At.is at c.mark.ensures)
     (tested c.peek-2.ensures namestart (sym c.name_start.ensures ∙ c.if-name_start.false)) c.if-m-eq-ATTRIBUTE.false _ _ c.terminal.result _ c.terminal.ensures

@@ -7,32 +7,22 @@ use Rattle.reader.proofs.read_grammar.Goals as goal
 
 pub returns-in_default : goal.returns-in_default
 returns-in_default c =
-    let skip = c.skip in
     let args = c.args in
     grammar-bad args.text.now (rw c.in_default.is at c.skip.ensures)
 
 pub prolog-requires : goal.prolog-requires
 prolog-requires c =
-    let u = c.u-1 in
-    let skip = c.skip in
     let pre = c.requires in
     let k = skipped c.in-At.is c.skip.ensures in
     (grammar-room _ _ k _ (pre))
 
 pub returns-in_default-prolog : goal.returns-in_default-prolog
 returns-in_default-prolog c =
-    let prolog = c.prolog in
-    let u = c.u-1 in
-    let skip = c.skip in
     let k = skipped c.in-At.is c.skip.ensures in
     grammar-no-prolog _ _ k (rw c.in_default-prolog.is at c.prolog.ensures)
 
 pub rule-requires : goal.rule-requires
 rule-requires c =
-    let v = c.v-1 in
-    let prolog = c.prolog in
-    let u = c.u-1 in
-    let skip = c.skip in
     let pre = c.requires in
     let k = skipped c.in-At.is c.skip.ensures in
     let g = got c.in-At-prolog.is c.prolog.ensures in
@@ -40,23 +30,12 @@ rule-requires c =
 
 pub returns-in_default-rule : goal.returns-in_default-rule
 returns-in_default-rule c =
-    let rule = c.rule in
-    let v = c.v-1 in
-    let prolog = c.prolog in
-    let u = c.u-1 in
-    let skip = c.skip in
     let k = skipped c.in-At.is c.skip.ensures in
     let g = got c.in-At-prolog.is c.prolog.ensures in
     grammar-no-rule _ _ k _ _ _ _ g (rw c.in_default-rule.is at c.rule.ensures)
 
 pub rules-requires : goal.rules-requires
 rules-requires c =
-    let w = c.w-1 in
-    let rule = c.rule in
-    let v = c.v-1 in
-    let prolog = c.prolog in
-    let u = c.u-1 in
-    let skip = c.skip in
     let pre = c.requires in
     let k = skipped c.in-At.is c.skip.ensures in
     let g = got c.in-At-prolog.is c.prolog.ensures in
@@ -66,13 +45,6 @@ rules-requires c =
 
 pub returns-in_default-rules : goal.returns-in_default-rules
 returns-in_default-rules c =
-    let rules = c.rules in
-    let w = c.w-1 in
-    let rule = c.rule in
-    let v = c.v-1 in
-    let prolog = c.prolog in
-    let u = c.u-1 in
-    let skip = c.skip in
     let k = skipped c.in-At.is c.skip.ensures in
     let g = got c.in-At-prolog.is c.prolog.ensures in
     let r = got c.in-At-rule.is c.rule.ensures in
@@ -80,13 +52,6 @@ returns-in_default-rules c =
 
 pub returns : goal.returns
 returns c =
-    let rules = c.rules in
-    let w = c.w-1 in
-    let rule = c.rule in
-    let v = c.v-1 in
-    let prolog = c.prolog in
-    let u = c.u-1 in
-    let skip = c.skip in
     let k = skipped c.in-At.is c.skip.ensures in
     let g = got c.in-At-prolog.is c.prolog.ensures in
     let r = got c.in-At-rule.is c.rule.ensures in

@@ -10,33 +10,23 @@ use Rattle.reader.proofs.rule.Goals as goal
 
 pub returns-in_default : goal.returns-in_default
 returns-in_default c =
-    let rule-head = c.rule_head in
     let args = c.args in
     rule-no-head args.text.now args.p.0 (rw c.in_default.is at c.rule_head.ensures)
 
 pub alternatives-requires : goal.alternatives-requires
 alternatives-requires c =
-    let y = c.y-1 in
-    let rule-head = c.rule_head in
     let pre = c.requires in
     let a = got c.in-At.is c.rule_head.ensures in
     room_after _ head_code _ _ _ _ _ _ _ _ (pre) c.rule_head.auto.out a
 
 pub returns-in_default-alternatives : goal.returns-in_default-alternatives
 returns-in_default-alternatives c =
-    let alternatives = c.alternatives in
-    let y = c.y-1 in
-    let rule-head = c.rule_head in
     let pre = c.requires in
     let a = got c.in-At.is c.rule_head.ensures in
     rule-no-body _ _ _ _ (pre) _ _ _ a (rw c.in_default-alternatives.is at c.alternatives.ensures)
 
 pub returns-then-peek-ne-FULL_STOP : goal.returns-then-peek-ne-FULL_STOP
 returns-then-peek-ne-FULL_STOP c =
-    let z = c.z-1 in
-    let alternatives = c.alternatives in
-    let y = c.y-1 in
-    let rule-head = c.rule_head in
     let pre = c.requires in
     let a = got c.in-At.is c.rule_head.ensures in
     let v = got c.in-At-alternatives.is c.alternatives.ensures in
@@ -45,10 +35,6 @@ returns-then-peek-ne-FULL_STOP c =
 
 pub put-end-requires : goal.put-end-requires
 put-end-requires c =
-    let z = c.z-1 in
-    let alternatives = c.alternatives in
-    let y = c.y-1 in
-    let rule-head = c.rule_head in
     let pre = c.requires in
     let a = got c.in-At.is c.rule_head.ensures in
     let v = got c.in-At-alternatives.is c.alternatives.ensures in
@@ -57,11 +43,6 @@ put-end-requires c =
 
 pub after-requires : goal.after-requires
 after-requires c =
-    let z = c.z-1 in
-    let alternatives = c.alternatives in
-    let y = c.y-1 in
-    let rule-head = c.rule_head in
-    let good = c.well_formed in
     let pre = c.requires in
     let a = got c.in-At.is c.rule_head.ensures in
     let v = got c.in-At-alternatives.is c.alternatives.ensures in
@@ -74,16 +55,10 @@ after-requires c =
 
 pub shape_of-out : goal.shape_of-out
 shape_of-out c =
-    let alternatives = c.alternatives in
-    let rule-head = c.rule_head in
     c.put-end.auto.out ∙ c.alternatives.auto.out ∙ c.rule_head.auto.out
 
 pub returns : goal.returns
 returns c =
-    let z = c.z-1 in
-    let alternatives = c.alternatives in
-    let y = c.y-1 in
-    let rule-head = c.rule_head in
     let pre = c.requires in
     let a = got c.in-At.is c.rule_head.ensures in
     let v = got c.in-At-alternatives.is c.alternatives.ensures in

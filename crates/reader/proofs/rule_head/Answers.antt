@@ -19,7 +19,6 @@ pub overflow_add-m : goal.overflow_add-m
 overflow_add-m c =
     let mark' = c.mark in
     let args' = c.args in
-    let q = c.q-1 in
     let mark = mark' in
     let args = args' in
     let v : Mark-read args.text.now args.p.0 c.in-At.q.0 c.in-At.m = rw c.in-At.is at mark.ensures in

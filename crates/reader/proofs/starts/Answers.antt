@@ -45,14 +45,6 @@ returns-then-c-eq-TILDE c =
 
 pub returns : goal.returns
 returns c =
-    let if6 = c.if-c-eq-OPEN_SQUARE in
-    let if5 = c.if-c-eq-NUMBER_SIGN in
-    let if4 = c.if-c-eq-PLUS in
-    let if3 = c.if-c-eq-OPEN_ROUND in
-    let if2 = c.if-is_mark in
-    let is-mark = c.is_mark in
-    let if1 = c.if-quote in
-    let quote = c.quote in
     let args = c.args in
     c.name_start.ensures ∙ sym
     (starts-name args.c (sym c.quote.ensures ∙ c.if-quote.false) (sym c.is_mark.ensures ∙ c.if-is_mark.false) (ne_eqb _ _ c.if-c-eq-OPEN_ROUND.false)

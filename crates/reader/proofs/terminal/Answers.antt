@@ -13,54 +13,35 @@ skip-requires c =
 
 pub returns-in_default : goal.returns-in_default
 returns-in_default c =
-    let skip = c.skip in
-    let if1 = c.if-c-eq-TILDE in
-    let peek = c.peek-c in
     let args = c.args in
     exclude-bad args.text.now args.p.0 args.m args.out.now args.at.0 (is-ch c.peek-c.ensures 0x7e c.if-c-eq-TILDE.true)
     (rw (c.after.ensures, c.in_default.is) at c.skip.ensures)
 
 pub set-requires : goal.set-requires
 set-requires c =
-    let q = c.q-1 in
-    let skip = c.skip in
     let args = c.args in
     let pre = c.requires in
     room-past args.text.now args.p.0 _ _ _ pre.0 (rw (c.after.ensures, c.in-At.is) at c.skip.ensures)
 
 pub returns-then-c-eq-TILDE : goal.returns-then-c-eq-TILDE
 returns-then-c-eq-TILDE c =
-    let set = c.set in
-    let q = c.q-1 in
-    let skip = c.skip in
-    let if1 = c.if-c-eq-TILDE in
-    let peek = c.peek-c in
     let args = c.args in
     excluded args.text.now args.p.0 args.m args.out.now args.at.0 (is-ch c.peek-c.ensures 0x7e c.if-c-eq-TILDE.true) _
     (rw (c.after.ensures, c.in-At.is) at c.skip.ensures) c.set.result _ c.set.ensures
 
 pub returns-then-c-eq-OPEN_SQUARE : goal.returns-then-c-eq-OPEN_SQUARE
 returns-then-c-eq-OPEN_SQUARE c =
-    let set2 = c.set-then-c-eq-OPEN_SQUARE in
-    let if2 = c.if-c-eq-OPEN_SQUARE in
-    let if1 = c.if-c-eq-TILDE in
-    let peek = c.peek-c in
     let args = c.args in
     included-set args.text.now args.p.0 args.m args.out.now args.at.0 (not-ch c.peek-c.ensures 0x7e c.if-c-eq-TILDE.false)
     (is-ch c.peek-c.ensures 0x5b c.if-c-eq-OPEN_SQUARE.true) c.set-then-c-eq-OPEN_SQUARE.result _ c.set-then-c-eq-OPEN_SQUARE.ensures
 
 pub spaced-requires : goal.spaced-requires
 spaced-requires c =
-    let read-chars = c.read_chars in
     let args = c.args in
     chars-step (4 + args.m) (8 + args.m) args.text.now args.p.0 _ _ c.read_chars.result _ c.read_chars.ensures
 
 pub returns : goal.returns
 returns c =
-    let read-chars = c.read_chars in
-    let if2 = c.if-c-eq-OPEN_SQUARE in
-    let if1 = c.if-c-eq-TILDE in
-    let peek = c.peek-c in
     let args = c.args in
     a-literal args.text.now args.p.0 args.m args.out.now args.at.0 (not-ch c.peek-c.ensures 0x7e c.if-c-eq-TILDE.false)
     (not-ch c.peek-c.ensures 0x5b c.if-c-eq-OPEN_SQUARE.false) c.read_chars.result _ c.spaced.result c.read_chars.ensures c.spaced.ensures

@@ -21,17 +21,10 @@ overflow_add-inner c =
 pub enter-requires : goal.enter-requires
 enter-requires c =
     let pre = c.requires in
-    let one = c.number_at in
-    let two = c.number_at-2 in
-    let find = c.find_end-m in
     can-enter pre.0 pre.1 c.number_at.result c.number_at-2.result c.number_at.ensures.0 c.number_at-2.ensures.0 c.find_end-m.result.0 c.either.result c.find_end-m.ensures
 
 pub returns : goal.returns
 returns c =
     let pre = c.requires in
-    let one = c.number_at in
-    let two = c.number_at-2 in
-    let find = c.find_end-m in
-    let other = c.other_end-elsewhere in
     stepped pre.0 pre.1 c.number_at.result c.number_at-2.result c.number_at.ensures.0 c.number_at-2.ensures.0 c.find_end-m.result.0 c.other_end-elsewhere.result c.either.result c.find_end-m.ensures
     c.other_end-elsewhere.ensures c.push.ensures c.either.ensures c.enter.ensures

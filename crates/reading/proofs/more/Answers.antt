@@ -20,8 +20,6 @@ returns-then-number_at-ne-AFTER_ALTERNATIVE c = (
 
 pub returns-then-h-eq0 : goal.returns-then-h-eq0
 returns-then-h-eq0 c =
-    let if2 = c.if-number_at-ne-AFTER_ALTERNATIVE in
-    let number_at = c.number_at in
     (λ e. absurd (let z : ◌≡◌ {A = ℕ} 0 1 = cc in omega arith), λ e l. (sym c.number_at.ensures.0 ∙ c.if-number_at-ne-AFTER_ALTERNATIVE.false, c.if-h-eq0.true))
 
 pub returns : goal.returns

@@ -36,13 +36,11 @@ loop-out-init c =
     let small = small_of c.type_inv.notes c.type_inv.main in
     let high = c.rule_height.ensures c.args.code.now in
     let some = c.if-rule_height.false in
-    let enter = c.enter-h in
     (refl, refl, λ t. set_out t small (λ e. some (high ∙ e)) pre.room pre.stack c.enter-h.ensures)
 
 pub more-requires : goal.more-requires
 more-requires c =
     let t = c.requires.tables in
-    let loop = c.loop-out in
     λ l. omega (arith, place_inside t (c.loop-out.invariant.2 t) l, t.tables.shape.room)
 
 pub step-h-requires : goal.step-h-requires
@@ -59,8 +57,6 @@ loop-out-smaller c =
 
 pub loop-out-preserved : goal.loop-out-preserved
 loop-out-preserved c =
-    let loop = c.loop-out in
-    let step = c.step-h in
     let m = c.more.ensures.0 c.loop-out-test.true in
     (omega (arith, c.loop-out.invariant.0), omega (arith, c.loop-out.invariant.1), λ t. go_on t (c.loop-out.invariant.2 t) m.0 m.1 c.step-h.ensures)
 
@@ -74,7 +70,6 @@ shape_of-stack-then-h-gt-READING_NUMBERS c =
 
 pub returns-then-h-gt-READING_NUMBERS : goal.returns-then-h-gt-READING_NUMBERS
 returns-then-h-gt-READING_NUMBERS c =
-    let loop = c.loop-out in
     let long = c.if-h-gt-READING_NUMBERS.true in
     λ t. too_long (arrive-long t (c.loop-out.invariant.2 t) long)
 
@@ -88,7 +83,6 @@ shape_of-stack c =
 
 pub returns : goal.returns
 returns c =
-    let loop = c.loop-out in
     let over = c.more.ensures.1 c.loop-out-test.false in
     let short = c.if-h-gt-READING_NUMBERS.false in
     λ t. arrive t (c.loop-out.invariant.2 t) over short

@@ -7,15 +7,12 @@ use Rattle.sets.proofs.chars_member.Goals as goal
 
 pub past_chars-requires : goal.past_chars-requires
 past_chars-requires c =
-    let chars = c.chars-c in
     let args = c.args in
     let pre = c.requires in
     chars-in args.text.now args.p.0 _ _ pre.0 pre.1 _ c.chars-c.auto.out c.chars-c.result c.chars-c.ensures
 
 pub returns-in_default : goal.returns-in_default
 returns-in_default c =
-    let past-chars = c.past_chars in
-    let chars = c.chars-c in
     let args = c.args in
     let pre = c.requires in
     member-unspaced args.text.now args.p.0 _ _ pre.0 pre.1 _ c.chars-c.auto.out c.chars-c.result c.chars-c.ensures
@@ -23,10 +20,6 @@ returns-in_default c =
 
 pub range_head-requires : goal.range_head-requires
 range_head-requires c =
-    let peek = c.peek in
-    let w = c.w-1 in
-    let past-chars = c.past_chars in
-    let chars = c.chars-c in
     let args = c.args in
     let pre = c.requires in
     head-room args.text.now args.p.0 _ _ pre.0 pre.1 _ c.chars-c.auto.out c.chars-c.result _ c.chars-c.ensures
@@ -34,12 +27,6 @@ range_head-requires c =
 
 pub returns-in_default-range_head : goal.returns-in_default-range_head
 returns-in_default-range_head c =
-    let range-head = c.range_head in
-    let if1 = c.if-peek-eq-HYPHEN in
-    let peek = c.peek in
-    let w = c.w-1 in
-    let past-chars = c.past_chars in
-    let chars = c.chars-c in
     let args = c.args in
     let pre = c.requires in
     no-range args.text.now args.p.0 _ _ pre.0 pre.1 _ c.chars-c.auto.out c.chars-c.result _ _ c.chars-c.ensures
@@ -47,13 +34,6 @@ returns-in_default-range_head c =
 
 pub range_rest-requires : goal.range_rest-requires
 range_rest-requires c =
-    let e = c.e-1 in
-    let range-head = c.range_head in
-    let if1 = c.if-peek-eq-HYPHEN in
-    let peek = c.peek in
-    let w = c.w-1 in
-    let past-chars = c.past_chars in
-    let chars = c.chars-c in
     let args = c.args in
     let pre = c.requires in (
       rest-room args.text.now args.p.0 _ _ pre.0 pre.1 _ c.chars-c.kept.1.1.0 c.chars-c.result c.chars-c.ensures _
@@ -65,14 +45,6 @@ range_rest-requires c =
 
 pub returns-then-peek-eq-HYPHEN : goal.returns-then-peek-eq-HYPHEN
 returns-then-peek-eq-HYPHEN c =
-    let range-rest = c.range_rest in
-    let e = c.e-1 in
-    let range-head = c.range_head in
-    let if1 = c.if-peek-eq-HYPHEN in
-    let peek = c.peek in
-    let w = c.w-1 in
-    let past-chars = c.past_chars in
-    let chars = c.chars-c in
     let args = c.args in
     let pre = c.requires in
     range-member args.text.now args.p.0 _ _ pre.0 pre.1 _ c.chars-c.kept.1.1.0 c.chars-c.result c.chars-c.ensures _
@@ -82,17 +54,12 @@ returns-then-peek-eq-HYPHEN c =
 
 pub chars_token-requires : goal.chars_token-requires
 chars_token-requires c =
-    let chars = c.chars-c in
     let args = c.args in
     let pre = c.requires in
     tokenable args.text.now args.p.0 _ _ pre.0 _ c.chars-c.auto.out c.chars-c.result c.chars-c.ensures
 
 pub returns-in_default-chars_token : goal.returns-in_default-chars_token
 returns-in_default-chars_token c =
-    let chars-token = c.chars_token in
-    let w = c.w-1 in
-    let past-chars = c.past_chars in
-    let chars = c.chars-c in
     let args = c.args in
     let pre = c.requires in
     absurd
@@ -101,12 +68,6 @@ returns-in_default-chars_token c =
 
 pub returns : goal.returns
 returns c =
-    let chars-token = c.chars_token in
-    let if1 = c.if-peek-eq-HYPHEN in
-    let peek = c.peek in
-    let w = c.w-1 in
-    let past-chars = c.past_chars in
-    let chars = c.chars-c in
     let args = c.args in
     let pre = c.requires in
     chars-member args.text.now args.p.0 _ _ pre.0 pre.1 _ c.chars-c.auto.out c.chars-c.result c.chars-c.ensures _

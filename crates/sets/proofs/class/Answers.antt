@@ -25,10 +25,6 @@ after-requires c =
 
 pub returns-then-letter : goal.returns-then-letter
 returns-then-letter c =
-    let class-token = c.class_token in
-    let if1 = c.if-letter in
-    let letter = c.letter in
-    let peek = c.peek-e in
     let args = c.args in
     let pre = c.requires in
     rw (twice _ c.after-second.ensures c.after.ensures)
@@ -44,10 +40,6 @@ class_token-requires-2 c =
 
 pub returns : goal.returns
 returns c =
-    let class-token2 = c.class_token-2 in
-    let if1 = c.if-letter in
-    let letter = c.letter in
-    let peek = c.peek-e in
     let args = c.args in
     let pre = c.requires in
     rw c.after-second.ensures

@@ -7,23 +7,17 @@ use Rattle.sets.proofs.filled_set.Goals as goal
 
 pub returns-in_default : goal.returns-in_default
 returns-in_default c =
-    let members = c.members in
     let args = c.args in
     filled_none args.text.now args.p.0 (rw c.in_default.is at c.members.ensures)
 
 pub returns-then-peek-ne-CLOSE_SQUARE : goal.returns-then-peek-ne-CLOSE_SQUARE
 returns-then-peek-ne-CLOSE_SQUARE c =
-    let w = c.w-1 in
-    let members = c.members in
     let args = c.args in
     filled-open args.text.now args.p.0 args.out.now args.at.0 _ _ _ (rw c.in-At.is at c.members.ensures)
     (not-ch c.peek.ensures 0x5d c.if-peek-ne-CLOSE_SQUARE.true)
 
 pub token-requires : goal.token-requires
 token-requires c =
-    let peek = c.peek in
-    let w = c.w-1 in
-    let members = c.members in
     let args = c.args in
     let pre = c.requires in (
       (seen-in _ _ _ 0x5d c.peek.ensures c.if-peek-ne-CLOSE_SQUARE.false (omega arith)),
@@ -33,11 +27,6 @@ token-requires c =
 
 pub returns : goal.returns
 returns c =
-    let token = c.token in
-    let if1 = c.if-peek-ne-CLOSE_SQUARE in
-    let peek = c.peek in
-    let w = c.w-1 in
-    let members = c.members in
     let args = c.args in
     filled-shut args.text.now args.p.0 args.out.now args.at.0 _ _ _ (rw c.in-At.is at c.members.ensures)
     (is-ch c.peek.ensures 0x5d c.if-peek-ne-CLOSE_SQUARE.false) c.token.result _ c.token.ensures

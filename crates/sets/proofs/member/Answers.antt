@@ -7,30 +7,21 @@ use Rattle.sets.proofs.member.Goals as goal
 
 pub class-requires : goal.class-requires
 class-requires c =
-    let capital' = c.capital in
-    let peek = c.peek in
     let pre = c.requires in
     (pre, tested c.peek.ensures capital (sym c.capital.ensures ∙ c.if-capital.true))
 
 pub spaced-requires : goal.spaced-requires
 spaced-requires c =
-    let class = c.class in
     let args = c.args in
     class-step args.text.now args.p.0 _ _ c.class.result _ c.class.ensures
 
 pub returns-then-capital : goal.returns-then-capital
 returns-then-capital c =
-    let class = c.class in
-    let if1 = c.if-capital in
-    let capital' = c.capital in
-    let peek = c.peek in
     let args = c.args in
     class-member args.text.now args.p.0 _ _ (tested c.peek.ensures capital (sym c.capital.ensures ∙ c.if-capital.true)) c.class.result _
     c.spaced.result c.class.ensures c.spaced.ensures
 
 pub chars_member-requires : goal.chars_member-requires
 chars_member-requires c =
-    let capital' = c.capital in
-    let peek = c.peek in
     let pre = c.requires in
     (pre, tested c.peek.ensures capital (sym c.capital.ensures ∙ c.if-capital.false))

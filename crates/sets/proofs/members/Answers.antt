@@ -19,42 +19,27 @@ member-requires c =
 
 pub shape_of-out-in_default : goal.shape_of-out-in_default
 shape_of-out-in_default c =
-    let member = c.member in
-    let loop = c.loop-q in
     c.member.auto.out ∙ c.loop-q.invariant.len
 
 pub returns-in_default : goal.returns-in_default
 returns-in_default c =
-    let member = c.member in
-    let loop = c.loop-q in
     let args = c.args in
     listing_none args.text.now args.p.0 args.out.now args.at.0 c.loop-q.out c.loop-q.from.0 c.loop-q.to.0 c.loop-q.invariant
     (rw c.in_default.is at c.member.ensures)
 
 pub shape_of-out-then-not-bar : goal.shape_of-out-then-not-bar
 shape_of-out-then-not-bar c =
-    let member = c.member in
-    let loop = c.loop-q in
     c.member.auto.out ∙ c.loop-q.invariant.len
 
 pub returns-then-not-bar : goal.returns-then-not-bar
 returns-then-not-bar c =
-    let peek = c.peek in
-    let q = c.q-1 in
-    let member = c.member in
-    let loop = c.loop-q in
     let args = c.args in
     listing-last args.text.now args.p.0 args.out.now args.at.0 c.loop-q.out c.loop-q.from.0 c.loop-q.to.0 c.loop-q.invariant _ _ _
     (rw c.in-At.is at c.member.ensures) (tested c.peek.ensures bar (sym c.bar.ensures ∙ c.if-not-bar.true))
 
 pub after-requires : goal.after-requires
 after-requires c =
-    let peek = c.peek in
-    let q = c.q-1 in
-    let member = c.member in
-    let loop = c.loop-q in
     let args = c.args in
-    let good = c.well_formed in
     omega (
       arith,
       bar-in args.text.now args.p.0 args.out.now args.at.0 c.loop-q.out c.loop-q.from.0 c.loop-q.to.0 c.loop-q.invariant _ _ _
@@ -64,10 +49,6 @@ after-requires c =
 
 pub skip-requires : goal.skip-requires
 skip-requires c =
-    let peek = c.peek in
-    let q = c.q-1 in
-    let member = c.member in
-    let loop = c.loop-q in
     let args = c.args in
     omega (
       arith,
@@ -78,19 +59,10 @@ skip-requires c =
 
 pub shape_of-out-in_default-skip : goal.shape_of-out-in_default-skip
 shape_of-out-in_default-skip c =
-    let member = c.member in
-    let loop = c.loop-q in
     c.member.auto.out ∙ c.loop-q.invariant.len
 
 pub returns-in_default-skip : goal.returns-in_default-skip
 returns-in_default-skip c =
-    let skip = c.skip in
-    let if1 = c.if-not-bar in
-    let bar' = c.bar in
-    let peek = c.peek in
-    let q = c.q-1 in
-    let member = c.member in
-    let loop = c.loop-q in
     let args = c.args in
     listing-bad args.text.now args.p.0 args.out.now args.at.0 c.loop-q.out c.loop-q.from.0 c.loop-q.to.0 c.loop-q.invariant _ _ _
     (rw c.in-At.is at c.member.ensures) (tested c.peek.ensures bar (sym c.bar.ensures ∙ c.if-not-bar.false))
@@ -98,13 +70,6 @@ returns-in_default-skip c =
 
 pub loop-q-smaller : goal.loop-q-smaller
 loop-q-smaller c =
-    let skip = c.skip in
-    let if1 = c.if-not-bar in
-    let bar' = c.bar in
-    let peek = c.peek in
-    let q = c.q-1 in
-    let member = c.member in
-    let loop = c.loop-q in
     let args = c.args in
     listing-less args.text.now args.p.0 args.out.now args.at.0 c.loop-q.out c.loop-q.from.0 c.loop-q.to.0 c.loop-q.invariant _ _ _
     (rw c.in-At.is at c.member.ensures) (tested c.peek.ensures bar (sym c.bar.ensures ∙ c.if-not-bar.false)) _
@@ -112,13 +77,6 @@ loop-q-smaller c =
 
 pub loop-q-preserved : goal.loop-q-preserved
 loop-q-preserved c =
-    let skip = c.skip in
-    let if1 = c.if-not-bar in
-    let bar' = c.bar in
-    let peek = c.peek in
-    let q = c.q-1 in
-    let member = c.member in
-    let loop = c.loop-q in
     let args = c.args in
     listing-on args.text.now args.p.0 args.out.now args.at.0 c.loop-q.out c.loop-q.from.0 c.loop-q.to.0 c.loop-q.invariant _ _ _
     (rw c.in-At.is at c.member.ensures) (tested c.peek.ensures bar (sym c.bar.ensures ∙ c.if-not-bar.false)) _

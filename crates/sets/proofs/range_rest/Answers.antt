@@ -8,24 +8,17 @@ skip-requires c = omega (arith, c.after.ensures)
 
 pub returns-in_default : goal.returns-in_default
 returns-in_default c =
-    let skip = c.skip in
     let args = c.args in
     rest-bad args.text.now args.p.0 (rw (c.after.ensures, c.in_default.is) at c.skip.ensures)
 
 pub chars-c-requires : goal.chars-c-requires
 chars-c-requires c =
-    let u = c.u-1 in
-    let skip = c.skip in
     let args = c.args in
     let pre = c.requires in
     rest-space args.text.now args.p.0 _ _ pre.0 pre.1 _ (rw (c.after.ensures, c.in-At.is) at c.skip.ensures)
 
 pub spaced-requires : goal.spaced-requires
 spaced-requires c =
-    let range-end = c.range_end in
-    let chars = c.chars-c in
-    let u = c.u-1 in
-    let skip = c.skip in
     let args = c.args in
     let pre = c.requires in
     rest_in args.text.now args.p.0 _ _ pre.0 pre.1 _ (rw
@@ -35,10 +28,6 @@ spaced-requires c =
 
 pub returns : goal.returns
 returns c =
-    let range-end = c.range_end in
-    let chars = c.chars-c in
-    let u = c.u-1 in
-    let skip = c.skip in
     let args = c.args in
     let pre = c.requires in
     rest_read args.text.now args.p.0 _ _ pre.0 pre.1 _ (rw

@@ -12,7 +12,6 @@ returns-then-peek-ne-OPEN_SQUARE c =
 
 pub token-requires : goal.token-requires
 token-requires c =
-    let peek = c.peek in
     let args = c.args in
     let pre = c.requires in
     let h = seen-in args.text.now args.p.0 _ 0x5b c.peek.ensures c.if-peek-ne-OPEN_SQUARE.false (omega arith) in
@@ -20,19 +19,11 @@ token-requires c =
 
 pub returns-in_default : goal.returns-in_default
 returns-in_default c =
-    let token = c.token in
-    let if1 = c.if-peek-ne-OPEN_SQUARE in
-    let peek = c.peek in
     let args = c.args in
     set-bad args.text.now args.p.0 (is-ch c.peek.ensures 0x5b c.if-peek-ne-OPEN_SQUARE.false) (rw c.in_default.is at c.token.ensures)
 
 pub token-requires-then-peek-eq-CLOSE_SQUARE : goal.token-requires-then-peek-eq-CLOSE_SQUARE
 token-requires-then-peek-eq-CLOSE_SQUARE c =
-    let peek2 = c.peek-2 in
-    let v = c.v-1 in
-    let token = c.token in
-    let if1 = c.if-peek-ne-OPEN_SQUARE in
-    let peek = c.peek in
     let args = c.args in
     let pre = c.requires in (
       (seen-in _ _ _ 0x5d c.peek-2.ensures c.if-peek-eq-CLOSE_SQUARE.true (omega arith)),
@@ -43,23 +34,12 @@ token-requires-then-peek-eq-CLOSE_SQUARE c =
 
 pub returns-then-peek-eq-CLOSE_SQUARE : goal.returns-then-peek-eq-CLOSE_SQUARE
 returns-then-peek-eq-CLOSE_SQUARE c =
-    let token2 = c.token-then-peek-eq-CLOSE_SQUARE in
-    let if2 = c.if-peek-eq-CLOSE_SQUARE in
-    let peek2 = c.peek-2 in
-    let v = c.v-1 in
-    let token = c.token in
-    let if1 = c.if-peek-ne-OPEN_SQUARE in
-    let peek = c.peek in
     let args = c.args in
     set-none args.text.now args.p.0 (is-ch c.peek.ensures 0x5b c.if-peek-ne-OPEN_SQUARE.false) _ args.out.now args.at.0 _ _ _
     (rw c.in-At.is at c.token.ensures) (is-ch c.peek-2.ensures 0x5d c.if-peek-eq-CLOSE_SQUARE.true) c.token-then-peek-eq-CLOSE_SQUARE.result _ c.token-then-peek-eq-CLOSE_SQUARE.ensures
 
 pub filled_set-requires : goal.filled_set-requires
 filled_set-requires c =
-    let v = c.v-1 in
-    let token = c.token in
-    let if1 = c.if-peek-ne-OPEN_SQUARE in
-    let peek = c.peek in
     let args = c.args in
     let pre = c.requires in
     set_room args.text.now args.p.0 (is-ch c.peek.ensures 0x5b c.if-peek-ne-OPEN_SQUARE.false) _ args.out.now args.at.0 _ _ _
@@ -67,13 +47,6 @@ filled_set-requires c =
 
 pub returns : goal.returns
 returns c =
-    let filled-set = c.filled_set in
-    let if2 = c.if-peek-eq-CLOSE_SQUARE in
-    let peek2 = c.peek-2 in
-    let v = c.v-1 in
-    let token = c.token in
-    let if1 = c.if-peek-ne-OPEN_SQUARE in
-    let peek = c.peek in
     let args = c.args in
     set-some args.text.now args.p.0 (is-ch c.peek.ensures 0x5b c.if-peek-ne-OPEN_SQUARE.false) _ args.out.now args.at.0 _ _ _
     (rw c.in-At.is at c.token.ensures) (not-ch c.peek-2.ensures 0x5d c.if-peek-eq-CLOSE_SQUARE.false) c.filled_set.result _ c.filled_set.ensures

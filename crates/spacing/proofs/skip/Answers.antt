@@ -24,22 +24,22 @@ comment-requires c = omega (arith, c.after.ensures)
 
 pub returns-in_default : goal.returns-in_default
 returns-in_default c =
-    let comment = c.comment in let if1 = c.if-c-eq-OPEN_BRACE in let loop-test = c.loop-at-test in let loop = c.loop-at in outer-bad _ _ _
+    outer-bad _ _ _
     c.loop-at.invariant c.loop-at-test.true c.if-c-eq-OPEN_BRACE.true (rw (c.after.ensures, c.in_default.is) at c.comment.ensures)
 
 pub loop-at-smaller-then-c-eq-OPEN_BRACE : goal.loop-at-smaller-then-c-eq-OPEN_BRACE
 loop-at-smaller-then-c-eq-OPEN_BRACE c =
-    let comment = c.comment in let loop-test = c.loop-at-test in inner-less _ _ _ _ c.loop-at-test.true (rw
+    inner-less _ _ _ _ c.loop-at-test.true (rw
     (c.after.ensures, c.in-At.is) at c.comment.ensures)
 
 pub loop-at-preserved-then-c-eq-OPEN_BRACE : goal.loop-at-preserved-then-c-eq-OPEN_BRACE
 loop-at-preserved-then-c-eq-OPEN_BRACE c =
-    let comment = c.comment in let if1 = c.if-c-eq-OPEN_BRACE in let loop-test = c.loop-at-test in let loop = c.loop-at in outer-on _ _ _
+    outer-on _ _ _
     c.loop-at.invariant c.loop-at-test.true c.if-c-eq-OPEN_BRACE.true _ (rw (c.after.ensures, c.in-At.is) at c.comment.ensures)
 
 pub returns-then-not-whitespace : goal.returns-then-not-whitespace
 returns-then-not-whitespace c =
-    let if1 = c.if-c-eq-OPEN_BRACE in let loop-test = c.loop-at-test in let loop = c.loop-at in outer-stop _ _ _ c.loop-at.invariant c.loop-at-test.true
+    outer-stop _ _ _ c.loop-at.invariant c.loop-at-test.true
     c.if-c-eq-OPEN_BRACE.false (sym c.whitespace.ensures ∙ c.if-not-whitespace.true)
 
 pub after-at-requires : goal.after-at-requires
@@ -50,7 +50,7 @@ loop-at-smaller c = omega (arith, c.after-at.ensures)
 
 pub loop-at-preserved : goal.loop-at-preserved
 loop-at-preserved c =
-    let loop-test = c.loop-at-test in let loop = c.loop-at in rw c.after-at.ensures (outer-white _ _ _ c.loop-at.invariant c.loop-at-test.true (sym
+    rw c.after-at.ensures (outer-white _ _ _ c.loop-at.invariant c.loop-at-test.true (sym
     c.whitespace.ensures ∙ c.if-not-whitespace.false))
 
 pub returns : goal.returns

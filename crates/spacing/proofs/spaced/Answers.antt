@@ -12,12 +12,8 @@ skip-requires c =
 
 pub returns-in_default-skip : goal.returns-in_default-skip
 returns-in_default-skip c =
-    let skip = c.skip in
-    let step = c.step-1 in
     rw c.in-At.is (rw c.in_default-skip.is at c.skip.ensures)
 
 pub returns : goal.returns
 returns c =
-    let skip = c.skip in
-    let step = c.step-1 in
     rw c.in-At.is (record { skipped = rw c.in-At-skip.is at c.skip.ensures; cell = refl })

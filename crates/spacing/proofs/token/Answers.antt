@@ -9,7 +9,7 @@ returns-in_default c = rw (c.after.ensures, c.in_default.is) at c.skip.ensures
 
 pub returns : goal.returns
 returns c =
-    let skip = c.skip in let pre = c.requires in let k : Skipped _ _ _ = rw (c.after.ensures, c.in-At.is) at
+    let pre = c.requires in let k : Skipped _ _ _ = rw (c.after.ensures, c.in-At.is) at
     c.skip.ensures in let n = k.onward in record {
       value = tt;
       same = k.past;

@@ -17,7 +17,6 @@ returns-then-not-fits c =
 pub returns-then-s-i : goal.returns-then-s-i
 returns-then-s-i c =
     let a = c.args in
-    let at-fits = c.fits in
     sym
     (past-short a.code.now a.marks.now a.notes.now a.s.n.0 a.main.now a.p a.s.i.0 a.s.j.0
     (sym c.fits.ensures ∙ c.if-not-fits.false) (omega (arith, c.number_at.ensures.0, c.if-s-i.true)))
@@ -31,7 +30,6 @@ rest_height-requires c =
 pub returns : goal.returns
 returns c =
     let a = c.args in
-    let at-fits = c.fits in
     let wide = c.number_at.ensures.0 in
     let is = past_is a.code.now a.marks.now a.notes.now a.s.n.0 a.main.now a.p a.s.i.0 a.s.j.0
     (sym c.fits.ensures ∙ c.if-not-fits.false) (omega (arith, c.if-s-i.false)) in

@@ -28,7 +28,6 @@ rest_height-b-requires c =
 pub returns : goal.returns
 returns c =
     let a = c.args in
-    let at-rule = c.rule_height-a in
     let is = split-is a.code.now a.marks.now a.notes.now a.s.n.0 a.main.now a.p a.s.i.0 a.s.j.0 a.m.0 c.number_at-rule.result
     c.rule_height-a.result c.up.result c.number_at-rule.ensures.0 (c.rule_height-a.ensures a.code.now) c.if-a.false c.up.ensures in
     c.larger.ensures ∙ ap (λ (z : ℕ). max c.up.result z) c.rest_height-b.ensures ∙ sym is

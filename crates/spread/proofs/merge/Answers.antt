@@ -53,7 +53,6 @@ loop-i-smaller c =
 
 pub loop-i-preserved : goal.loop-i-preserved
 loop-i-preserved c =
-    let l = c.loop-i in
     (
       omega (arith, c.loop-i-test.true),
       length-set c.loop-i.main (c.args.y + c.loop-i.i) c.better.result ∙ c.loop-i.invariant.1,
@@ -65,6 +64,5 @@ shape_of-main c = c.loop-i.invariant.1
 
 pub returns : goal.returns
 returns c =
-    let l = c.loop-i in
     λ (o M F : List ℕ) (size n m j p : ℕ) a. subst (λ (i : ℕ). Merged o M F size n m j c.args.main.now p i c.loop-i.main)
     (omega (arith, c.loop-i.invariant.0, c.loop-i-test.false, a.count)) (c.loop-i.invariant.2 o M F size n m j p a)

@@ -26,7 +26,6 @@ bounds-column-k c =
 
 pub spread_dot-requires : goal.spread_dot-requires
 spread_dot-requires c =
-    let l = c.loop-k in
     let q = c.requires in
     let e : length c.loop-k.main ≡ length c.args.main.now = c.loop-k.invariant.1.fell.long in
     let k : c.loop-k.k < get_or c.args.column.now 512 0 = omega (arith, c.loop-k-test.true, c.wide.ensures, c.loop-k.invariant.1.before 512 (omega arith)) in
@@ -45,7 +44,6 @@ loop-k-smaller c =
 pub loop-k-preserved : goal.loop-k-preserved
 loop-k-preserved c =
     let a = c.args in
-    let l = c.loop-k in
     let q = c.requires in
     let k : c.loop-k.k < get_or a.column.now 512 0 = omega (arith, c.loop-k-test.true, c.wide.ensures, c.loop-k.invariant.1.before 512 (omega arith)) in
     let d = c.spread_dot.ensures in (
@@ -65,7 +63,6 @@ shape_of-column c =
 
 pub returns : goal.returns
 returns c =
-    let l = c.loop-k in
     let q = c.requires in
     record {
       spread = c.loop-k.invariant.1;

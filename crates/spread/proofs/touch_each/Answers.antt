@@ -53,7 +53,6 @@ loop-i-smaller c =
 
 pub loop-i-preserved : goal.loop-i-preserved
 loop-i-preserved c =
-    let l = c.loop-i in
     let a = c.args in
     let room : 2563 + c.loop-i.i < length c.loop-i.column = omega (arith, c.loop-i-test.true, c.requires.1, c.loop-i.invariant.1.long) in (
       omega (arith, c.loop-i-test.true),
@@ -66,7 +65,6 @@ shape_of-column c = c.loop-i.invariant.1.long
 
 pub returns : goal.returns
 returns c =
-    let l = c.loop-i in
     let a = c.args in
     let e : c.loop-i.i ≡ a.k = omega (arith, c.loop-i.invariant.0, c.loop-i-test.false) in (
       subst (λ (i : ℕ). Touching a.main.now a.x i a.column.now c.loop-i.column) e c.loop-i.invariant.1,

@@ -51,7 +51,6 @@ loop-k-smaller c =
 pub loop-k-preserved : goal.loop-k-preserved
 loop-k-preserved c =
     let t = c.args.table.now in
-    let r = c.breaks in
     let hs = names_at t (take c.args.n c.args.index.now) in
     law.pass t c.args.end c.loop-k.k c.args.rule hs c.loop-k.invariant c.loop-k-test.true c.breaks.result c.breaks.ensures
     c.if-breaks.false c.requires.some c.token_end-k.result c.token_end-k.ensures

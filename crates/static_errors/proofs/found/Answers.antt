@@ -20,8 +20,6 @@ same_name-requires c =
 
 pub returns-then-same_name : goal.returns-then-same_name
 returns-then-same_name c =
-    let w = c.wide in
-    let s = c.same_name in
     law.found_here c.args.table.now c.args.a c.args.index.now c.args.from c.args.n c.loop-i.i c.requires.listing.few c.loop-i.invariant c.loop-i-test.true
     c.wide.result c.wide.ensures c.same_name.result c.same_name.ensures c.if-same_name.true
 
@@ -33,8 +31,6 @@ loop-i-smaller c = let l = c.loop-i-test.true in omega arith
 
 pub loop-i-preserved : goal.loop-i-preserved
 loop-i-preserved c =
-    let w = c.wide in
-    let s = c.same_name in
     law.found-next c.args.table.now c.args.a c.args.index.now c.args.from c.args.n c.loop-i.i c.requires.listing.few c.loop-i.invariant c.loop-i-test.true
     c.wide.result c.wide.ensures c.same_name.result c.same_name.ensures c.if-same_name.false
 

@@ -9,25 +9,20 @@ loop-k-init c = law.start c.args.table.now c.args.end c.args.index.now
 
 pub note-n-requires : goal.note-n-requires
 note-n-requires c =
-    let l = c.loop-k in
     law.ready c.args.table.now c.args.end c.args.index.now c.loop-k.index c.loop-k.n c.loop-k.k c.loop-k.invariant c.requires c.loop-k-test.true
 
 pub token_end-k-requires : goal.token_end-k-requires
 token_end-k-requires c =
-    let l = c.loop-k in
     (law.ready c.args.table.now c.args.end c.args.index.now c.loop-k.index c.loop-k.n c.loop-k.k c.loop-k.invariant c.requires c.loop-k-test.true).fits
 
 pub loop-k-smaller : goal.loop-k-smaller
 loop-k-smaller c =
-    let l = c.loop-k in
     let q = c.token_end-k.ensures in
     let t = c.loop-k-test.true in
     omega (arith, law.some_size c.args.table.now c.args.end c.args.index.now c.loop-k.index c.loop-k.n c.loop-k.k c.loop-k.invariant c.requires t)
 
 pub loop-k-preserved : goal.loop-k-preserved
 loop-k-preserved c =
-    let l = c.loop-k in
-    let n = c.note-n in
     law.next c.args.table.now c.args.end c.args.index.now c.loop-k.index c.loop-k.n c.loop-k.k c.loop-k.invariant c.requires c.loop-k-test.true
     c.note-n.result _ c.note-n.ensures c.token_end-k.result c.token_end-k.ensures
 

@@ -16,13 +16,11 @@ number_at-requires c = omega (arith, end-ahead c.requires.1 c.loop-p.invariant, 
 
 pub overflow_add-p : goal.overflow_add-p
 overflow_add-p c =
-    let loop = c.loop-p in
     let pre = c.requires in
     omega (arith, end-ahead pre.1 c.loop-p.invariant, pre.1.inside)
 
 pub loop-p-smaller : goal.loop-p-smaller
 loop-p-smaller c =
-    let loop = c.loop-p in
     let pre = c.requires in
     omega (arith, end-ahead pre.1 c.loop-p.invariant, pre.1.inside)
 
@@ -31,6 +29,5 @@ loop-p-preserved c = unmet-next c.loop-p.invariant (λ e. c.loop-p-test.true (c.
 
 pub returns : goal.returns
 returns c =
-    let loop = c.loop-p in
     let pre = c.requires in
     end-found pre.1 c.loop-p.invariant (sym c.number_at.ensures.0 ∙ c.loop-p-test.false)

@@ -12,6 +12,5 @@ returns-then-same c =
 
 pub returns : goal.returns
 returns c =
-    let height = c.alternative_height in
     let left = c.if-same.false in
     tells-ne c.alternative_height.result 4294967295 (λ f. (left, λ e. f (c.alternative_height.ensures ∙ e))) (λ w e. w.1 (sym c.alternative_height.ensures ∙ e))

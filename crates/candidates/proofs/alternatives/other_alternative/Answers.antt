@@ -30,7 +30,6 @@ next_alternative-next-requires c =
 pub returns-then-next-eq0 : goal.returns-then-next-eq0
 returns-then-next-eq0 c =
     let a = c.args in
-    let loop = c.loop-s in
     let no = untold c.another_derives.ensures c.if-another_derives.false in
     pass-no a.code.now a.s.size a.first a.marks.now a.notes.now a.s.n.0 a.main.now a.s.i.0 a.s.j.0 c.loop-s.invariant
     (λ w. no (ne_eqb c.loop-s.a a.number w.0, w.1)) c.next_alternative-next.ensures c.if-next-eq0.true
@@ -51,7 +50,6 @@ loop-s-smaller c =
 pub loop-s-preserved : goal.loop-s-preserved
 loop-s-preserved c =
     let a = c.args in
-    let loop = c.loop-s in
     let no = untold c.another_derives.ensures c.if-another_derives.false in
     pass-next a.code.now a.s.size a.first a.marks.now a.notes.now a.s.n.0 a.main.now a.s.i.0 a.s.j.0 c.loop-s.invariant
     (λ w. no (ne_eqb c.loop-s.a a.number w.0, w.1)) c.next_alternative-next.ensures c.if-next-eq0.false

@@ -19,28 +19,20 @@ bounds-text-i c = omega arith
 
 pub shape_of-out-then-not-name_follower : goal.shape_of-out-then-not-name_follower
 shape_of-out-then-not-name_follower c =
-    let loop = c.loop-from in
     c.loop-from.invariant.len
 
 pub returns-then-not-name_follower : goal.returns-then-not-name_follower
 returns-then-not-name_follower c =
-    let loop-test = c.loop-from-test in
-    let loop = c.loop-from in
     copy-end run _ _ _ _ _ _ _ c.loop-from.invariant 0 _ (omega arith) (omega arith)
     (run-stop _ _ c.loop-from-test.true (sym c.name_follower.ensures ∙ c.if-not-name_follower.true))
 
 pub offset_bounds-out-j : goal.offset_bounds-out-j
 offset_bounds-out-j c =
-    let loop-test = c.loop-from-test in
-    let loop = c.loop-from in
-    let good = c.well_formed in
     let pre = c.requires in
     omega (arith, copy-room run _ _ _ _ _ _ _ c.loop-from.invariant (pre) c.loop-from-test.true, c.loop-from.invariant.len, c.well_formed.1.1.0)
 
 pub bounds-out-j : goal.bounds-out-j
 bounds-out-j c =
-    let loop-test = c.loop-from-test in
-    let loop = c.loop-from in
     let pre = c.requires in
     copy-room run _ _ _ _ _ _ _ c.loop-from.invariant (pre) c.loop-from-test.true
 
@@ -49,9 +41,6 @@ after-from-requires c = omega arith
 
 pub overflow_add-to : goal.overflow_add-to
 overflow_add-to c =
-    let loop-test = c.loop-from-test in
-    let loop = c.loop-from in
-    let good = c.well_formed in
     let pre = c.requires in
     omega (arith, copy-room run _ _ _ _ _ _ _ c.loop-from.invariant (pre) c.loop-from-test.true, c.loop-from.invariant.len, c.well_formed.1.1.0)
 
@@ -60,8 +49,6 @@ loop-from-smaller c = omega (arith, c.after-from.ensures)
 
 pub loop-from-preserved : goal.loop-from-preserved
 loop-from-preserved c =
-    let loop-test = c.loop-from-test in
-    let loop = c.loop-from in
     let pre = c.requires in
     rw c.after-from.ensures
     (copy-on run _ _ _ _ _ _ _ c.loop-from.invariant _ _ (omega arith) (omega arith) (copy-room run _ _ _ _ _ _ _ c.loop-from.invariant (pre) c.loop-from-test.true)

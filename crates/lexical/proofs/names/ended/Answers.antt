@@ -15,6 +15,4 @@ returns-then-is_mark c = rw (at-char _ _ c.if-text-i.false, sym c.is_mark.ensure
 pub returns : goal.returns
 unfolding ended
 returns c =
-    let is-mark = c.is_mark in
-    let if1 = c.if-text-i in
     rw (at-char _ _ c.if-text-i.false, sym c.is_mark.ensures ∙ c.if-is_mark.false) c.name_start.ensures

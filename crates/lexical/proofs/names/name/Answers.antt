@@ -9,20 +9,17 @@ use Rattle.lexical.proofs.names.name.Goals as goal
 
 pub returns-in_default : goal.returns-in_default
 returns-in_default c =
-    let name-run = c.name_run in
     let args = c.args in
     no_name args.text.now args.p.0 (rw c.in_default.is at c.name_run.ensures)
 
 pub head-requires : goal.head-requires
 head-requires c =
-    let name-run = c.name_run in
     let pre = c.requires in
     let v : Named _ _ _ _ _ _ _ = rw c.in-At.is at c.name_run.ensures in
     headable _ _ _ _ (pre) _ c.name_run.auto.out _ 0 _ _ v.copied (run_on _ _ v.starts _ _ _ _ _ v.copied)
 
 pub returns : goal.returns
 returns c =
-    let name-run = c.name_run in
     let args = c.args in
     let pre = c.requires in
     let v : Named _ _ _ _ _ _ _ = rw c.in-At.is at c.name_run.ensures in

@@ -10,9 +10,6 @@ returns-then-not-name_start c = tested c.peek.ensures namestart (sym c.name_star
 
 pub returns : goal.returns
 returns c =
-    let copy_run = c.copy_run-run in
-    let name-start = c.name_start in
-    let peek = c.peek in
     record {
       starts = tested c.peek.ensures namestart (sym c.name_start.ensures ∙ c.if-not-name_start.false);
       copied = c.copy_run-run.ensures;

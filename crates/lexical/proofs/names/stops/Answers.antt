@@ -10,26 +10,18 @@ returns-then-n-i c =
 
 pub returns-then-text-n-ne-FULL_STOP : goal.returns-then-text-n-ne-FULL_STOP
 returns-then-text-n-ne-FULL_STOP c =
-    let if1 = c.if-n-i in
     let args = c.args in
     let pre = c.requires in
     stops-no-dot args.text.now args.p.0 args.q.0 pre.0 pre.1 c.if-n-i.false c.if-text-n-ne-FULL_STOP.true
 
 pub returns-in_default : goal.returns-in_default
 returns-in_default c =
-    let skip = c.skip in
-    let if2 = c.if-text-n-ne-FULL_STOP in
-    let if1 = c.if-n-i in
     let args = c.args in
     let pre = c.requires in
     stops-open args.text.now args.p.0 args.q.0 pre.0 pre.1 c.if-n-i.false c.if-text-n-ne-FULL_STOP.false (rw c.in_default.is at c.skip.ensures)
 
 pub returns : goal.returns
 returns c =
-    let w = c.w-1 in
-    let skip = c.skip in
-    let if2 = c.if-text-n-ne-FULL_STOP in
-    let if1 = c.if-n-i in
     let args = c.args in
     let pre = c.requires in
     stops_then args.text.now args.p.0 args.q.0 pre.0 pre.1 c.if-n-i.false c.if-text-n-ne-FULL_STOP.false _ c.ended.result

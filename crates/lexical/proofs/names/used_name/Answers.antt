@@ -10,13 +10,11 @@ use Rattle.lexical.proofs.names.used_name.Goals as goal
 
 pub returns-in_default : goal.returns-in_default
 returns-in_default c =
-    let name-run = c.name_run in
     let args = c.args in
     no-use args.text.now args.p.0 (rw c.in_default.is at c.name_run.ensures)
 
 pub stops-requires : goal.stops-requires
 stops-requires c =
-    let name-run = c.name_run in
     let args = c.args in
     let v : Named _ _ _ _ _ _ _ = rw c.in-At.is at c.name_run.ensures in
     (run_on args.text.now args.p.0 v.starts _ _ _ _ _ v.copied, v.copied.onward.within)
@@ -27,8 +25,6 @@ overflow_sub-m c =
 
 pub head-requires : goal.head-requires
 head-requires c =
-    let stops = c.stops in
-    let name-run = c.name_run in
     let args = c.args in
     let pre = c.requires in
     let v : Named _ _ _ _ _ _ _ = rw c.in-At.is at c.name_run.ensures in
@@ -39,7 +35,6 @@ head-requires c =
 
 pub overflow_sub-result : goal.overflow_sub-result
 overflow_sub-result c =
-    let name-run = c.name_run in
     let args = c.args in
     let pre = c.requires in
     let v : Named _ _ _ _ _ _ _ = rw c.in-At.is at c.name_run.ensures in
@@ -52,9 +47,6 @@ overflow_sub-result-then-stops c =
 
 pub returns-then-stops : goal.returns-then-stops
 returns-then-stops c =
-    let head = c.head in
-    let stops = c.stops in
-    let name-run = c.name_run in
     let args = c.args in
     let pre = c.requires in
     let v : Named _ _ _ _ _ _ _ = rw c.in-At.is at c.name_run.ensures in
@@ -66,15 +58,12 @@ returns-then-stops c =
 
 pub head-requires-2 : goal.head-requires-2
 head-requires-2 c =
-    let name-run = c.name_run in
     let pre = c.requires in
     let v : Named _ _ _ _ _ _ _ = rw c.in-At.is at c.name_run.ensures in
     headable _ _ _ _ (pre) _ c.name_run.auto.out _ 0 _ _ v.copied (run_on _ _ v.starts _ _ _ _ _ v.copied)
 
 pub returns : goal.returns
 returns c =
-    let stops = c.stops in
-    let name-run = c.name_run in
     let args = c.args in
     let pre = c.requires in
     let v : Named _ _ _ _ _ _ _ = rw c.in-At.is at c.name_run.ensures in

@@ -18,13 +18,10 @@ bounds-text-i c = omega arith
 
 pub returns-then-not-digit : goal.returns-then-not-digit
 returns-then-not-digit c =
-    let loop-test = c.loop-at-test in
-    let loop = c.loop-at in
     counting-stop _ _ _ _ c.loop-at.invariant c.loop-at-test.true (sym c.digit.ensures ∙ c.if-not-digit.true)
 
 pub next_value-v-requires : goal.next_value-v-requires
 next_value-v-requires c =
-    let loop = c.loop-at in
     (counting-small _ _ _ _ c.loop-at.invariant, sym c.digit.ensures ∙ c.if-not-digit.false)
 
 pub after-at-requires : goal.after-at-requires
@@ -35,9 +32,6 @@ loop-at-smaller c = omega (arith, c.after-at.ensures)
 
 pub loop-at-preserved : goal.loop-at-preserved
 loop-at-preserved c =
-    let digit = c.digit in
-    let loop-test = c.loop-at-test in
-    let loop = c.loop-at in
     rw c.after-at.ensures (counting-on _ _ _ _ c.loop-at.invariant c.loop-at-test.true (sym c.digit.ensures ∙ c.if-not-digit.false) _
     c.next_value-v.ensures)
 

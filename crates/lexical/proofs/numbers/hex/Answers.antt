@@ -15,7 +15,6 @@ after-first-requires c =
 
 pub returns-then-not-digit : goal.returns-then-not-digit
 returns-then-not-digit c =
-    let peek = c.peek in
     let args = c.args in
     let pre = c.requires in
     hex-none args.text.now args.p.0 (pre) (tested (rw c.after-first.ensures at c.peek.ensures) digit (sym
@@ -30,5 +29,5 @@ digits-requires c =
 
 pub returns : goal.returns
 returns c =
-    let digit' = c.digit in let peek = c.peek in let args = c.args in let pre = c.requires in hex-some
+    let args = c.args in let pre = c.requires in hex-some
     args.text.now args.p.0 (pre) (tested (rw c.after-first.ensures at c.peek.ensures) digit (sym c.digit.ensures ∙ c.if-not-digit.false)) c.digits.result (rw c.after-first.ensures at c.digits.ensures)

@@ -22,31 +22,22 @@ after-next-requires c = omega arith
 
 pub shape_of-out-then-peek-q : goal.shape_of-out-then-peek-q
 shape_of-out-then-peek-q c =
-    let loop = c.loop-from in
     c.loop-from.invariant.len
 
 pub returns-then-peek-q : goal.returns-then-peek-q
 returns-then-peek-q c =
-    let if1 = c.if-c-q in
-    let loop-test = c.loop-from-test in
-    let loop = c.loop-from in
     let args = c.args in
     rw c.after-next.ensures (copy-end (quoted-by args.q) _ _ _ _ _ _ _ c.loop-from.invariant 1 _ (omega arith) (omega arith)
     (chars-last _ _ _ c.loop-from-test.true c.if-c-q.true (λ e. c.if-peek-q.true ((rw c.after-next.ensures at c.peek.ensures) ∙ e))))
 
 pub offset_bounds-out-j : goal.offset_bounds-out-j
 offset_bounds-out-j c =
-    let loop-test = c.loop-from-test in
-    let loop = c.loop-from in
     let args = c.args in
-    let good = c.well_formed in
     let pre = c.requires in
     omega (arith, copy-room (quoted-by args.q) _ _ _ _ _ _ _ c.loop-from.invariant pre.0 c.loop-from-test.true, c.loop-from.invariant.len, c.well_formed.1.1.1.0)
 
 pub bounds-out-j : goal.bounds-out-j
 bounds-out-j c =
-    let loop-test = c.loop-from-test in
-    let loop = c.loop-from in
     let args = c.args in
     let pre = c.requires in
     copy-room (quoted-by args.q) _ _ _ _ _ _ _ c.loop-from.invariant pre.0 c.loop-from-test.true
@@ -56,10 +47,7 @@ after-from-requires c = omega (arith, c.after-next.ensures)
 
 pub overflow_add-to : goal.overflow_add-to
 overflow_add-to c =
-    let loop-test = c.loop-from-test in
-    let loop = c.loop-from in
     let args = c.args in
-    let good = c.well_formed in
     let pre = c.requires in
     omega (arith, copy-room (quoted-by args.q) _ _ _ _ _ _ _ c.loop-from.invariant pre.0 c.loop-from-test.true, c.loop-from.invariant.len, c.well_formed.1.1.1.0)
 
@@ -69,9 +57,6 @@ loop-from-smaller-then-c-q c =
 
 pub loop-from-preserved-then-c-q : goal.loop-from-preserved-then-c-q
 loop-from-preserved-then-c-q c =
-    let if1 = c.if-c-q in
-    let loop-test = c.loop-from-test in
-    let loop = c.loop-from in
     let args = c.args in
     let pre = c.requires in
     rw (twice _ c.after-next.ensures c.after-from.ensures) (copy-on (quoted-by args.q) _ _ _ _ _ _ _ c.loop-from.invariant args.q _
@@ -83,41 +68,29 @@ loop-from-preserved-then-c-q c =
 
 pub shape_of-out-then-not-plain : goal.shape_of-out-then-not-plain
 shape_of-out-then-not-plain c =
-    let loop = c.loop-from in
     c.loop-from.invariant.len
 
 pub returns-then-not-plain : goal.returns-then-not-plain
 returns-then-not-plain c =
-    let if1 = c.if-c-q in
-    let loop-test = c.loop-from-test in
-    let loop = c.loop-from in
     let args = c.args in
     copy-no (quoted-by args.q) _ _ _ _ _ _ _ c.loop-from.invariant
     (chars-no _ _ _ c.loop-from-test.true c.if-c-q.false (sym c.plain.ensures ∙ c.if-not-plain.true))
 
 pub offset_bounds-out-j-else-c-q : goal.offset_bounds-out-j-else-c-q
 offset_bounds-out-j-else-c-q c =
-    let loop-test = c.loop-from-test in
-    let loop = c.loop-from in
     let args = c.args in
-    let good = c.well_formed in
     let pre = c.requires in
     omega (arith, copy-room (quoted-by args.q) _ _ _ _ _ _ _ c.loop-from.invariant pre.0 c.loop-from-test.true, c.loop-from.invariant.len, c.well_formed.1.1.1.0)
 
 pub bounds-out-j-else-c-q : goal.bounds-out-j-else-c-q
 bounds-out-j-else-c-q c =
-    let loop-test = c.loop-from-test in
-    let loop = c.loop-from in
     let args = c.args in
     let pre = c.requires in
     copy-room (quoted-by args.q) _ _ _ _ _ _ _ c.loop-from.invariant pre.0 c.loop-from-test.true
 
 pub overflow_add-to-else-c-q : goal.overflow_add-to-else-c-q
 overflow_add-to-else-c-q c =
-    let loop-test = c.loop-from-test in
-    let loop = c.loop-from in
     let args = c.args in
-    let good = c.well_formed in
     let pre = c.requires in
     omega (arith, copy-room (quoted-by args.q) _ _ _ _ _ _ _ c.loop-from.invariant pre.0 c.loop-from-test.true, c.loop-from.invariant.len, c.well_formed.1.1.1.0)
 
@@ -126,9 +99,6 @@ loop-from-smaller c = omega (arith, c.after-next.ensures)
 
 pub loop-from-preserved : goal.loop-from-preserved
 loop-from-preserved c =
-    let if1 = c.if-c-q in
-    let loop-test = c.loop-from-test in
-    let loop = c.loop-from in
     let args = c.args in
     let pre = c.requires in
     rw c.after-next.ensures (copy-on (quoted-by args.q) _ _ _ _ _ _ _ c.loop-from.invariant _ _ (omega arith) (omega arith)

@@ -8,14 +8,11 @@ use Rattle.lexical.proofs.strings.string.Goals as goal
 
 pub returns-then-not-quote : goal.returns-then-not-quote
 returns-then-not-quote c =
-    let peek = c.peek-q in
     let args = c.args in
     string-none args.text.now args.p.0 (tested c.peek-q.ensures quote (sym c.quote.ensures ∙ c.if-not-quote.true))
 
 pub copy_quoted-requires : goal.copy_quoted-requires
 copy_quoted-requires c =
-    let quote = c.quote in
-    let peek = c.peek-q in
     let pre = c.requires in (
       rw c.after.ensures (string-space _ _ _ c.peek-q.ensures (sym c.quote.ensures ∙ c.if-not-quote.false) _ _ (pre)),
       sym c.quote.ensures ∙ c.if-not-quote.false,
@@ -23,32 +20,18 @@ copy_quoted-requires c =
 
 pub returns-in_default : goal.returns-in_default
 returns-in_default c =
-    let copy-quoted = c.copy_quoted in
-    let if1 = c.if-not-quote in
-    let quote = c.quote in
-    let peek = c.peek-q in
     let args = c.args in
     string-bad args.text.now args.p.0 _ c.peek-q.ensures (sym c.quote.ensures ∙ c.if-not-quote.false)
     (rw (c.after.ensures, c.in_default.is) at c.copy_quoted.ensures)
 
 pub returns-then-b-at : goal.returns-then-b-at
 returns-then-b-at c =
-    let u = c.u-1 in
-    let copy-quoted = c.copy_quoted in
-    let if1 = c.if-not-quote in
-    let quote = c.quote in
-    let peek = c.peek-q in
     let args = c.args in
     string-empty args.text.now args.p.0 _ c.peek-q.ensures (sym c.quote.ensures ∙ c.if-not-quote.false) _ _ _ _ _
     (rw (c.after.ensures, c.in-At.is) at c.copy_quoted.ensures) c.if-b-at.true
 
 pub returns : goal.returns
 returns c =
-    let u = c.u-1 in
-    let copy-quoted = c.copy_quoted in
-    let if1 = c.if-not-quote in
-    let quote = c.quote in
-    let peek = c.peek-q in
     let args = c.args in
     string-read args.text.now args.p.0 _ c.peek-q.ensures (sym c.quote.ensures ∙ c.if-not-quote.false) _ _ _ _ _
     (rw (c.after.ensures, c.in-At.is) at c.copy_quoted.ensures) c.if-b-at.false

@@ -9,25 +9,18 @@ use Rattle.reader.proofs.closing.closed.Goals as goal
 
 pub returns-in_default : goal.returns-in_default
 returns-in_default c =
-    let spaced = c.spaced in
     let args = c.args in
     closed-unspaced (one_of args.first args.second) args.text.now args.word _ c.in_default.is c.spaced.ensures
 
 pub returns-then-not-one_of : goal.returns-then-not-one_of
 returns-then-not-one_of c =
-    let peek = c.peek in
-    let w = c.w-1 in
-    let spaced = c.spaced in
     let args = c.args in
     closed-no (one_of args.first args.second) args.text.now args.word _ _ _ c.in-At.is c.spaced.ensures
     (tested c.peek.ensures (one_of args.first args.second) (sym c.one_of.ensures ∙ c.if-not-one_of.true))
 
 pub after-requires : goal.after-requires
 after-requires c =
-    let peek = c.peek in
-    let w = c.w-1 in
     let args = c.args in
-    let good = c.well_formed in
     let pre = c.requires in
     let h = in-text args.text.now c.in-At.w.0 (one_of args.first args.second) (one-of-end _ _ pre.1.0 pre.1.1)
     (tested c.peek.ensures (one_of args.first args.second) (sym c.one_of.ensures ∙ c.if-not-one_of.false)) in
@@ -35,8 +28,6 @@ after-requires c =
 
 pub skip-requires : goal.skip-requires
 skip-requires c =
-    let peek = c.peek in
-    let w = c.w-1 in
     let args = c.args in
     let pre = c.requires in
     let h = in-text args.text.now c.in-At.w.0 (one_of args.first args.second) (one-of-end _ _ pre.1.0 pre.1.1)
@@ -45,12 +36,6 @@ skip-requires c =
 
 pub returns-in_default-skip : goal.returns-in_default-skip
 returns-in_default-skip c =
-    let skip = c.skip in
-    let if1 = c.if-not-one_of in
-    let one-of = c.one_of in
-    let peek = c.peek in
-    let w = c.w-1 in
-    let spaced = c.spaced in
     let args = c.args in
     closed-bad (one_of args.first args.second) args.text.now args.word _ _ _ c.in-At.is c.spaced.ensures
     (tested c.peek.ensures (one_of args.first args.second) (sym c.one_of.ensures ∙ c.if-not-one_of.false))
@@ -58,12 +43,6 @@ returns-in_default-skip c =
 
 pub returns : goal.returns
 returns c =
-    let skip = c.skip in
-    let if1 = c.if-not-one_of in
-    let one-of = c.one_of in
-    let peek = c.peek in
-    let w = c.w-1 in
-    let spaced = c.spaced in
     let args = c.args in
     closed-got (one_of args.first args.second) args.text.now args.word _ _ _ c.in-At.is c.spaced.ensures
     (tested c.peek.ensures (one_of args.first args.second) (sym c.one_of.ensures ∙ c.if-not-one_of.false)) _

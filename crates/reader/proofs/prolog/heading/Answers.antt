@@ -10,13 +10,11 @@ use Rattle.reader.proofs.prolog.heading.Goals as goal
 
 pub returns-in_default : goal.returns-in_default
 returns-in_default c =
-    let word = c.word in
     let args = c.args in
     heading-no-ixml args.text.now args.p.0 (rw c.in_default.is at c.word.ensures)
 
 pub required-requires : goal.required-requires
 required-requires c =
-    let word = c.word in
     let args = c.args in
     let a : Passed (λ x. read_word (chars "ixml") (drop args.p.0 args.text.now) ≡ x) args.text.now args.p.0
     c.in-At.u.0 = rw c.in-At.is at c.word.ensures in
@@ -24,9 +22,6 @@ required-requires c =
 
 pub returns-in_default-required : goal.returns-in_default-required
 returns-in_default-required c =
-    let required = c.required in
-    let u = c.u-1 in
-    let word = c.word in
     let args = c.args in
     let a : Passed (λ x. read_word (chars "ixml") (drop args.p.0 args.text.now) ≡ x) args.text.now args.p.0 c.in-At.u.0 =
     rw c.in-At.is at c.word.ensures in
@@ -34,9 +29,6 @@ returns-in_default-required c =
 
 pub word-requires-2 : goal.word-requires-2
 word-requires-2 c =
-    let v = c.v-1 in
-    let required = c.required in
-    let u = c.u-1 in
     let args = c.args in
     let b : Passed (λ x. spacing.required (drop c.in-At.u.0 args.text.now) ≡ x) args.text.now c.in-At.u.0
     c.in-At-required.v.0 = rw c.in-At-required.is at c.required.ensures in
@@ -44,10 +36,6 @@ word-requires-2 c =
 
 pub returns : goal.returns
 returns c =
-    let v = c.v-1 in
-    let required = c.required in
-    let u = c.u-1 in
-    let word = c.word in
     let args = c.args in
     let a : Passed (λ x. read_word (chars "ixml") (drop args.p.0 args.text.now) ≡ x) args.text.now args.p.0 c.in-At.u.0 =
     rw c.in-At.is at c.word.ensures in

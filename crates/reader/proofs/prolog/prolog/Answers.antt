@@ -9,15 +9,12 @@ use Rattle.reader.proofs.prolog.prolog.Goals as goal
 
 pub returns-in_default : goal.returns-in_default
 returns-in_default c =
-    let heading = c.heading in
     let args = c.args in
     let pre = c.requires in
     prolog-none args.text.now args.p.0 args.out.now args.at.0 pre.place (rw c.in_default.is at c.heading.ensures)
 
 pub version-requires : goal.version-requires
 version-requires c =
-    let u = c.u-1 in
-    let heading = c.heading in
     let args = c.args in
     let pre = c.requires in
     let a : Passed (λ x. parser.heading (drop args.p.0 args.text.now) ≡ x) args.text.now args.p.0 c.in-At.u.0 = rw
@@ -26,9 +23,6 @@ version-requires c =
 
 pub returns : goal.returns
 returns c =
-    let version = c.version in
-    let u = c.u-1 in
-    let heading = c.heading in
     let args = c.args in
     let a : Passed (λ x. parser.heading (drop args.p.0 args.text.now) ≡ x) args.text.now args.p.0 c.in-At.u.0 = rw
     c.in-At.is at c.heading.ensures in

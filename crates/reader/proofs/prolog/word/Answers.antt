@@ -16,19 +16,12 @@ overflow_cast-w c = omega (arith, c.type_inv.w c.loop-k.k)
 
 pub returns-then-peek-w : goal.returns-then-peek-w
 returns-then-peek-w c =
-    let peek = c.peek in
-    let loop-test = c.loop-k-test in
-    let loop = c.loop-k in
     let args = c.args in
     spelled-no args.w.now args.text.now args.p.0 c.loop-k.at.0 c.loop-k.k c.loop-k.invariant c.loop-k-test.true _ c.peek.ensures c.if-peek-w.true
 
 pub after-at-requires : goal.after-at-requires
 after-at-requires c =
-    let peek = c.peek in
-    let loop-test = c.loop-k-test in
-    let loop = c.loop-k in
     let args = c.args in
-    let good = c.well_formed in
     let l : get_or args.w.now c.loop-k.k 0 < 256 = omega (arith, c.type_inv.w c.loop-k.k) in
     omega (
       arith,
@@ -45,9 +38,6 @@ loop-k-smaller c = omega arith
 
 pub loop-k-preserved : goal.loop-k-preserved
 loop-k-preserved c =
-    let peek = c.peek in
-    let loop-test = c.loop-k-test in
-    let loop = c.loop-k in
     let args = c.args in
     let l : get_or args.w.now c.loop-k.k 0 < 256 = omega (arith, c.type_inv.w c.loop-k.k) in
     rw c.after-at.ensures
@@ -55,6 +45,5 @@ loop-k-preserved c =
 
 pub returns : goal.returns
 returns c =
-    let loop = c.loop-k in
     let args = c.args in
     spelled-end args.w.now args.text.now args.p.0 c.loop-k.at.0 c.loop-k.k c.loop-k.invariant c.loop-k-test.false

@@ -17,6 +17,4 @@ returns-then-c-eq-UNDERTIE c = rw c.if-c-eq-UNDERTIE.true
 
 pub returns : goal.returns
 returns c =
-    let if2 = c.if-c-eq-FULL_STOP in
-    let if1 = c.if-c-eq-HYPHEN in
     rw (ne_eqb _ _ c.if-c-eq-HYPHEN.false, ne_eqb _ _ c.if-c-eq-FULL_STOP.false, ne_eqb _ _ c.if-c-eq-MIDDLE_DOT.false, ne_eqb _ _ c.if-c-eq-UNDERTIE.false) (sym (or-false _))

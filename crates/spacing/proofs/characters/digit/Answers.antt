@@ -14,7 +14,4 @@ returns-then-between-2 c = rw (sym c.between.ensures ∙ c.if-between.false, sym
 pub returns : goal.returns
 unfolding digit
 returns c =
-    let between2 = c.between-2 in
-    let if1 = c.if-between in
-    let between = c.between in
     rw (sym c.between.ensures ∙ c.if-between.false, sym c.between-2.ensures ∙ c.if-between-2.false) c.between-3.ensures

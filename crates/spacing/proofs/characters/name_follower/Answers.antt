@@ -19,10 +19,6 @@ returns-then-connector c = rw (sym c.name_start.ensures ∙ c.if-name_start.fals
 pub returns-then-c-lt-PAST_ASCII : goal.returns-then-c-lt-PAST_ASCII
 unfolding namefollower
 returns-then-c-lt-PAST_ASCII c =
-    let if3 = c.if-connector in
-    let connector = c.connector in
-    let if2 = c.if-name_start in
-    let name-start = c.name_start in
     rw (
       sym c.name_start.ensures ∙ c.if-name_start.false,
       sym c.connector.ensures ∙ c.if-connector.false,
@@ -33,20 +29,11 @@ returns-then-c-lt-PAST_ASCII c =
 pub returns-then-in_class : goal.returns-then-in_class
 unfolding namefollower
 returns-then-in_class c =
-    let if3 = c.if-connector in
-    let connector = c.connector in
-    let if2 = c.if-name_start in
-    let name-start = c.name_start in
     rw (sym c.name_start.ensures ∙ c.if-name_start.false, sym c.connector.ensures ∙ c.if-connector.false, is-nd _ c.in_class.ensures ∙ c.if-in_class.true)
 
 pub returns : goal.returns
 unfolding namefollower
 returns c =
-    let in-class = c.in_class in
-    let if3 = c.if-connector in
-    let connector = c.connector in
-    let if2 = c.if-name_start in
-    let name-start = c.name_start in
     rw (
       sym c.name_start.ensures ∙ c.if-name_start.false,
       sym c.connector.ensures ∙ c.if-connector.false,

@@ -27,6 +27,4 @@ returns-then-c-eq-LINE_FEED c = rw (is-zs _ c.in_class.ensures ∙ c.if-in_class
 pub returns : goal.returns
 unfolding whitespace
 returns c =
-    let if3 = c.if-in_class in
-    let in-class = c.in_class in
     rw (is-zs _ c.in_class.ensures ∙ c.if-in_class.false, ne_eqb _ _ c.if-c-eq-TAB.false, ne_eqb _ _ c.if-c-eq-LINE_FEED.false)
