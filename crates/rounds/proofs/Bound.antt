@@ -117,6 +117,7 @@ by_cases g r (d-node {c = c} {a = a} la d d-end) leaves nodes = nodes c a la d
 abbrev without : {A : Type 0} {x : A} (xs : List A) → In x xs → List A
 without (y ∷ xs) (in_head e) = xs
 without (y ∷ xs) (in_Tail m) = y ∷ without xs m
+without {A = A} [] x'' = elim x'' [ ]
 
 without-length : {A : Type 0} {x : A} (xs : List A) (m : In x xs) → length xs ≡ suc (length (without xs m))
 without-length (y ∷ xs) (in_head e) = refl
