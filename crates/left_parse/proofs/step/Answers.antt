@@ -48,10 +48,10 @@ pub leave-requires : goal.leave-requires
 leave-requires c =
     let G = c.requires.by_index.3 in
     let k = five c.kind_at-k.result _ c.kind_at-k.ensures c.if-k-lt-ALTERNATIVE_END.false in
-    leaves-fit G k (positive c.args.h.inner (λ z. c.requires.0 (k, z)))
+    leaves-fit G k (positive c.args.h.inner (λ z. c.requires.fact (k, z)))
 
 pub returns : goal.returns
 returns c =
     let G = c.requires.by_index.3 in
     let k = five c.kind_at-k.result _ c.kind_at-k.ensures c.if-k-lt-ALTERNATIVE_END.false in
-    stepped-leave G k (positive c.args.h.inner (λ z. c.requires.0 (k, z))) c.leave.ensures
+    stepped-leave G k (positive c.args.h.inner (λ z. c.requires.fact (k, z))) c.leave.ensures
