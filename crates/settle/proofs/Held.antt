@@ -157,4 +157,4 @@ module _ (c M F : List ℕ) (size n i j : ℕ) where
     pub put-above : {t : List ℕ} (e : ℕ) {p v : ℕ} {u Q : List ℕ} {r : Bool} → Offered c M F size n i j t p v → owner_at c p ≡ e + 1 → Lowered t (cell_at n e i j) v r u
         → r ≡ false → Queued size Q → Put c M F size n i j t Q u Q p v false
     put-above e o z (lowered l) b y = absurd (clash b refl)
-    put-above {t} {p = p} e o z (kept l) b y = put-none o (omega (arith, ap (λ (x : ℕ). cell_of n t x i j) (row_first c p e z))) y
+    put-above {t} e {p = p} o z (kept l) b y = put-none o (omega (arith, ap (λ (x : ℕ). cell_of n t x i j) (row_first c p e z))) y

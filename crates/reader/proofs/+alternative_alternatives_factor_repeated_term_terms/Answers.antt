@@ -82,20 +82,20 @@ alternatives-token-requires t c =
 
 pub alternatives-shape_of-out-in_default-token : goal.alternatives-shape_of-out-in_default-token
 alternatives-shape_of-out-in_default-token t c =
-    c.token.auto.out ∙ c.alternative.kept.1.1.1.0 ∙ c.loop-q.inv.same
+    c.token.auto.out ∙ c.alternative.auto.out ∙ c.loop-q.invariant.same
 
 pub alternatives-returns-in_default-token : goal.alternatives-returns-in_default-token
 alternatives-returns-in_default-token t c =
     let args = c.args in
-    loop-fail c.loop-q.inv
-    (alts-no-space args.text.now c.loop-q.from.0 args.d c.loop-q.out c.loop-q.to.0 c.alternative.last.1.1.1.0 c.in-At.q.0
+    loop-fail c.loop-q.invariant
+    (alts-no-space args.text.now c.loop-q.from.0 args.d c.loop-q.out c.loop-q.to.0 c.alternative.new.out c.in-At.q.0
     c.in-At.b.0 (rw c.in-At.is at c.alternative.ensures)
     (tested c.peek.ensures bar (sym c.bar.ensures ∙ c.if-not-bar.false)) (rw c.in_default-token.is at c.token.ensures))
 
 pub alternatives-loop-q-smaller : goal.alternatives-loop-q-smaller
 alternatives-loop-q-smaller t c =
     let args = c.args in
-    alts-less args.text.now c.loop-q.from.0 args.d c.loop-q.out c.loop-q.to.0 c.alternative.last.1.1.1.0 c.in-At.q.0
+    alts-less args.text.now c.loop-q.from.0 args.d c.loop-q.out c.loop-q.to.0 c.alternative.new.out c.in-At.q.0
     c.in-At.b.0 (rw c.in-At.is at c.alternative.ensures)
     (tested c.peek.ensures bar (sym c.bar.ensures ∙ c.if-not-bar.false)) c.token.new.out c.in-At-token.w.0
     c.in-At-token.e.0 (rw c.in-At-token.is at c.token.ensures)
@@ -103,10 +103,10 @@ alternatives-loop-q-smaller t c =
 pub alternatives-loop-q-preserved : goal.alternatives-loop-q-preserved
 alternatives-loop-q-preserved t c =
     let args = c.args in
-    alts-again args.text.now c.loop-q.from.0 args.d c.loop-q.out c.loop-q.to.0 c.alternative.last.1.1.1.0 c.in-At.q.0
+    alts-again args.text.now c.loop-q.from.0 args.d c.loop-q.out c.loop-q.to.0 c.alternative.new.out c.in-At.q.0
     c.in-At.b.0 (rw c.in-At.is at c.alternative.ensures)
     (tested c.peek.ensures bar (sym c.bar.ensures ∙ c.if-not-bar.false)) c.token.new.out c.in-At-token.w.0
-    c.in-At-token.e.0 (rw c.in-At-token.is at c.token.ensures) c.loop-q.inv c.alternative.kept.1.1.1.0 c.token.auto.out
+    c.in-At-token.e.0 (rw c.in-At-token.is at c.token.ensures) c.loop-q.invariant c.alternative.auto.out c.token.auto.out
 
 pub factor-plain_factor-requires : goal.factor-plain_factor-requires
 factor-plain_factor-requires t c =
@@ -174,8 +174,8 @@ factor-shape_of-out-then-peek-ne-CLOSE_ROUND t c =
 pub factor-returns-then-peek-ne-CLOSE_ROUND : goal.factor-returns-then-peek-ne-CLOSE_ROUND
 factor-returns-then-peek-ne-CLOSE_ROUND t c =
     let args = c.args in
-    factor-open args.text.now args.p.0 args.d args.out.now args.at.0 (is-ch c.peek.ensures 40 c.if-peek-ne-OPEN_ROUND.left) (args.d - 1)
-    (less_one args.d c.if-d-eq0.left) c.token.new.out c.in-At.w.0 c.in-At.e.0 (rw c.in-At.is at c.token.ensures)
+    factor-open args.text.now args.p.0 args.d args.out.now args.at.0 (is-ch c.peek.ensures 40 c.if-peek-ne-OPEN_ROUND.false) (args.d - 1)
+    (less_one args.d c.if-d-eq0.false) c.token.new.out c.in-At.w.0 c.in-At.e.0 (rw c.in-At.is at c.token.ensures)
     c.alternatives.new.out c.in-At-alternatives.q.0 c.in-At-alternatives.b.0 (rw c.in-At-alternatives.is at c.alternatives.ensures)
     (not-ch c.peek-2.ensures 41 c.if-peek-ne-CLOSE_ROUND.true)
 
@@ -193,13 +193,13 @@ factor-token-requires-2 t c =
 
 pub factor-shape_of-out : goal.factor-shape_of-out
 factor-shape_of-out t c =
-    c.token-2.auto.out ∙ c.alternatives.auto.out ∙ c.token.kept.1.1.1.0
+    c.token-2.auto.out ∙ c.alternatives.auto.out ∙ c.token.auto.out
 
 pub factor-returns : goal.factor-returns
 factor-returns t c =
     let args = c.args in
-    factor-shut args.text.now args.p.0 args.d args.out.now args.at.0 (is-ch c.peek.ensures 40 c.if-peek-ne-OPEN_ROUND.left) (args.d - 1)
-    (less_one args.d c.if-d-eq0.left) c.token.last.1.1.1.0 c.in-At.w.0 c.in-At.e.0 (rw c.in-At.is at c.token.ensures)
+    factor-shut args.text.now args.p.0 args.d args.out.now args.at.0 (is-ch c.peek.ensures 40 c.if-peek-ne-OPEN_ROUND.false) (args.d - 1)
+    (less_one args.d c.if-d-eq0.false) c.token.new.out c.in-At.w.0 c.in-At.e.0 (rw c.in-At.is at c.token.ensures)
     c.alternatives.new.out c.in-At-alternatives.q.0 c.in-At-alternatives.b.0 (rw c.in-At-alternatives.is at c.alternatives.ensures)
     (is-ch c.peek-2.ensures 41 c.if-peek-ne-CLOSE_ROUND.false) c.token-2.result c.token-2.new.out c.token-2.ensures
 
