@@ -25,7 +25,7 @@ loop-scratch-init c =
     let f : Found c.args.table.now c.args.root (get_or c.args.parse.now 0 0) c.alternative-item.result = rw c.look-a.ensures.0 at c.alternative-item.ensures in
     let B = begins c.requires.room c.requires.parsed.3 c.alternative-item.result f in
     let N = notes-of (get_or c.args.scratch.now 0 0) (get_or c.args.scratch.now 1 0) B.tree.children in
-    (refl, (N.list, 1 + length (left_parse B.tree.children), length c.requires.1.1, going-begin c.requires.0 B N), λ F e i G. G)
+    (refl, (N.list, 1 + length (left_parse B.tree.children), length c.requires.parsed.1, going-begin c.requires.room B N), λ F e i G. G)
 
 pub more-requires : goal.more-requires
 more-requires c = tt
