@@ -5,5 +5,5 @@
 mod files;
 mod output;
 
-pub use files::{Loaded, load};
+pub use files::{Loaded, is_given, load, open};
 pub use output::{show, show_long, show_unreadable};
