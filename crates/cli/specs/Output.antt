@@ -90,20 +90,18 @@ pub record Replies (p : Bool) (g : List ℕ) (q : Bool) (r : List ℕ) (new : Li
   pub fits : n ≤ length new
   pub written : Written p g q r (take n new)
 
--- the files that may stand behind what was opened to be read: one that cannot be read, where it could not be opened or a read failed; else one with
--- the reader's bytes, where these are known
-pub data Behind : Option (Option (List ℕ)) → File → Type 0 where
-  closed : Behind None unreadable
-  failing : {known : Option (List ℕ)} → Behind (Some known) unreadable
-  known : {bs : List ℕ} → Behind (Some (Some bs)) (bytes bs)
-  unknown : {bs : List ℕ} → Behind (Some None) (bytes bs)
+-- the files that may stand behind a reader: one that cannot be read, where a read fails; else one with the reader's bytes, where these are known
+pub data Behind : Option (List ℕ) → File → Type 0 where
+  fails : {known : Option (List ℕ)} → Behind known unreadable
+  known : {bs : List ℕ} → Behind (Some bs) (bytes bs)
+  unknown : {bs : List ℕ} → Behind None (bytes bs)
 
--- what is written for the two files that were opened is added to what the writer holds, where that is known
-pub record Answered (first second : Option (Option (List ℕ))) (old new : Option (List ℕ)) : Type 0 where
+-- what is written for the files behind two readers is added to what a writer holds, where that is known
+pub record Answered (first second : Option (List ℕ)) (old new : Option (List ℕ)) : Type 0 where
   pub grammar : File
   pub input : File
   pub text : Text
-  pub grammar_opened : Behind first grammar
-  pub input_opened : Behind second input
+  pub behind_first : Behind first grammar
+  pub behind_second : Behind second input
   pub writes : Writes grammar input text
   pub appended : Appends old new text

@@ -1,11 +1,11 @@
 // The files that arguments name, and the first bytes of one.
-ghost use Rattle.std.specs.Prelude.{◌≡◌, ◌≤◌, IfSome, IfNone, IsTrue, false, length, take};
+ghost use Rattle.std.specs.Prelude.{◌≡◌, ◌≤◌, IfSome, IsTrue, length, take};
 ghost use Rattle.cli.specs.Output.{Chunked, Fetched};
 
 use std::env::FillError;
-use std::fs;
-use std::io::Read;
+use std::io::{ErrorKind, Read};
 use std::rt::{Env, Files};
+use std::{fs, io};
 
 // More bytes than a path may have.
 const PATH_BYTES: usize = 4096;
@@ -30,17 +30,48 @@ pub fn is_given(rt: &impl Env, i: usize) -> bool {
     !matches!(rt.arg(i, &mut []), Err(FillError::NotPresent))
 }
 
-// The file that argument i names, opened to be read, if it can be. A name is text: one that is no
-// UTF-8 names none.
-pub fn open<H: Env + Files>(rt: &H, i: usize) -> Option<H::File> {
+// The file that an argument names. It is opened where it is first read.
+#[derive(Drop)]
+pub struct NamedFile<'a, H: Env + Files> {
+    host: &'a H,
+    index: usize,
+    file: Option<H::File>,
+}
+
+// The file that argument i names.
+pub fn named<H: Env + Files>(host: &H, i: usize) -> NamedFile<'_, H> {
+    NamedFile {
+        host,
+        index: i,
+        file: None,
+    }
+}
+
+// Opens the file that argument i names. A name is text: one that is no UTF-8 names none.
+fn open<H: Env + Files>(host: &H, i: usize) -> io::Result<H::File> {
     let mut path = [0u8; PATH_BYTES];
-    let Ok(n) = rt.arg(i, &mut path) else {
-        return None;
+    let Ok(n) = host.arg(i, &mut path) else {
+        return Err(io::Error::from(ErrorKind::NotFound));
     };
     let Ok(name) = str::from_utf8(&path[..n]) else {
-        return None;
+        return Err(io::Error::from(ErrorKind::InvalidInput));
     };
-    fs::open(rt, name).ok()
+    fs::open(host, name)
+}
+
+// A file that cannot be opened fails at each read.
+impl<H: Env + Files> Read for NamedFile<'_, H> {
+    fn read(&mut self, buf: &mut [u8]) -> io::Result<usize> {
+        match &mut self.file {
+            Some(file) => file.read(buf),
+            None => {
+                let mut file = open(self.host, self.index)?;
+                let got = file.read(buf);
+                self.file = Some(file);
+                got
+            }
+        }
+    }
 }
 
 // Reads once, into the buffer from a place on; what stands before it is kept.
@@ -86,18 +117,11 @@ fn fill<R: Read>(reader: &mut R, buf: &mut [u8]) -> Loaded
     }
 }
 
-// The first bytes of a file, as many as the buffer takes. A file that could not be opened has none.
-pub fn load<R: Read + Drop>(file: Option<R>, buf: &mut [u8]) -> Loaded
+// The first bytes of a file, as many as the buffer takes; then it is closed.
+pub fn load<R: Read + Drop>(mut file: R, buf: &mut [u8]) -> Loaded
     ensures bound { result.count ≤ length buf.new }
     ensures count { result.count ≡ length (take result.count buf.new) }
-    ensures known { IfSome file (λ r. IfSome (R.remaining r) (λ bs. IsTrue result.readable → take result.count buf.new ≡ take (length buf.old) bs)) }
-    ensures shut { IfNone file (result.readable ≡ false) }
+    ensures known { IfSome (R.remaining file) (λ bs. IsTrue result.readable → take result.count buf.new ≡ take (length buf.old) bs) }
 {
-    match file {
-        Some(mut reader) => fill(&mut reader, buf),
-        None => Loaded {
-            readable: false,
-            count: 0,
-        },
-    }
+    fill(&mut file, buf)
 }

@@ -17,8 +17,8 @@ const SECOND: usize = 1 + PAIR;
 fn run(rt: &(impl Env + Files + Print), at: usize) -> io::Result<()>
     requires { at + 1 < 18446744073709551616 }
 {
-    let grammar = cli::open(rt, at);
-    let input = cli::open(rt, at + 1);
+    let grammar = cli::named(rt, at);
+    let input = cli::named(rt, at + 1);
     replies::answer(grammar, input, &mut io::writer(rt))
 }
 

@@ -1,8 +1,7 @@
 // What the program writes for two files: the answer to the job that they are, or why there is none.
 #![tactic(auto)]
 
-ghost use Rattle.std.specs.Prelude.{◌≡◌, OnOk};
-ghost use Rattle.core.specs.Option.{option_map};
+ghost use Rattle.std.specs.Prelude.{OnOk};
 ghost use Rattle.cli.specs.Output.{Holds, job_text, Replies, Answered};
 
 use calls::ixml_convert;
@@ -50,19 +49,19 @@ pub fn reply(
     convert(grammar, input, out)
 }
 
-// Reads the files of a job, each where it could be opened, and writes what there is to say of them. The only
-// errors are the writer's, which may then have taken a part of it.
+// Reads the files of a job, one after the other, and writes what there is to say of them. The only errors are
+// the writer's, which may then have taken a part of it.
 pub fn answer<G: Read + Drop, R: Read + Drop, W: Write>(
-    grammar: Option<G>,
-    input: Option<R>,
+    grammar: G,
+    input: R,
     writer: &mut W,
 ) -> io::Result<()>
-    ensures { OnOk result (Answered (option_map G.remaining grammar) (option_map R.remaining input)
+    ensures { OnOk result (Answered (G.remaining grammar) (R.remaining input)
         (W.contents writer.old) (W.contents writer.new)) }
 {
     let mut shown = [0u8; SEEN_BYTES];
-    let first = cli::load(grammar, &mut shown);
     let mut read = [0u8; SEEN_BYTES];
+    let first = cli::load(grammar, &mut shown);
     let second = cli::load(input, &mut read);
     let mut out = [0u8; WRITTEN_BYTES];
     let n = reply(
