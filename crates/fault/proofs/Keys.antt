@@ -152,10 +152,10 @@ module _ {Tb c K L : List ℕ} {size : ℕ} (s : Tokened Tb c size) (k : Keyed T
 
   listed-is : {b e x v : ℕ} → b ≤ size → LastUse K e b x → Listed L x v → (v < b) × (next_kind K v ≡ 2) × (rule_at K v ≡ e)
   listed-is h l (l-here {u = v} z) = let i = l.is v z in (omega (arith, l.below), i.0, i.1)
-  listed-is {e = e} h l (l-next {u = q} v z r) =
+  listed-is {b = b} {e = e} h l (l-next {x = x} {u = q} v z r) =
       let i = l.is v z in
       let n = subst (λ (d : ℕ). LastUse K d v (get_or L (2 * v + 1) 0)) i.1 (u.next v (omega (arith, l.below)) i.0) in
-      let w = listed-is (omega (arith, l.below)) n r in
+      let w = listed-is {b = v} (omega (arith, l.below)) n r in
       (omega (arith, w.0, l.below), w.1, w.2)
 
   pub firsts-of : Firsts Tb c size L

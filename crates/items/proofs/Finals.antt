@@ -126,7 +126,9 @@ first-begins (l-rule {x = x} {r = r} {rs = rs} {xs = xs} w l) n e = go (λ t. fi
     go : (any (same n) (concat_map (λ r. r.name ∷ []) rs) ≡ true → RuleBegins (first_for rs xs n) (nonterminal unmarked n) rs xs)
         → (b : Bool) → same n r.name ≡ b → RuleBegins (first_for (r ∷ rs) (x ∷ xs) n) (nonterminal unmarked n) (r ∷ rs) (x ∷ xs)
     go ih true p = inl (rw p, ap (nonterminal unmarked) (sym (same-is n r.name (is_t p))))
-    go ih false p = inr (rw p (ih (rw p at e)))
+    go ih false p =
+        let q : first_for (r ∷ rs) (x ∷ xs) n ≡ first_for rs xs n = rw p refl in
+        inr (subst (λ (y : ℕ). RuleBegins y (nonterminal unmarked n) rs xs) (sym q) (ih (rw p at e)))
 
 first-clean : (F : List ℕ) (rs : List Rule) (xs : List ℕ) (n : Text) → Cleans F 0 xs → Clean F 0 (first_for rs xs n)
 first-clean F [] xs n c = (omega arith, λ y e h. absurd (omega arith))

@@ -134,7 +134,7 @@ pub fn begin_list(
 ) -> Begun
     requires numbers_bound { numbers < 4611686018427387904 }
     requires table_len { (length table.old ≡ grammar_table) × (length text.old ≡ record_chars) }
-    ensures* { λ r. ⌜ BeginsBy (λ g r. 2 * numbers) (job grammar.now «record».now scratch second) table.new text.new r ⌝ }
+    ensures { BeginsBy (λ g r. 2 * numbers) (job grammar.now «record».now scratch second) table.new text.new result }
 {
     let opened = open_job(grammar, record, table, text);
     lend(opened, scratch, NOTE_COLUMNS * numbers, second)

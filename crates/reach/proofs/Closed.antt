@@ -42,7 +42,7 @@ module _ {c : List ℕ} {dots : List (List Symbol)} {e : ℕ} where
   alternative-of zero (ch-last {q} h o l z) n = record { dot = q; inside = h; owner = o; is = refl; home = home-first c q e o }
   alternative-of (suc a) (ch-last h o l z) n = absurd (omega arith)
   alternative-of zero (ch-next {q} h o z r) n = record { dot = q; inside = h; owner = o; is = refl; home = home-first c q e o }
-  alternative-of (suc a) (ch-next h o z r) n = alternative-of a r (omega arith)
+  alternative-of {q = q} (suc a) (ch-next {m = m} {ts = ts} h o z r) n = alternative-of {q = m} a r (omega arith)
 
 cons_head : {A : Type 0} {x y : A} {xs ys : List A} → x ∷ xs ≡ y ∷ ys → x ≡ y
 cons_head e = cc

@@ -273,7 +273,7 @@ module _ {K : List ℕ} {size : ℕ} {L : List ℕ} (u : Uses K size size L) whe
   falls {e = e} s l (l-here {u = v} z) = let i = l.is v z in (u.next v (omega (arith, l.below)) i.0).below
   falls {b} {e} s l (l-next v z r) =
       let i = l.is v z in
-      falls (omega (arith, l.below)) (subst (λ (d : ℕ). LastUse K d v (get_or L (2 * v + 1) 0)) i.1 (u.next v (omega (arith, l.below)) i.0)) r
+      falls {b = v} (omega (arith, l.below)) (subst (λ (d : ℕ). LastUse K d v (get_or L (2 * v + 1) 0)) i.1 (u.next v (omega (arith, l.below)) i.0)) r
 
   pub members : {c : List ℕ} {w : ℕ} → 2 * size ≤ length L → Keyed c size w K → Members c w size L
   members {c} {w} m k = record {

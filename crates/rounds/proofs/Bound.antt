@@ -117,16 +117,19 @@ by_cases g r (d-node {c = c} {a = a} la d d-end) leaves nodes = nodes c a la d
 abbrev without : {A : Type 0} {x : A} (xs : List A) → In x xs → List A
 without (y ∷ xs) (in_head e) = xs
 without (y ∷ xs) (in_Tail m) = y ∷ without xs m
+without {A = A} [] x'' = elim x'' [ ]
 
 without-length : {A : Type 0} {x : A} (xs : List A) (m : In x xs) → length xs ≡ suc (length (without xs m))
 without-length (y ∷ xs) (in_head e) = refl
 without-length (y ∷ xs) (in_Tail m) = omega (arith, without-length xs m)
+without-length {A = A} [] m = elim m [ ]
 
 other-in : {A : Type 0} {x z : A} (xs : List A) (m : In x xs) → In z xs → (z ≡ x) ⊎ In z (without xs m)
 other-in (y ∷ xs) (in_head e) (in_head o) = inl (o ∙ sym e)
 other-in (y ∷ xs) (in_head e) (in_Tail o) = inr o
 other-in (y ∷ xs) (in_Tail m) (in_head o) = inr (in_head o)
 other-in (y ∷ xs) (in_Tail m) (in_Tail o) = ⊎_elim inl (λ w. inr (in_Tail w)) (other-in xs m o)
+other-in {A = A} {z = z} [] m _ = elim m [ ]
 
 module _ (g : Grammar) (r : Text) (all : AllStand g (ruled g)) where
   -- the rounds are enough, where the rules that are written and made stand for all symbols

@@ -30,6 +30,7 @@ use Rattle.rules.specs.Ready.{Ready}
 none_in : {A : Type 0} (f : A → Bool) (xs : List A) {x : A} → any f xs ≡ false → In x xs → f x ≡ false
 none_in f (y ∷ ys) e (in_head q) = ap f q ∙ T_false (f y) (λ t. not_t e (or_left (f y) (any f ys) t))
 none_in f (y ∷ ys) e (in_Tail m) = none_in f ys (T_false (any f ys) (λ t. not_t e (or_right (f y) (any f ys) t))) m
+none_in {A = A} f [] e x4 = elim x4 [ ]
 
 -- the terminals among symbols have proper ranges
 abbrev ProperAll : List Symbol → Type 0

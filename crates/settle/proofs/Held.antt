@@ -144,17 +144,17 @@ module _ (c M F : List ℕ) (size n i j : ℕ) where
     }
 
     -- by what lowering the row says
-    pub put-own : {t u Q : List ℕ} {p v : ℕ} {r : Bool} → Offered c M F size n i j t p v → owner_at c p ≡ 0 → Lowered t (cell_at n p i j) v r u → Queued size Q
+    pub put-own : {t : List ℕ} {p v : ℕ} {u Q : List ℕ} {r : Bool} → Offered c M F size n i j t p v → owner_at c p ≡ 0 → Lowered t (cell_at n p i j) v r u → Queued size Q
         → Put c M F size n i j t Q u Q p v r
     put-own o z (lowered l) y = put-dot o z l y
     put-own {t} {p = p} o z (kept l) y = put-none o (omega (arith, ap (λ (x : ℕ). cell_of n t x i j) (row-inner c p z))) y
 
-    pub put-owner : {t u Q R : List ℕ} {p v : ℕ} {r : Bool} (e : ℕ) → Offered c M F size n i j t p v → owner_at c p ≡ e + 1 → Lowered t (cell_at n e i j) v r u
+    pub put-owner : {t : List ℕ} (e : ℕ) {p v : ℕ} {u Q R : List ℕ} {r : Bool} → Offered c M F size n i j t p v → owner_at c p ≡ e + 1 → Lowered t (cell_at n e i j) v r u
         → r ≡ true → Enqueued size Q R e → Put c M F size n i j t Q u R p v false
     put-owner e o z (lowered l) b y = put-rule e o z l y
     put-owner e o z (kept l) b y = absurd (clash refl b)
 
-    pub put-above : {t u Q : List ℕ} {p v : ℕ} {r : Bool} (e : ℕ) → Offered c M F size n i j t p v → owner_at c p ≡ e + 1 → Lowered t (cell_at n e i j) v r u
+    pub put-above : {t : List ℕ} (e : ℕ) {p v : ℕ} {u Q : List ℕ} {r : Bool} → Offered c M F size n i j t p v → owner_at c p ≡ e + 1 → Lowered t (cell_at n e i j) v r u
         → r ≡ false → Queued size Q → Put c M F size n i j t Q u Q p v false
     put-above e o z (lowered l) b y = absurd (clash b refl)
-    put-above {t} {p = p} e o z (kept l) b y = put-none o (omega (arith, ap (λ (x : ℕ). cell_of n t x i j) (row_first c p e z))) y
+    put-above {t} e {p = p} o z (kept l) b y = put-none o (omega (arith, ap (λ (x : ℕ). cell_of n t x i j) (row_first c p e z))) y

@@ -96,7 +96,7 @@ abbrev pub Searched : List ℕ → List ℕ → ℕ → ℕ → ℕ → Type 0
 Searched T seen count token i = (k : ℕ) (n : Text) (ns : List Text) → Named T token k n → Listed T seen ns → length ns ≡ count
     → (ms : List Text) × (length ms ≡ i) × Listed T seen ms × (any (same n) ns ≡ any (same n) ms)
 
-module _ {T seen : List ℕ} {count token : ℕ} where
+module _ (T seen : List ℕ) (count token : ℕ) where
   pub searched-begin : Searched T seen count token count
   searched-begin k n ns N L e = (ns, e, L, refl)
 

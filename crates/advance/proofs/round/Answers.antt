@@ -61,4 +61,4 @@ returns c =
     (omega (arith, c.requires.small, c.prepare.auto.code)) c.requires.short
     (omega (arith, c.requires.small, c.prepare.auto.fits)) c.count_rules.result c.count_rules.ensures.0
     c.count_rules.ensures.1 c.args.done c.args.main.now _ _
-    c.requires.room (λ x. most-by (c.type_inv.main x)) (omega (arith, c.if-most-done.false)) c.advance.ensures
+    c.requires.room (λ x. most-by (c.slice_known-1.given x)) (omega (arith, c.if-most-done.false)) c.advance.ensures

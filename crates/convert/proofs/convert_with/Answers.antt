@@ -5,7 +5,7 @@ use Rattle.convert.proofs.convert_with.Goals as goal
 
 pub note-requires : goal.note-requires
 note-requires c =
-    (room c.requires.0 c.requires.1, parsed-some c.requires.0)
+    record { room = room c.requires.0 c.requires.1; parsed = parsed-some c.requires.0 }
 
 pub conclude-requires : goal.conclude-requires
 conclude-requires c =

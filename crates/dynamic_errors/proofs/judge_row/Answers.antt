@@ -6,7 +6,7 @@ use Rattle.dynamic_errors.proofs.judge_row.Goals as goal
 
 pub twice_in-twice-requires : goal.twice_in-twice-requires
 twice_in-twice-requires c =
-    (attributed-later c.found_in-found.ensures, (c.args.«record».now, standing-again c.found_in-found.ensures.told.kept c.requires.1))
+    record { attributed = attributed-later c.found_in-found.ensures; some_row = (c.args.«record».now, standing-again c.found_in-found.ensures.told.kept c.requires.1) }
 
 pub not_one_in-beside-requires : goal.not_one_in-beside-requires
 not_one_in-beside-requires c =

@@ -9,7 +9,7 @@ returns-then-deleted c =
 
 pub repeats_attribute-again-requires : goal.repeats_attribute-again-requires
 repeats_attribute-again-requires c =
-    (search rules, (_, standing-again c.twice_within-within.ensures.kept c.requires.1))
+    record { name_tokens_in_bounds = search rules; some_row = (_, standing-again c.twice_within-within.ensures.kept c.requires.1) }
 
 pub returns : goal.returns
 returns c =

@@ -4,4 +4,4 @@ use Rattle.dynamic_errors.proofs.twice_in.Goals as goal
 
 pub returns : goal.returns
 returns c =
-    twice-bare c.args.deleted c.requires.0 c.if-attributed.false
+    twice-bare c.args.deleted c.requires.attributed c.if-attributed.false

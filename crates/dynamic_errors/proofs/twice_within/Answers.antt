@@ -38,7 +38,7 @@ repeats_in-requires c =
     let N = c.next-event.ensures in
     let e = c.in-Open.is in
     let i = c.loop-n.invariant in
-    (omega (arith, c.requires.0, i.1), ((open_is N e).is, (_, open-node (Hunt _) i.2 N e (row-some c.requires.1.1))))
+    record { name_tokens_in_bounds = omega (arith, c.requires.0, i.1); item_value = ((open_is N e).is, (_, open-node (Hunt _) i.2 N e (row-some c.requires.1.1))) }
 
 pub enter-at-requires : goal.enter-at-requires
 enter-at-requires c =

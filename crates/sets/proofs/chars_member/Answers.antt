@@ -36,7 +36,7 @@ pub range_rest-requires : goal.range_rest-requires
 range_rest-requires c =
     let args = c.args in
     let pre = c.requires in (
-      rest-room args.text.now args.p.0 _ _ pre.0 pre.1 _ c.chars-c.kept.1.1.0 c.chars-c.result c.chars-c.ensures _
+      rest-room args.text.now args.p.0 _ _ pre.0 pre.1 _ c.chars-c.auto.out c.chars-c.result c.chars-c.ensures _
           (rw c.in-At.is at c.past_chars.ensures) (is-ch c.peek.ensures 0x2d c.if-peek-eq-HYPHEN.true)
           (seen-in _ _ _ 0x2d c.peek.ensures c.if-peek-eq-HYPHEN.true (omega arith)) _ _ _ (rw c.in-At-range_head.is at c.range_head.ensures)
           c.range_head.auto.out,
@@ -47,7 +47,7 @@ pub returns-then-peek-eq-HYPHEN : goal.returns-then-peek-eq-HYPHEN
 returns-then-peek-eq-HYPHEN c =
     let args = c.args in
     let pre = c.requires in
-    range-member args.text.now args.p.0 _ _ pre.0 pre.1 _ c.chars-c.kept.1.1.0 c.chars-c.result c.chars-c.ensures _
+    range-member args.text.now args.p.0 _ _ pre.0 pre.1 _ c.chars-c.auto.out c.chars-c.result c.chars-c.ensures _
     (rw c.in-At.is at c.past_chars.ensures) (is-ch c.peek.ensures 0x2d c.if-peek-eq-HYPHEN.true)
     (seen-in _ _ _ 0x2d c.peek.ensures c.if-peek-eq-HYPHEN.true (omega arith)) _ _ _ (rw c.in-At-range_head.is at c.range_head.ensures) c.range_rest.result _
     c.range_rest.ensures

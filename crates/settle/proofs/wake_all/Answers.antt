@@ -94,7 +94,7 @@ wake-requires c =
       },
       subst (Wakes a.code.now a.marks.now s.size s.j.0) (sym c.wide-dot.ensures) e,
       ap (λ (z : ℕ). get_or c.loop-k.main z 0) c.cell-y.ensures,
-      omega (arith, c.if-height.true, c.type_inv.main c.cell-y.result),
+      omega (arith, c.if-height.true, c.slice_known-in-loop-k-1.given c.cell-y.result),
     )
 
 pub loop-k-smaller-then-height : goal.loop-k-smaller-then-height

@@ -41,14 +41,11 @@ loop-n-preserved-in-Text c =
 
 pub put_open-o-requires : goal.put_open-o-requires
 put_open-o-requires c =
-    let N = open_is c.next-event.ensures c.in-Open.is in (
-      room-left c.loop-n.invariant.2 c.requires.0 c.loop-n.invariant.1,
-      (
+    let N = open_is c.next-event.ensures c.in-Open.is in record { limit_in_bounds = room-left c.loop-n.invariant.2 c.requires.0 c.loop-n.invariant.1; item_value = (
         N.is,
         open-node (Owing _ _ _ _ _) c.loop-n.invariant.3 c.next-event.ensures c.in-Open.is
             (row-some c.requires.1),
-      ),
-    )
+      ) }
 
 pub enter-at-requires : goal.enter-at-requires
 enter-at-requires c =

@@ -10,7 +10,7 @@ use Rattle.writer.proofs.write_fitting.Goals as goal
 pub put_document-n-requires : goal.put_document-n-requires
 put_document-n-requires c =
     let l = ap (λ (o : Output). o.limit.0) c.fresh-all.ensures in
-    ((omega (arith, l), ap (λ (o : Output). o.unclosed) c.fresh-all.ensures), c.requires.1)
+    record { limit_in_bounds = (omega (arith, l), ap (λ (o : Output). o.unclosed) c.fresh-all.ensures); room = c.requires.room }
 
 pub returns : goal.returns
 returns c =
@@ -19,5 +19,5 @@ returns c =
           let a = c.args in
           all-written c.put_document-n.result.0 c.put_document-n.new.out a.out.now
           (bytes a.plan.due.ambiguous a.plan.due.mismatch (document g a.«record».now t))
-          (document-fits a.plan W C c.requires.0) (documented c.fresh-all.ensures c.put_document-n.ensures J W C);
+          (document-fits a.plan W C c.requires.fits) (documented c.fresh-all.ensures c.put_document-n.ensures J W C);
     }

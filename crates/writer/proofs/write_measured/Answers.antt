@@ -10,7 +10,7 @@ use Rattle.writer.proofs.write_measured.Goals as goal
 pub put_document-m-requires : goal.put_document-m-requires
 put_document-m-requires c =
     let l = ap (λ (o : Output). o.limit.0) c.fresh-dry.ensures in
-    ((omega (arith, l), ap (λ (o : Output). o.unclosed) c.fresh-dry.ensures), c.requires)
+    record { limit_in_bounds = (omega (arith, l), ap (λ (o : Output). o.unclosed) c.fresh-dry.ensures); room = c.requires }
 
 pub returns-then-m-room : goal.returns-then-m-room
 returns-then-m-room c =
@@ -26,7 +26,7 @@ pub put_document-n-requires : goal.put_document-n-requires
 put_document-n-requires c =
     let k = c.put_document-m.ensures.kept in
     let l = ap (λ (o : Output). o.limit.0) c.fresh-wet.ensures in
-    ((omega (arith, l), ap (λ (o : Output). o.unclosed) c.fresh-wet.ensures), (room-again k c.requires.0, job-again k c.requires.1))
+    record { limit_in_bounds = (omega (arith, l), ap (λ (o : Output). o.unclosed) c.fresh-wet.ensures); room = (room-again k c.requires.0, job-again k c.requires.1) }
 
 pub returns : goal.returns
 returns c =

@@ -5,7 +5,7 @@ use Rattle.xml_shape.proofs.Laws.{Searched, searched-begin, searched-hit, search
 use Rattle.xml_shape.proofs.is_seen.Goals as goal
 
 pub loop-i-init : goal.loop-i-init
-loop-i-init c = searched-begin
+loop-i-init c = searched-begin c.args.table.now c.args.seen.now c.args.count c.args.token
 
 pub overflow_sub-i : goal.overflow_sub-i
 overflow_sub-i c = omega (arith, c.loop-i-test.true)
@@ -19,7 +19,7 @@ same_if_named-requires c = tt
 pub returns-then-same_if_named : goal.returns-then-same_if_named
 returns-then-same_if_named c =
     record {
-      is = searched-hit c.loop-i.i c.loop-i-test.true c.loop-i.invariant c.look-other.result
+      is = searched-hit c.args.table.now c.args.seen.now c.args.count c.args.token c.loop-i.i c.loop-i-test.true c.loop-i.invariant c.look-other.result
           c.look-other.ensures.0 c.same_if_named.result
           (λ k l x y N M. c.same_if_named.ensures x y (named-holding N) (named-holding M)) c.if-same_if_named.true;
     }
@@ -29,9 +29,9 @@ loop-i-smaller c = omega (arith, c.loop-i-test.true)
 
 pub loop-i-preserved : goal.loop-i-preserved
 loop-i-preserved c =
-    searched-next c.loop-i.i c.loop-i-test.true c.loop-i.invariant c.look-other.result
+    searched-next c.args.table.now c.args.seen.now c.args.count c.args.token c.loop-i.i c.loop-i-test.true c.loop-i.invariant c.look-other.result
     c.look-other.ensures.0 c.same_if_named.result
     (λ k l x y N M. c.same_if_named.ensures x y (named-holding N) (named-holding M)) c.if-same_if_named.false
 
 pub returns : goal.returns
-returns c = record { is = searched-end c.loop-i.i (omega (arith, c.loop-i-test.false)) c.loop-i.invariant }
+returns c = record { is = searched-end c.args.table.now c.args.seen.now c.args.count c.args.token c.loop-i.i (omega (arith, c.loop-i-test.false)) c.loop-i.invariant }

@@ -20,11 +20,11 @@ pub loop-n-init : goal.loop-n-init
 loop-n-init c = (refl, refl, omega arith, reached-begin (Tally _ _ _ _) (λ r k. tally-begin))
 
 pub next-event-requires : goal.next-event-requires
-next-event-requires c = reached-some (Tally _ _ _ _) c.loop-n.invariant.3 (row-some c.requires.1.1)
+next-event-requires c = reached-some (Tally _ _ _ _) c.loop-n.invariant.3 (row-some c.requires.some_row.1)
 
 pub skip-at-requires : goal.skip-at-requires
 skip-at-requires c =
-    text-stands (Tally _ _ _ _) c.loop-n.invariant.3 c.next-event.ensures c.in-Text.is (row-some c.requires.1.1)
+    text-stands (Tally _ _ _ _) c.loop-n.invariant.3 c.next-event.ensures c.in-Text.is (row-some c.requires.some_row.1)
 
 pub loop-n-smaller-in-Text : goal.loop-n-smaller-in-Text
 loop-n-smaller-in-Text c = omega (arith, c.skip-at.ensures.falls, (text-is c.next-event.ensures c.in-Text.is).near)
@@ -43,7 +43,7 @@ loop-n-preserved-in-Text c =
 
 pub past-at-requires : goal.past-at-requires
 past-at-requires c =
-    (_, open-node (Tally _ _ _ _) c.loop-n.invariant.3 c.next-event.ensures c.in-Open.is (row-some c.requires.1.1))
+    (_, open-node (Tally _ _ _ _) c.loop-n.invariant.3 c.next-event.ensures c.in-Open.is (row-some c.requires.some_row.1))
 
 pub loop-n-smaller-in-Open : goal.loop-n-smaller-in-Open
 loop-n-smaller-in-Open c =
@@ -76,7 +76,7 @@ names_on-count-requires c =
 
 pub past-at-requires-in-Attribute : goal.past-at-requires-in-Attribute
 past-at-requires-in-Attribute c =
-    (_, attribute-node (Tally _ _ _ _) c.loop-n.invariant.3 c.next-event.ensures c.in-Attribute.is (row-some c.requires.1.1))
+    (_, attribute-node (Tally _ _ _ _) c.loop-n.invariant.3 c.next-event.ensures c.in-Attribute.is (row-some c.requires.some_row.1))
 
 pub loop-n-smaller-in-Attribute : goal.loop-n-smaller-in-Attribute
 loop-n-smaller-in-Attribute c =
@@ -91,7 +91,7 @@ loop-n-preserved-in-Attribute c =
       omega (arith, i.2, names-at-most c.either-twice.result c.loop-n.count c.names_on-count.ensures, A.later, c.past-at-in-Attribute.ensures.later),
       attribute-past (Tally _ _ _ _) i.3 c.next-event.ensures c.in-Attribute.is c.past-at-in-Attribute.ensures (Tally _ _ _ _)
           (λ r k₀ k m n v N O. rw c.add_name.ensures.0
-          (tally-attribute _ m n v k N (omega (arith, i.1, c.requires.0)) c.add_name.ensures.1
+          (tally-attribute _ m n v k N (omega (arith, i.1, c.requires.name_tokens_in_bounds)) c.add_name.ensures.1
           c.either-twice.ensures c.names_on-count.ensures O)),
     )
 
@@ -116,5 +116,5 @@ shape_of-seen-in-End c = c.loop-n.invariant.1
 
 pub returns-in-End : goal.returns-in-End
 returns-in-End c =
-    judged repeated c.requires.1 (λ r S₀ x A. let m = on-end (Tally _ _ _ _) c.loop-n.invariant.3 c.next-event.ensures
+    judged repeated c.requires.some_row (λ r S₀ x A. let m = on-end (Tally _ _ _ _) c.loop-n.invariant.3 c.next-event.ensures
     c.in-End.is r S₀ (Rattle.cursor.specs.Rest.row x) A in (m.0, tally-end m.1))
