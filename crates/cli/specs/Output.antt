@@ -1,7 +1,7 @@
 -- What the program makes of two files: what it sees of each, and the bytes that it writes.
 use Rattle.std.specs.Prelude.{Bool, true, false, ◌≡◌, List, ◌++◌, ℕ, ◌+◌, ◌≤◌, ◌<◌, eqb, length, take, slice_range, replicate, None, Some}
 use Rattle.std.specs.Io.KnownBytes.{Consumes, Keeps, IsAtEnd, Appends}
-use Rattle.core.specs.declared.option.Option.{Option}
+use Rattle.std.specs.declared.option.Option.{Option}
 use Rattle.text.specs.Limits.{file_bytes, program_bytes}
 use Rattle.text.specs.Lists.{Text, chars, pick}
 use Rattle.answer.specs.Answer.{Answer}
