@@ -93,7 +93,7 @@ pub record Replies (p : Bool) (g : List ℕ) (q : Bool) (r : List ℕ) (new : Li
 -- the files that may stand behind a reader: one that cannot be read, where a read fails; else one with the reader's bytes, where these are known
 pub data Behind : Option (List ℕ) → File → Type 0 where
   fails : {known : Option (List ℕ)} → Behind known unreadable
-  known : {bs : List ℕ} → Behind (Some bs) (bytes bs)
+  has_bytes : {bs : List ℕ} → Behind (Some bs) (bytes bs)
   unknown : {bs : List ℕ} → Behind None (bytes bs)
 
 -- what is written for the files behind two readers is added to what a writer holds, where that is known
