@@ -2,7 +2,7 @@
 use mathlib.Core.Bool.{Bool, true, false}
 use mathlib.Core.Path.{◌≡◌, refl, sym, ap, ◌∙◌, subst}
 use mathlib.Core.Logic.{inr}
-use mathlib.Core.List.{List, [], ◌∷◌, ◌++◌}
+use mathlib.Core.List.{List, ◌++◌}
 use Prim.Native.Nat.{ℕ, ◌≤◌}
 use native.Mathlib.Omega.{arith}
 use lib.ListN.{length, take, drop, take-append-drop}
@@ -11,19 +11,17 @@ use Rattle.text.specs.Limits.{grammar_table, most_size}
 use Rattle.text.specs.Lists.{pick}
 use Rattle.text.specs.Stages.{diagnostic_of, plainly}
 use Rattle.text.specs.declared.Diagnostic.{Diagnostic}
-use Rattle.tree.specs.Tree.{Grammar, rules}
+use Rattle.tree.specs.Tree.{Grammar}
 use Rattle.tree.specs.Tokens.{grammar_tokens}
 use Rattle.plain.specs.Static.{undefined, duplicate, beyond, banned, backwards, unclassed}
 use Rattle.plain.specs.Plain.{size}
 use Rattle.derive.specs.Yield.{unproductive}
-use Rattle.tokens.specs.Proper.{ProperRules}
 use Rattle.items.specs.Items.{Reads}
 use Rattle.items.specs.Built.{Built}
 use Rattle.items.specs.Scanned.{Readable, Prepared}
 use Rattle.rules.specs.Ready.{Ready}
 use Rattle.rules.proofs.Sounds.{ready}
 use Rattle.static_errors.specs.Held.{static_of}
-use Rattle.answer.specs.Compute.{Test, test, first_of, grammar_tests}
 use Rattle.load.specs.declared.Passed.{Passed}
 use Rattle.load.specs.declared.Loaded.{Loaded}
 use Rattle.load.specs.declared.Loaded.TheVariants.{Grammar as Standing, Refused as Turned-down}
@@ -32,7 +30,6 @@ use Rattle.load.specs.Loaded.{Loads, Turned}
 use Rattle.load.specs.Loaded as load
 use Rattle.load.proofs.Proper.{grammar-proper}
 use Rattle.load.proofs.Stages.{to-size}
-use Rattle.accept.specs.declared.Rules.{Rules}
 use Rattle.accept.specs.Accepted.{Kept}
 
 -- no static rule is broken

@@ -1,20 +1,19 @@
 -- The table in the beginning, when a round adds nothing, and at the end.
-use mathlib.Core.Bool.{Bool, true, false}
+use mathlib.Core.Bool.{true, false}
 use mathlib.Core.Path.{◌≡◌, refl, sym, ap, subst, ◌∙◌}
-use mathlib.Core.Logic.{◌⊎◌, inl, inr}
 use mathlib.Core.List.{List, [], ◌∷◌, Memᴰ as In}
 use Prim.Native.Nat.{ℕ, suc, ◌+◌, ◌*◌, ◌<◌, ◌≤◌}
 use native.Mathlib.Decide.{dec_lt, ℕ_discrete}
 use native.Mathlib.Omega.{arith}
-use lib.ListN.{length, get_or}
+use lib.ListN.{length}
 use Rattle.text.specs.Lists.{Text}
 use Rattle.tree.specs.Tree.{Symbol, Grammar}
 use Rattle.plain.specs.Plain.{ruled}
 use Rattle.layout.specs.Layout.{layout, name_at}
-use Rattle.derive.specs.Derive.{Row, Derives, height}
+use Rattle.derive.specs.Derive.{Row, Derives}
 use Rattle.derive.proofs.Levels.{Low}
 use Rattle.derive.proofs.Symbols.{in-inside}
-use Rattle.chart.specs.Code.{next_kind, owner_at, after_dot, head_of, Coded}
+use Rattle.chart.specs.Code.{next_kind, after_dot, head_of, Coded}
 use Rattle.chart.specs.Heights.{stretches, cell_at, none, Clear}
 use Rattle.heights.specs.Table.{cell_of, Shape, Place}
 use Rattle.heights.specs.Filling.{Gives, by-terminal, by-split, by-owned, Closed}
@@ -24,7 +23,7 @@ use Rattle.heights.proofs.Exact.{shape, RuleLow, gives-sound}
 use Rattle.sweeps.specs.Layers.{Offer, Adds, added, same, Swept}
 use Rattle.sweeps.proofs.Rounds.{low, low-symbol, offered, offered-rule}
 use Rattle.sweeps.proofs.Ending.{clear-upto, closed_at}
-use Rattle.fixpoint.specs.Fixed.{Fixed, Fixpoint}
+use Rattle.fixpoint.specs.Fixed.{Fixpoint}
 use Rattle.rounds.specs.Rounds.{most_rounds, AllStand}
 use Rattle.rounds.specs.After.{rule_symbol, Within, Entered, TableSays, After, Idle}
 use Rattle.rounds.proofs.Bound.{enough, enough-rule}

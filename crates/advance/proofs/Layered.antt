@@ -10,17 +10,16 @@ use lib.Seq.{get_or-set_other}
 use Rattle.text.specs.Lists.{Text}
 use Rattle.tree.specs.Tree.{Symbol, Grammar}
 use Rattle.plain.specs.Plain as plain
-use Rattle.layout.specs.Layout.{layout, dots_of, name_at}
-use Rattle.derive.specs.Derive.{Row, end, node, Derives, d-end, d-leaf, d-node, height, root}
-use Rattle.derive.specs.Chosen.{Least}
+use Rattle.layout.specs.Layout.{layout, name_at}
+use Rattle.derive.specs.Derive.{Row, end, node, Derives, d-end, d-leaf, d-node, height}
 use Rattle.derive.proofs.Levels.{Low}
 use Rattle.chart.specs.Code.{next_kind, owner_at, after_dot, head_of, Stands, at-end, at-terminal, at_symbol, Coded}
 use Rattle.chart.specs.Heights.{stretches, cell_at, none}
 use Rattle.heights.specs.Table.{cell_of, value_of, Place, Shape}
-use Rattle.heights.specs.Filling.{Gives, by-terminal, by-split, by-owned, Steps, stay, step, Any}
+use Rattle.heights.specs.Filling.{Gives, by-terminal, by-split, by-owned, Steps, stay, step}
 use Rattle.heights.proofs.Cells.{cell-inj}
 use Rattle.heights.proofs.Values.{value_cell}
-use Rattle.heights.proofs.Exact.{shape, RuleLow, SoundAt, Sound, gives-sound, steps-keep}
+use Rattle.heights.proofs.Exact.{shape, RuleLow, Sound, gives-sound, steps-keep}
 use Rattle.sweeps.specs.Layers.{Upto, Swept}
 use Rattle.sweeps.proofs.Rounds.{low, low-symbol}
 use Rattle.rounds.specs.After.{rule_symbol, DotAfter, dot-low, dot-none, RuleAfter, rule-low, rule-none, After}

@@ -1,20 +1,19 @@
 -- A round, from the code to the grammar.
 use mathlib.Core.Bool.{Bool, true, false}
-use mathlib.Core.Path.{◌≡◌, refl, sym, ap, subst, ◌∙◌}
+use mathlib.Core.Path.{◌≡◌, refl, sym, subst}
 use mathlib.Core.Logic.{◌⊎◌, inl, inr, ⊎_elim}
 use mathlib.Core.List.{List, Memᴰ as In}
 use Prim.Native.Nat.{ℕ, suc, ◌+◌, ◌*◌, ◌<◌, ◌≤◌}
 use native.Mathlib.Omega.{arith}
 use lib.ListN.{length, get_or}
-use Rattle.text.specs.Limits.{most_size, record_chars}
 use Rattle.text.specs.Lists.{Text}
 use Rattle.tree.specs.Tree.{Symbol, Terminal, Grammar}
 use Rattle.plain.specs.Plain as plain
 use Rattle.layout.specs.Layout.{layout}
-use Rattle.chart.specs.Code.{head_of, Coded, Ruled}
+use Rattle.chart.specs.Code.{Coded, Ruled}
 use Rattle.chart.specs.Heights.{stretches, none}
 use Rattle.heights.proofs.Lowering.{steps-length}
-use Rattle.sweeps.specs.Layers.{Upto, Adds, Swept}
+use Rattle.sweeps.specs.Layers.{Upto, Swept}
 use Rattle.numbering.proofs.Names.{owner-named, named-owner}
 use Rattle.tells.specs.Tells.{Tells}
 use Rattle.tells.proofs.Tells.{hit, miss}

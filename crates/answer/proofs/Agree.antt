@@ -1,8 +1,8 @@
 -- Each test is its line's: what the tests compute is what the lines say.
 use mathlib.Core.Bool.{Bool, true, false, not, ◌||◌}
-use mathlib.Core.Path.{◌≡◌, refl, sym, subst, ap, ◌∙◌}
+use mathlib.Core.Path.{◌≡◌, refl, sym, subst, ◌∙◌}
 use mathlib.Core.Logic.{◌⊎◌, inl, inr, ◌↔◌}
-use mathlib.Core.List.{List, [], ◌∷◌}
+use mathlib.Core.List.{List, ◌∷◌}
 use Prim.Native.Nat.{ℕ, ◌<◌}
 use native.Mathlib.Omega.{arith}
 use lib.Dec.{T, ltb, ltb→lt, lt→ltb}
@@ -20,7 +20,7 @@ use Rattle.syntax.proofs.Complete.{complete}
 use Rattle.plain.specs.Static.{undefined, duplicate, beyond, banned, backwards, unclassed}
 use Rattle.plain.specs.Plain.{size}
 use Rattle.derive.specs.Derive.{Row, Derivation, root, left_parse}
-use Rattle.derive.specs.Chosen.{Chosen, Reading, Second}
+use Rattle.derive.specs.Chosen.{Second}
 use Rattle.derive.specs.Pick.{Choice, found, no-choice, chosen_of}
 use Rattle.derive.specs.Productive.{Unproductive}
 use Rattle.derive.specs.Yield.{unproductive}
@@ -32,9 +32,9 @@ use Rattle.derive.proofs.Ambiguous.{ambiguous-second}
 use Rattle.text.proofs.Tests.{T_true, T_false}
 use Rattle.xml.specs.Document.{document, mark_of, twice, misnamed, unwritable, is_attribute, not_one, namespaced}
 use Rattle.answer.specs.Answer.{Line, GrammarText, GrammarTree, of_text, of_tree, grammar_lines, Job, of_job, of_reading, of_source, Source, chosen, given, Names}
-use Rattle.answer.specs.Answer.{Need, main_need, need_lines, reading_lines, record_lines, list_lines, document_lines_of}
+use Rattle.answer.specs.Answer.{Need, need_lines, reading_lines, list_lines, document_lines_of}
 use Rattle.answer.specs.Compute.{Test, test, on_text, on_tree, on_choice, is_text, is_tree, is_found, after_mark, tree_of, grammar_tests, on_job, on_reading, on_found, Finder, Marker, never}
-use Rattle.answer.specs.Compute.{need_tests, none_test, record_tests, document_tests_of}
+use Rattle.answer.specs.Compute.{need_tests, none_test, document_tests_of}
 use Rattle.answer.specs.Named.{named_of}
 use Rattle.answer.proofs.Lines.{Agree}
 use Rattle.answer.proofs.Named.{named-found, found-named}

@@ -1,7 +1,7 @@
 -- The laws of specs/Demands.antt hold.
-use mathlib.Core.Bool.{Bool, true, false, not, ◌&&◌, ◌||◌}
+use mathlib.Core.Bool.{Bool, true, false, not, ◌||◌}
 use mathlib.Core.Path.{◌≡◌, refl, sym, subst, ap, ◌∙◌}
-use mathlib.Core.Logic.{◌⊎◌, inl, inr, ◌↔◌, ⊎_elim}
+use mathlib.Core.Logic.{◌⊎◌, ◌↔◌, ⊎_elim}
 use mathlib.Core.List.{List, [], ◌∷◌, ◌++◌}
 use Prim.Native.Nat.{ℕ, ◌<◌, ◌≤◌}
 use native.Mathlib.Omega.{arith}
@@ -10,12 +10,10 @@ use lib.ListN.{length, drop}
 use Rattle.text.specs.Limits.{reading_numbers}
 use Rattle.text.specs.Lists.{Text, all, among}
 use Rattle.text.specs.Utf8.{Utf8}
-use Rattle.text.specs.Decode.{text, decode}
+use Rattle.text.specs.Decode.{text}
 use Rattle.text.proofs.Tests.{split}
-use Rattle.text.proofs.Decode.{decode-complete}
 use Rattle.tree.specs.Tree.{Grammar}
-use Rattle.syntax.specs.Parser.{parsed}
-use Rattle.derive.specs.Derive.{Row, left_parse, Derivation, height}
+use Rattle.derive.specs.Derive.{Row, left_parse, Derivation}
 use Rattle.derive.specs.Chosen.{Reading, Second}
 use Rattle.derive.specs.Pick.{found, chosen_of}
 use Rattle.derive.proofs.Choose.{chosen-found}

@@ -1,5 +1,5 @@
 -- Comments before a grammar change nothing but the place in it.
-use mathlib.Core.Bool.{Bool, true, false, not, ◌&&◌, ◌||◌}
+use mathlib.Core.Bool.{Bool, true, false, not}
 use mathlib.Core.Path.{◌≡◌, refl, sym, subst, ap, ◌∙◌}
 use mathlib.Core.List.{List, [], ◌∷◌, ◌++◌}
 use Prim.Native.Nat.{ℕ}
@@ -21,7 +21,7 @@ use Rattle.plain.specs.Plain.{size}
 use Rattle.derive.specs.Yield.{unproductive}
 use Rattle.viable.specs.Compute.{fault_of}
 use Rattle.places.proofs.Fronted.{same-tree}
-use Rattle.answer.specs.Answer.{GrammarText, Job, job, Shown, as_numbers, as_xml, Answer, Checks, Reads, Converts}
+use Rattle.answer.specs.Answer.{GrammarText, Job, job, Shown, as_numbers, as_xml, Answer, Checks}
 use Rattle.answer.specs.Compute.{Test, test, first_of, on_text, on_tree, is_text, is_tree, after_mark as tree_after, tree_of, grammar_tests, record_tests, document_tests, long_test}
 use Rattle.answer.specs.Compute.{Value, value, value_at, Values, grammar_values, input_values, reading_values, place_values, place_tree, place_text}
 use Rattle.answer.specs.Compute.{Result, result, result_of, result_by, Outcome, outcome, mismatch, check_of, read_of, convert_of}

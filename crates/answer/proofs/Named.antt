@@ -4,7 +4,7 @@ use mathlib.Core.Path.{◌≡◌, refl, sym, ap, ◌∙◌}
 use mathlib.Core.List.{List, [], ◌∷◌, ◌++◌, append_assoc, append-nil}
 use Prim.Native.Nat.{ℕ, zero, suc, ◌+◌, ◌<◌, ◌≤◌}
 use native.Mathlib.Omega.{arith}
-use lib.Dec.{T, ltb, eqb, ltb→lt}
+use lib.Dec.{ltb, eqb, ltb→lt}
 use lib.ListN.{length, drop, length-append}
 use borrow.Author.Tests.{lt-ltb, eqb-true, eq-eqb}
 use Rattle.text.specs.Lists.{Text}
@@ -12,10 +12,10 @@ use Rattle.text.proofs.Tests.{is_t, T_true}
 use Rattle.tree.specs.Tree.{Terminal, Symbol, terminal, nonterminal, group, option, repeat0, repeat1, repeat0sep, repeat1sep, rest, Grammar}
 use Rattle.plain.specs.Written.{terminals_in}
 use Rattle.plain.specs.Plain.{alts, fits, width}
-use Rattle.derive.specs.Derive.{Row, end, leaf, node, alternative, left_parse, root, Derives, d-end, d-leaf, d-node, Derivation}
+use Rattle.derive.specs.Derive.{Row, leaf, node, alternative, left_parse, root, Derives, d-end, d-leaf, d-node}
 use Rattle.derive.specs.Pick.{Choice, found, no-choice}
 use Rattle.answer.specs.Answer.{Names}
-use Rattle.answer.specs.Named.{Got, got, none, on_got, Reader, read_leaf, read_node, read_first, row_by, below, whole, named_of}
+use Rattle.answer.specs.Named.{Got, got, none, on_got, Reader, read_node, read_first, row_by, below, whole, named_of}
 
 -- 1. What is read is a row of the symbols, and its numbers are those that were taken.
 abbrev Sound : Grammar → Text → List Symbol → ℕ → List ℕ → Got → Type 0

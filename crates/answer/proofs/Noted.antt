@@ -19,7 +19,7 @@ use Rattle.derive.proofs.Productive.{unproductive-is}
 use Rattle.viable.specs.Fault.{FaultAt}
 use Rattle.viable.specs.Compute.{fault_of}
 use Rattle.viable.proofs.Fault.{fault-unique, fault-of, root-produces}
-use Rattle.text.proofs.Faults.{scalars, passing, one-break, Whole, break-there}
+use Rattle.text.proofs.Faults.{scalars, passing, one-break, break-there}
 use Rattle.text.proofs.Tests.{and_left, and_right}
 use Rattle.text.proofs.Marks.{marked-text}
 use Rattle.tree.specs.Tree.{Grammar}

@@ -1,5 +1,5 @@
 -- Each call has exactly one answer for each job, and it is the one that is computed.
-use mathlib.Core.Bool.{Bool, true, false, not, ◌&&◌, ◌||◌}
+use mathlib.Core.Bool.{Bool, true, false, not, ◌&&◌}
 use mathlib.Core.Path.{◌≡◌, refl, sym, subst, ap, ◌∙◌}
 use mathlib.Core.Logic.{◌⊎◌, inl, inr, ◌↔◌, ⊎_elim}
 use mathlib.Core.List.{List, [], ◌∷◌, ◌++◌}
@@ -12,19 +12,18 @@ use borrow.Author.Tests.{eqb-true, eqb-false, eq-eqb, ne_eqb}
 use Rattle.text.specs.Limits.{reading_numbers}
 use Rattle.text.specs.Lists.{Text, all}
 use Rattle.text.specs.Utf8.{Utf8, unmarked}
-use Rattle.text.proofs.Tests.{look, is_t, not_t, T_true, T_false, clash, and_left, and_right}
+use Rattle.text.proofs.Tests.{clash, and_left, and_right}
 use Rattle.text.specs.Decode.{Decoded, text, not-utf8, decode}
 use Rattle.text.proofs.Decode.{decode-sound, decode-complete}
 use Rattle.tree.specs.Tree.{Grammar}
 use Rattle.syntax.specs.Parser.{Parsed, parsed, no-parse, parse}
-use Rattle.derive.specs.Derive.{Row, root, left_parse}
+use Rattle.derive.specs.Derive.{Row, left_parse}
 use Rattle.derive.specs.Pick.{Choice, found, no-choice}
 use Rattle.derive.specs.Pick.{chosen_of}
-use Rattle.derive.specs.Another.{ambiguous_of}
 use Rattle.plain.specs.Static.{mismatched}
 use Rattle.viable.specs.Fault.{FaultAt}
-use Rattle.answer.specs.Answer.{Line, line, Topmost, of_tree, grammar_lines, reading_lines, document_lines, list_lines, document_lines_of, need_lines, Need, main_need, scratch_need}
-use Rattle.answer.specs.Answer.{Job, GrammarTree, of_job, Source, chosen, given}
+use Rattle.answer.specs.Answer.{Line, Topmost, of_tree, grammar_lines, reading_lines, document_lines, list_lines, document_lines_of, need_lines, Need, main_need, scratch_need}
+use Rattle.answer.specs.Answer.{Job, GrammarTree, of_job, Source, given}
 use Rattle.answer.specs.Answer.{Shown, as_numbers, as_xml, ResultBy, too_long, too_long_by, Notes, Placed, check_notes, job_notes, Answer, Answers, Checks, Reads, Converts, Judges}
 use Rattle.answer.specs.Compute.{Test, test, first_of, on_reading, on_found, grammar_tests, need_tests, none_test, document_tests, document_tests_of, is_text, is_tree, is_found}
 use Rattle.answer.specs.Compute.{on_text, on_job, tree_of, after_mark, Result, result, Finder, Marker, never, found_result, result_with, Outcome, outcome, mismatch}

@@ -1,6 +1,6 @@
 -- What the tests come to, stage by stage: the shape in which code meets them.
-use mathlib.Core.Bool.{Bool, true, false, not, ◌||◌}
-use mathlib.Core.Path.{◌≡◌, refl, sym, ap, ◌∙◌}
+use mathlib.Core.Bool.{Bool, true, false, ◌||◌}
+use mathlib.Core.Path.{◌≡◌}
 use mathlib.Core.List.{List, [], ◌∷◌}
 use Prim.Native.Nat.{ℕ, ◌<◌, ◌≤◌}
 use lib.Dec.{T, ltb, leb, leb→le}
@@ -11,16 +11,16 @@ use Rattle.text.specs.Limits.{grammar_bytes, most_size, record_chars, grammar_ta
 use Rattle.text.specs.Lists.{Text, all}
 use Rattle.text.specs.Utf8.{unmarked, known}
 use Rattle.text.proofs.Tests.{and_left, and_right}
-use Rattle.text.specs.Decode.{Decoded, text, not-utf8, decode}
+use Rattle.text.specs.Decode.{text, not-utf8, decode}
 use Rattle.tree.specs.Tree.{Grammar}
-use Rattle.syntax.specs.Parser.{Parsed, parsed, no-parse, parse}
+use Rattle.syntax.specs.Parser.{parsed, no-parse, parse}
 use Rattle.plain.specs.Static.{undefined, duplicate, beyond, banned, backwards, unclassed, mismatched}
 use Rattle.plain.specs.Plain.{size}
 use Rattle.derive.specs.Derive.{Row, left_parse}
 use Rattle.derive.specs.Yield.{unproductive}
-use Rattle.derive.specs.Pick.{Choice, found, no-choice, chosen_of}
+use Rattle.derive.specs.Pick.{found, no-choice, chosen_of}
 use Rattle.answer.specs.Answer.{Job, Need, table_need}
-use Rattle.answer.specs.Compute.{Test, test, first_of, on_text, on_tree, tree_of, grammar_tests, need_tests, none_test, Finder, record_tests, mismatch}
+use Rattle.answer.specs.Compute.{Test, test, first_of, tree_of, grammar_tests, need_tests, none_test, Finder, record_tests, mismatch}
 
 -- no test's number is above m, so neither is the first that passes
 pub first_below : (m : ℕ) (ts : List Test) → T (all (λ t. leb t.number m) ts) → first_of ts ≤ m

@@ -1,18 +1,16 @@
 -- Symbols all of whose parts pass a test: what they derive by are such symbols too.
-use mathlib.Core.Path.{◌≡◌, refl, sym, ap, subst, ◌∙◌}
-use mathlib.Core.Bool.{Bool, true, false, not, ◌&&◌, ◌||◌}
-use mathlib.Core.List.{List, [], ◌∷◌, ◌++◌, append_assoc, append-nil}
-use Prim.Native.Nat.{ℕ, zero, suc, ◌+◌, ◌-◌, ◌<◌, ◌≤◌}
-use native.Mathlib.Omega.{arith}
+use mathlib.Core.Path.{◌≡◌, refl}
+use mathlib.Core.Bool.{Bool, true, false}
+use mathlib.Core.List.{List, [], ◌∷◌, ◌++◌}
+use Prim.Native.Nat.{ℕ, zero, suc, ◌+◌, ◌-◌}
 use lib.Dec.{T}
-use lib.ListN.{length, take, drop, get_or}
-use Rattle.text.specs.Lists.{Text, pick, any, all, same, concat_map}
-use Rattle.text.proofs.Tests.{clash, and_left, and_right, both-and}
-use Rattle.tree.specs.Tree.{Mark, unmarked, included, attribute, deleted, Terminal, literal, inclusion, exclusion, insertion}
+use lib.ListN.{get_or}
+use Rattle.text.specs.Lists.{Text, pick, all, same, concat_map}
+use Rattle.text.proofs.Tests.{and_left, and_right, both-and}
 use Rattle.tree.specs.Tree.{Symbol, terminal, nonterminal, group, option, repeat0, repeat1, repeat0sep, repeat1sep, rest, Alternative, nil, cons, Body, one, also, Rule, Grammar, rules}
 use Rattle.plain.specs.Written.{within, within_alternative, within_body, written, kind, made}
 use Rattle.plain.specs.Plain.{alts, alternatives, symbols, rule_for}
-use Rattle.derive.specs.Derive.{Row, end, leaf, node, alternative}
+use Rattle.derive.specs.Derive.{alternative}
 
 -- a symbol all of whose parts pass; rows of such
 module _ (p : Symbol → Bool) where

@@ -1,23 +1,22 @@
 -- Nothing is lost between record and XML.
 use mathlib.Core.Path.{◌≡◌, refl, sym, ap, subst, ◌∙◌}
-use mathlib.Core.Bool.{Bool, true, false, not, ◌&&◌, ◌||◌}
-use mathlib.Core.Logic.{◌⊎◌, inl, inr}
+use mathlib.Core.Bool.{Bool, true, false, not, ◌||◌}
 use mathlib.Core.List.{List, [], ◌∷◌, ◌++◌, append-nil, append_assoc}
-use Prim.Native.Nat.{ℕ, zero, suc, ◌-◌, ◌≤◌, ◌<◌}
+use Prim.Native.Nat.{ℕ, zero, suc, ◌-◌, ◌<◌}
 use native.Mathlib.Omega.{arith}
 use lib.Dec.{T}
 use lib.ListN.{length, take, drop}
 use lib.Seq.{take-append_seam}
 use Rattle.text.specs.Lists.{Text, chars, any, all}
 use Rattle.text.specs.Utf8.{Utf8, utf8, utf8s}
-use Rattle.text.proofs.Tests.{clash, is_t, T_true, T_false, and_left, and_right, both-and}
-use Rattle.tree.specs.Tree.{Mark, unmarked, included, attribute, deleted, Symbol, nonterminal, Rule, Grammar, rules}
+use Rattle.text.proofs.Tests.{clash, is_t, T_false, and_left, both-and}
+use Rattle.tree.specs.Tree.{Mark, unmarked, included, attribute, deleted, Rule, Grammar, rules}
 use Rattle.plain.specs.Written.{kind, written}
 use Rattle.plain.specs.Static.{mismatched}
-use Rattle.derive.specs.Derive.{Row, end, leaf, node, alternative, root, Derives, d-end, d-leaf, d-node, Derivation}
+use Rattle.derive.specs.Derive.{Row, node, alternative, root, Derives, d-end, d-node, Derivation}
 use Rattle.derive.proofs.Chosen.{chosen-derives}
 use Rattle.xml.specs.Names.{xml_name}
-use Rattle.xml.specs.Document.{Xml, none, char, attr, elem, mark_of, as_root, marked, nodes, value, stretch, document, is_attribute, misnamed, not_one}
+use Rattle.xml.specs.Document.{Xml, none, char, attr, elem, mark_of, as_root, nodes, value, stretch, document, is_attribute, misnamed, not_one}
 use Rattle.xml.specs.Bytes.{state, attributes, closed, content, bytes}
 use Rattle.answer.specs.Answer.{Line, Job, Answer, Converts, Judges, GrammarTree, of_tree, as_xml, grammar_lines, record_lines, document_lines, too_long}
 use Rattle.answer.specs.Answer.{need_lines, scratch_need, list_lines, document_lines_of, given, too_long_by}
@@ -28,7 +27,7 @@ use Rattle.answer.proofs.Demands.{demands-hold}
 use Rattle.audit.specs.Audit.{Between, b_end, exposes, changes, no_attributes, all_kept, Audits, Audited}
 use Rattle.audit.proofs.Once.{one-text}
 use Rattle.audit.proofs.Fair.{fair, fairs, fair-alternative}
-use Rattle.audit.proofs.Rows.{spoken, unadorned, kept, verbatim, made_kept, made-verbatim, unmarked-rules, row-spoken, row-unadorned, row-verbatim, plain-spoken, plain-unadorned}
+use Rattle.audit.proofs.Rows.{spoken, unadorned, kept, verbatim, made_kept, unmarked-rules, row-spoken, row-unadorned, row-verbatim, plain-spoken, plain-unadorned}
 use Rattle.audit.proofs.Tags.{inner, name-inner, element, element-between, contents, no-attributes, silent, not-true, neither}
 
 -- no element passes, so all fail

@@ -1,6 +1,6 @@
 -- What is written is one element, in the sense of XML's productions.
 use mathlib.Core.Path.{◌≡◌, refl, sym, ap, subst, ◌∙◌}
-use mathlib.Core.Bool.{Bool, true, false, not, ◌&&◌, ◌||◌}
+use mathlib.Core.Bool.{Bool, true, false, not, ◌||◌}
 use mathlib.Core.List.{List, [], ◌∷◌, ◌++◌, append_assoc, append-nil}
 use Prim.Native.Nat.{ℕ, ◌≤◌}
 use native.Mathlib.Omega.{arith}
@@ -8,11 +8,10 @@ use lib.Dec.{T, eqb}
 use borrow.Author.Tests.{ne_eqb}
 use Rattle.text.specs.Lists.{Text, chars, all, among, concat_map}
 use Rattle.text.specs.Utf8.{utf8, utf8s}
-use Rattle.text.proofs.Tests.{clash, is_t, and_left, and_right, both-and}
+use Rattle.text.proofs.Tests.{clash, is_t, and_left, and_right}
 use Rattle.xml.specs.Names.{xml_name, name_start, name_char}
 use Rattle.xml.specs.Document.{Xml, none, char, attr, elem, misnamed, not_one}
 use Rattle.xml.specs.Bytes.{escape, attributes, closed, content, state_with, state, bytes}
-use Rattle.xml.specs.References.{Reference}
 use Rattle.xml.proofs.Escapes.{special, Escaped, as-reference, as-itself, escaped, not_at}
 use Rattle.audit.specs.WellFormed.{name_byte, Value, v-end, v-byte, v-reference, Attributes, a-end, a-more, Element, e-empty, e-full, Content, c-end, c-byte, c-reference, c-element, WellFormed}
 use Rattle.audit.proofs.Tags.{utf8s-append, utf8s-one, each-byte, reference-bytes, name-bytes, not-true, neither}

@@ -1,13 +1,12 @@
 -- What stands between the tags is one text.
-use mathlib.Core.Path.{◌≡◌, refl, sym, ap, subst, ◌∙◌}
+use mathlib.Core.Path.{◌≡◌, refl, subst}
 use mathlib.Core.Bool.{Bool, true, false, not}
-use mathlib.Core.List.{List, [], ◌∷◌, ◌++◌}
+use mathlib.Core.List.{List, ◌∷◌, ◌++◌}
 use Prim.Native.Nat.{ℕ}
 use native.Mathlib.Omega.{arith}
 use lib.Dec.{T}
-use Rattle.text.specs.Lists.{chars, all, among}
-use Rattle.xml.specs.References.{Reference}
-use Rattle.xml.proofs.References.{other, same_parts, no-semicolon, one-character}
+use Rattle.text.specs.Lists.{chars, among}
+use Rattle.xml.proofs.References.{same_parts, no-semicolon, one-character}
 use Rattle.audit.specs.Audit.{Between, b_end, b-tag, b-reference, b-byte}
 
 not_byte : (b k : ℕ) → b ≡ k → T (among k (chars "<&")) → T (not (among b (chars "<&"))) → ⊥

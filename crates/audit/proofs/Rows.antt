@@ -1,21 +1,21 @@
 -- What a row of nodes says: with no attribute it is the row's value, and where all text is kept, the stretch that the row derives.
 use mathlib.Core.Path.{◌≡◌, refl, sym, ap, subst, ◌∙◌}
-use mathlib.Core.Bool.{Bool, true, false, not, ◌&&◌, ◌||◌}
+use mathlib.Core.Bool.{Bool, true, false, not, ◌&&◌}
 use mathlib.Core.List.{List, [], ◌∷◌, ◌++◌, append_assoc, append-nil}
-use Prim.Native.Nat.{ℕ, zero, suc, ◌+◌, ◌-◌, ◌<◌, ◌≤◌}
+use Prim.Native.Nat.{ℕ, ◌+◌, ◌-◌, ◌≤◌}
 use native.Mathlib.Omega.{arith}
 use lib.Dec.{T}
-use lib.ListN.{length, take, drop, get_or}
+use lib.ListN.{take, drop}
 use lib.Seq.{drop-drop, take-add}
-use Rattle.text.specs.Lists.{Text, pick, any, all, same}
-use Rattle.text.proofs.Tests.{clash, and_left, and_right, both-and, T_true}
+use Rattle.text.specs.Lists.{Text, pick, all, same}
+use Rattle.text.proofs.Tests.{and_left, and_right, both-and}
 use Rattle.tree.specs.Tree.{Mark, unmarked, included, attribute, deleted, Terminal, literal, inclusion, exclusion, insertion}
 use Rattle.tree.specs.Tree.{Symbol, terminal, nonterminal, group, option, repeat0, repeat1, repeat0sep, repeat1sep, rest, Rule, Grammar, rules}
-use Rattle.plain.specs.Written.{Kind, atom, named, made, kind, written}
+use Rattle.plain.specs.Written.{Kind, made, kind, written}
 use Rattle.plain.specs.Plain.{rule_mark, over, width}
 use Rattle.derive.specs.Derive.{Row, end, leaf, node, alternative, Derives, d-end, d-leaf, d-node}
 use Rattle.xml.specs.Document.{Xml, none, char, attr, elem, join, text, mark_of, name_of, leaf_text, terminal_text, stretch, value, marked, nodes, is_attribute}
-use Rattle.audit.specs.Audit.{exposes, is_deleted, alters, changes}
+use Rattle.audit.specs.Audit.{exposes, changes}
 use Rattle.audit.proofs.Fair.{fair, fairs, fair-alternative}
 
 -- the characters between the tags, elements entered

@@ -1,21 +1,21 @@
 -- The bytes of what is written, tag by tag and character by character.
 use mathlib.Core.Path.{◌≡◌, refl, sym, ap, subst, ◌∙◌}
-use mathlib.Core.Bool.{Bool, true, false, not, ◌&&◌, ◌||◌}
+use mathlib.Core.Bool.{Bool, true, false, not, ◌||◌}
 use mathlib.Core.Logic.{⊎_elim}
 use mathlib.Core.List.{List, [], ◌∷◌, ◌++◌, append_assoc, append-nil}
 use Prim.Native.Nat.{ℕ, ◌+◌, ◌/◌, ◌%◌, ◌<◌, ◌≤◌}
 use native.Mathlib.Omega.{arith}
 use lib.Dec.{T, ltb, eqb}
 use borrow.Author.Tests.{eqb-true, ltb-true, ne_eqb}
-use Rattle.text.specs.Lists.{span, inside, Text, chars, pick, any, all, among}
+use Rattle.text.specs.Lists.{inside, Text, chars, pick, all, among}
 use Rattle.text.specs.Utf8.{utf8, utf8s}
 use Rattle.text.proofs.Tests.{clash, look, is_t, T_true, and_left, and_right, both-and, or_left}
 use Rattle.xml.specs.Names.{xml_name, name_start, name_char}
 use Rattle.xml.specs.Document.{Xml, none, char, attr, elem, misnamed}
-use Rattle.xml.specs.Bytes.{escape, attributes, closed, content, state}
+use Rattle.xml.specs.Bytes.{escape, attributes, closed, content}
 use Rattle.xml.specs.References.{Reference, amp, lt, gt, apos, quot, tab, lf, cr}
 use Rattle.xml.proofs.Escapes.{special, Escaped, as-reference, as-itself, escaped, not_at}
-use Rattle.audit.specs.Audit.{Between, b_end, b-tag, b-reference, b-byte}
+use Rattle.audit.specs.Audit.{Between, b-tag, b-reference, b-byte}
 use Rattle.audit.proofs.Rows.{spoken, unadorned}
 
 not-false : (b : Bool) → T (not b) → b ≡ false

@@ -1,11 +1,11 @@
 -- From the stages of a job whose list is judged to the answer.
-use mathlib.Core.Bool.{Bool, true, false, ◌&&◌, ◌||◌}
+use mathlib.Core.Bool.{Bool, true, false, ◌||◌}
 use mathlib.Core.Path.{◌≡◌, refl, sym, ap, ◌∙◌, subst}
 use mathlib.Core.Logic.{⊎_elim}
 use mathlib.Core.List.{List, [], ◌∷◌}
 use Prim.Native.Nat.{ℕ, ◌*◌, ◌<◌, ◌≤◌}
 use native.Mathlib.Omega.{arith}
-use lib.Dec.{eqb, ltb}
+use lib.Dec.{ltb}
 use lib.ListN.{length, take}
 use borrow.Author.Tests.{ne_eqb, ltb-false}
 use Rattle.text.specs.Limits.{grammar_table}
@@ -13,7 +13,6 @@ use Rattle.text.specs.Lists.{Text}
 use Rattle.text.specs.Stages.{diagnostic_of, plainly}
 use Rattle.text.specs.declared.Diagnostic.{Diagnostic}
 use Rattle.tree.specs.Tree.{Grammar}
-use Rattle.derive.specs.Derive.{Row}
 use Rattle.derive.specs.Pick.{Choice, found, no-choice}
 use Rattle.answer.specs.Answer.{Job, scratch_need, Judges, as_xml}
 use Rattle.answer.specs.Compute.{Outcome, outcome, Test, first_of, grammar_tests, need_tests, none_test, document_tests_of, long_test_by, found_result, result_with, never}
@@ -33,8 +32,8 @@ use Rattle.exported.specs.declared.Answer.{Answer}
 use Rattle.exported.specs.Exported.{shown, refusal_of}
 use Rattle.outcome.specs.Outcome.{answer_of}
 use Rattle.outcome.specs.Calls.{JudgedAs}
-use Rattle.outcome.specs.Judging.{Stands, Judgeable, Accepted, Declined, Verdict, accepted, declined, Concluded}
-use Rattle.outcome.proofs.Outcomes.{refusing, refused-outcome}
+use Rattle.outcome.specs.Judging.{Stands, Judgeable, Verdict, accepted, declined, Concluded}
+use Rattle.outcome.proofs.Outcomes.{refused-outcome}
 use Rattle.outcome.proofs.Documents.{Spoken, nowhere, concluded}
 
 module _ (q : List ℕ) (j : Job) (old : List ℕ) where

@@ -1,12 +1,11 @@
 -- Every case of the table holds: one test, computed over the whole table.
 use mathlib.Core.Bool.{Bool, true, false, ◌&&◌}
-use mathlib.Core.Path.{◌≡◌, refl, sym, subst, subst₂, ◌∙◌}
-use mathlib.Core.List.{List, [], ◌∷◌, ◌++◌}
+use mathlib.Core.Path.{◌≡◌, refl, subst, subst₂}
+use mathlib.Core.List.{List, [], ◌∷◌}
 use Prim.Native.Nat.{ℕ}
-use Prim.Native.String.{String}
 use lib.Dec.{T, eqb, eqb→eq}
-use lib.ListN.{length, drop}
-use Rattle.text.specs.Lists.{Text, chars, all, same}
+use lib.ListN.{length}
+use Rattle.text.specs.Lists.{chars, all, same}
 use Rattle.text.proofs.Tests.{and_left, and_right, same-is}
 use Rattle.text.specs.Ranks as ranks
 use Rattle.derive.specs.Yield as yield
@@ -14,7 +13,7 @@ use Rattle.places.specs.Place as place
 use Rattle.places.specs.Scan as scan
 use Rattle.places.specs.Tokens as places
 use Rattle.viable.specs.Compute as viable
-use Rattle.answer.specs.Answer.{Places, Job, Answer, Checks, Reads, Converts}
+use Rattle.answer.specs.Answer.{Places, Answer, Checks, Reads, Converts}
 use Rattle.answer.specs.Compute.{Outcome, check_of, read_of, convert_of}
 use Rattle.text.specs.Utf8 as utf8
 use Rattle.text.specs.Decode as decoding

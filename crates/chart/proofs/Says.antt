@@ -7,7 +7,7 @@ use lib.ListN.{length, get_or}
 use Rattle.text.specs.Lists.{Text}
 use Rattle.tree.specs.Tree.{Terminal, Symbol, terminal, Grammar}
 use Rattle.plain.specs.Plain.{alts}
-use Rattle.derive.specs.Derive.{Row, end, node, alternative, Derives, d-end, d-leaf, d-node, height}
+use Rattle.derive.specs.Derive.{Row, end, alternative, Derives, d-end, d-leaf, d-node, height}
 use Rattle.derive.specs.Chosen.{Least, Way}
 use Rattle.derive.proofs.Heights.{LowestWay, node-least, least-same}
 use Rattle.chart.specs.Heights.{none, Says, says_none, says-height, SaysRule, rule-none, rule-height}

@@ -1,5 +1,5 @@
 -- Walks that fold what is ahead: one law for each event, and no walk in sight.
-use mathlib.Core.Path.{◌≡◌, refl, sym, ap, ◌∙◌}
+use mathlib.Core.Path.{◌≡◌}
 use mathlib.Core.List.{List}
 use Prim.Native.Nat.{ℕ, ◌<◌}
 use lib.ListN.{length}
@@ -12,7 +12,7 @@ use Rattle.markup.specs.Pieces.{Says, Pieced}
 use Rattle.markup.specs.declared.Piece.{Piece}
 use Rattle.cursor.specs.Rest.{Rest, row, within, before}
 use Rattle.cursor.specs.Ahead.{Ahead, SomeAhead, SomeText, AtNode, SomeNode, SomeRow}
-use Rattle.cursor.specs.Events.{MetText, MetElement, MetAttribute, MetClose, MetEnd, Next, Over, Entered, Past}
+use Rattle.cursor.specs.Events.{Next, Over, Entered, Past}
 use Rattle.cursor.specs.declared.Cursor.{Cursor}
 use Rattle.cursor.specs.declared.Event.{Event}
 use Rattle.cursor.specs.declared.Event.TheVariants.{Text as Text', Open, Attribute, Close, End}

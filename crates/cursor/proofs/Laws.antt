@@ -5,15 +5,14 @@ use Prim.Native.Nat.{ℕ, zero, suc, ◌+◌, ◌≤◌, ◌<◌}
 use native.Mathlib.Omega.{arith}
 use Rattle.text.specs.Lists.{Text}
 use Rattle.tree.specs.Tree.{Symbol, terminal, Terminal, Grammar}
-use Rattle.plain.specs.Plain.{width}
 use Rattle.derive.specs.Derive.{Row, end, leaf, node, alternative}
 use Rattle.items.specs.Items.{mark_kind, kind_at}
 use Rattle.cursor.specs.Events.{Closes, KindIn}
-use mathlib.Core.Bool.{Bool, true, false}
+use mathlib.Core.Bool.{true, false}
 use mathlib.Core.Logic.{inl, inr, ⊎_elim}
 use lib.Dec.{eqb}
 use borrow.Author.Tests.{eqb-true, eqb-false}
-use Rattle.xml.specs.Document.{Xml, none, char, attr, elem, join, text, nodes, value, mark_of, stretch, terminal_text}
+use Rattle.xml.specs.Document.{Xml, none, char, attr, elem, join, text, value, mark_of, stretch, terminal_text}
 use Rattle.left_parse.proofs.Marks.{nodes-deleted}
 use Rattle.cursor.specs.Rest.{Rest, row, within, before}
 use Rattle.cursor.specs.Ahead.{spread}

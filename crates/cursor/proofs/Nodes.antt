@@ -1,15 +1,15 @@
 -- Into a node, over it, and before what stands in it as a walk of its own; and where a walk begins.
 use mathlib.Core.Path.{◌≡◌, refl, sym, ap, ◌∙◌}
-use mathlib.Core.Logic.{◌⊎◌, inl, inr, ⊎_elim}
+use mathlib.Core.Logic.{◌⊎◌, ⊎_elim}
 use mathlib.Core.List.{List, [], ◌∷◌}
-use Prim.Native.Nat.{ℕ, zero, suc, ◌+◌, ◌*◌, ◌≤◌, ◌<◌}
+use Prim.Native.Nat.{ℕ, ◌+◌, ◌*◌, ◌≤◌, ◌<◌}
 use native.Mathlib.Omega.{arith}
 use lib.ListN.{length}
 use Rattle.text.specs.Lists.{Text}
 use Rattle.tree.specs.Tree.{Symbol, Grammar}
 use Rattle.plain.specs.Plain.{alts}
 use Rattle.derive.specs.Derive.{Row, node, left_parse, alternative}
-use Rattle.items.specs.Items.{kind_at, token_at, Starts, Stands}
+use Rattle.items.specs.Items.{kind_at, Starts, Stands}
 use Rattle.xml.specs.Document.{Xml, none, text, nodes, value}
 use Rattle.left_parse.specs.declared.Position.{Position}
 use Rattle.left_parse.specs.Walk.{Frame, Walk}
@@ -20,8 +20,8 @@ use Rattle.left_parse.proofs.Items.{View, v-node}
 use Rattle.left_parse.proofs.Walks.{frame, seen, node-list}
 use Rattle.left_parse.proofs.After.{small_of, after-enter, after-jump, walk_inside}
 use Rattle.cursor.specs.Rest.{Rest, row, within, before}
-use Rattle.cursor.specs.Ahead.{spread, following, Outer, b-none, b-element, b-attribute, Ahead, AtNode, SomeNode}
-use Rattle.cursor.specs.Events.{weight, Entered, Past, Inside}
+use Rattle.cursor.specs.Ahead.{spread, Outer, b-none, b-element, b-attribute, Ahead, AtNode}
+use Rattle.cursor.specs.Events.{weight, Entered, Inside}
 use Rattle.cursor.specs.declared.Cursor.{Cursor}
 use Rattle.cursor.proofs.Laws.{join-none}
 use Rattle.cursor.proofs.Weights.{enters-at, enter-falls, jump-falls}

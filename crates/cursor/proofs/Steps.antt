@@ -7,31 +7,27 @@ use native.Mathlib.Omega.{arith}
 use lib.Dec.{T as Holds}
 use lib.ListN.{length, get_or, drop}
 use Rattle.text.specs.Lists.{Text}
-use Rattle.tree.specs.Tree.{Symbol, Terminal, Grammar}
+use Rattle.tree.specs.Tree.{Symbol, Terminal}
 use Rattle.tree.specs.Tokens.{terminal_tokens}
-use Rattle.plain.specs.Plain.{alts, fits, width}
-use Rattle.derive.specs.Derive.{Row, end, leaf, node, left_parse, alternative}
-use Rattle.items.specs.Items.{kind_at, token_at, Starts, Stands, Reads}
+use Rattle.plain.specs.Plain.{fits, width}
+use Rattle.derive.specs.Derive.{Row, node, left_parse, alternative}
+use Rattle.items.specs.Items.{kind_at, token_at, Reads}
 use Rattle.xml.specs.Document.{Xml, none, attr, elem, join, text, nodes, name_of, value, stretch, terminal_text}
 use Rattle.left_parse.specs.declared.Position.{Position}
-use Rattle.left_parse.specs.Walk.{Frame, opened, Link, Chain, bottom, link, Walk, Over}
-use Rattle.left_parse.specs.Steps.{Enters, Leaves, Named, Small, Skipped, jumped}
+use Rattle.left_parse.specs.Walk.{Frame, opened, Link, Chain, bottom, link, Walk}
+use Rattle.left_parse.specs.Steps.{Enters, Leaves, Named, Small, Skipped}
 use Rattle.left_parse.specs.Steps as ends
 use Rattle.left_parse.proofs.Scratch.{opened-length}
 use Rattle.left_parse.proofs.Items.{View, v-end, v-leaf, v-node, spells-kind}
 use Rattle.left_parse.proofs.Walks.{frame, seen, node-list, node-ends, walk-over, item-inside}
-use Rattle.left_parse.proofs.After.{small_of, after-leaf, after-enter, after-jump, after_leave, walk_inside}
+use Rattle.left_parse.proofs.After.{small_of, after-leaf, after-enter, after_leave}
 use Rattle.left_parse.proofs.Marks.{node-mark, node-named, nodes-element, nodes-attribute}
-use Rattle.markup.specs.Pieces.{Says, Pieced}
-use Rattle.markup.specs.declared.Piece.{Piece}
 use Rattle.cursor.specs.Rest.{Rest, row, within, before}
-use Rattle.cursor.specs.Ahead.{spread, following, Outer, b-none, b-deleted, b-element, b-attribute, b-inside, Ahead, SomeAhead, AtNode, SomeNode}
-use Rattle.cursor.specs.Events.{weight, MetText, MetElement, MetAttribute, MetClose, MetEnd, Moves, Stops, Next, Through, Entered, Past, Inside}
+use Rattle.cursor.specs.Ahead.{spread, following, Outer, b-none, b-deleted, b-element, b-attribute, b-inside, Ahead, AtNode}
+use Rattle.cursor.specs.Events.{weight, MetElement, MetAttribute, MetClose, MetEnd, Entered}
 use Rattle.cursor.specs.declared.Cursor.{Cursor}
-use Rattle.cursor.specs.declared.Event.{Event}
-use Rattle.cursor.specs.declared.Event.TheVariants.{Text as Text', Open, Attribute, Close, End}
-use Rattle.cursor.proofs.Laws.{join-none, join-assoc, before-join, before-none, spread-leaf, spread-node, spread_end, spread-value}
-use Rattle.cursor.proofs.Weights.{enters-at, leaves_at, on-falls, enter-falls, jump-falls, leave-falls}
+use Rattle.cursor.proofs.Laws.{before-join, before-none, spread-leaf, spread-node, spread_end}
+use Rattle.cursor.proofs.Weights.{enters-at, leaves_at, on-falls, enter-falls, leave-falls}
 
 abbrev pub cursor : Position → ℕ → Cursor
 cursor h v = record { at = h; value = v }

@@ -1,28 +1,28 @@
 -- The steps of a cursor, and many that meet nothing.
 use mathlib.Core.Path.{◌≡◌, refl, sym, ap, ◌∙◌}
-use mathlib.Core.Logic.{◌⊎◌, inl, inr, ⊎_elim}
-use mathlib.Core.List.{List, []}
+use mathlib.Core.Logic.{◌⊎◌, ⊎_elim}
+use mathlib.Core.List.{List}
 use Prim.Native.Nat.{ℕ, ◌+◌, ◌-◌, ◌*◌, ◌≤◌, ◌<◌}
 use native.Mathlib.Omega.{arith}
-use lib.ListN.{length, get_or}
+use lib.ListN.{get_or}
 use Rattle.text.specs.Lists.{Text}
 use Rattle.plain.specs.Plain.{width}
 use Rattle.items.specs.Items.{kind_at, token_at}
-use Rattle.xml.specs.Document.{Xml, none, text, stretch, terminal_text}
+use Rattle.xml.specs.Document.{none, text, stretch, terminal_text}
 use Rattle.left_parse.specs.declared.Position.{Position}
 use Rattle.left_parse.specs.Steps.{Skipped, jumped}
 use Rattle.left_parse.specs.Steps as ends
-use Rattle.markup.specs.Pieces.{Says, Pieced}
+use Rattle.markup.specs.Pieces.{Pieced}
 use Rattle.markup.specs.declared.Piece.{Piece}
-use Rattle.cursor.specs.Rest.{Rest, row, within, before}
-use Rattle.cursor.specs.Ahead.{Ahead, SomeAhead, SomeText, AtNode, SomeNode}
+use Rattle.cursor.specs.Rest.{Rest, before}
+use Rattle.cursor.specs.Ahead.{Ahead, SomeAhead, SomeText, SomeNode}
 use Rattle.cursor.specs.Events.{weight, MetText, MetElement, MetAttribute, MetClose, MetEnd, Moves, Rests, Stops, NextCases, Next}
 use Rattle.cursor.specs.Events.{Through, Shown, s-text, s-node, s-close, s-end, Settled, Over, Entered, Past, Inside}
 use Rattle.cursor.specs.declared.Cursor.{Cursor}
 use Rattle.cursor.specs.declared.Event.{Event}
 use Rattle.cursor.specs.declared.Event.TheVariants.{Text as Text', Open, Attribute, Close, End}
 use Rattle.cursor.proofs.Laws.{before-none}
-use Rattle.cursor.proofs.Steps.{cursor, text-there, node-there, into-node, out-of-node, ahead-over, at-node}
+use Rattle.cursor.proofs.Steps.{cursor, text-there, node-there, into-node, out-of-node, at-node}
 use Rattle.cursor.proofs.Nodes.{enter-node, enter-less, past-node, inside-node}
 
 module _ {T P S : List ℕ} {c : Cursor} (A : SomeAhead T P S c) where

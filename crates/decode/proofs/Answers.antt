@@ -1,6 +1,6 @@
 -- What an answer of the decoder says of the text.
 use mathlib.Core.Bool.{Bool, true, false}
-use mathlib.Core.Path.{◌≡◌, refl, subst, ◌∙◌}
+use mathlib.Core.Path.{◌≡◌, refl, subst}
 use Prim.Native.Nat.{ℕ}
 use lib.ListN.{length, drop}
 use mathlib.Core.List.{List}

@@ -10,14 +10,14 @@ use lib.Dec.{eqb}
 use lib.ListN.{length, length-append}
 use borrow.Author.Tests.{lt-ltb, le-ltb, eqb-false}
 use Rattle.text.specs.Lists.{pick}
-use Rattle.text.specs.Utf8.{Scalar, utf8}
+use Rattle.text.specs.Utf8.{utf8}
 use Rattle.text.specs.Decode.{Taken, got, cut, bad, rest_of, char_of}
 use Rattle.text.specs.Faults.{Cut}
 use Rattle.text.proofs.Tests.{split}
 use Rattle.text.proofs.Step.{step-complete, step-sound}
 use Rattle.decode.specs.declared.sequence.Sequence.{Sequence}
 use Rattle.decode.specs.Sequence.{lead_of}
-use Rattle.decode.proofs.Bytes.{after_lead, by_first, sane}
+use Rattle.decode.proofs.Bytes.{by_first, sane}
 
 -- more bytes after them change nothing but what is left, unless they were cut short
 abbrev Grown : List ℕ → Taken → Taken → Type 0

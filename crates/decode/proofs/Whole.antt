@@ -1,17 +1,17 @@
 -- A whole text, from two scans, UTF-8 first, then the alphabet; or from one, where all is of the alphabet.
-use mathlib.Core.Path.{◌≡◌, refl, sym, ap, subst, ◌∙◌}
+use mathlib.Core.Path.{◌≡◌, refl, sym, ap, ◌∙◌}
 use mathlib.Core.Bool.{Bool, true, false}
 use mathlib.Core.Logic.{⊎_elim}
 use mathlib.Core.List.{List, [], ◌∷◌, ◌++◌, append-nil}
-use Prim.Native.Nat.{ℕ, zero, suc, ◌+◌, ◌≤◌, ◌<◌}
+use Prim.Native.Nat.{ℕ, ◌+◌, ◌<◌}
 use native.Mathlib.Omega.{arith}
-use lib.ListN.{length, take, drop, length-append}
+use lib.ListN.{length, drop, length-append}
 use denote.Enum.Declared.{tag_of}
 use types.Run.{OneOf}
 use Rattle.text.specs.Lists.{Text, all}
 use Rattle.text.specs.Utf8.{Scalar, utf8, utf8s, All, none, more, Utf8, known}
 use Rattle.text.specs.Decode.{got, cut, bad, char_of}
-use Rattle.text.specs.Faults.{Fits, every, Breaks, Cut}
+use Rattle.text.specs.Faults.{Fits, every, Breaks}
 use Rattle.text.proofs.Tests.{clash}
 use Rattle.text.proofs.Step.{step-sound}
 use Rattle.text.proofs.Decode.{some_bytes, utf8-unique}

@@ -1,5 +1,5 @@
 -- There is a second derivation exactly where some node of the first has another way.
-use mathlib.Core.Path.{◌≡◌, refl, sym, ap, ◌∙◌}
+use mathlib.Core.Path.{◌≡◌, sym, ap, ◌∙◌}
 use mathlib.Core.Logic.{◌↔◌}
 use mathlib.Core.List.{List, [], ◌∷◌, List-discrete}
 use Prim.Native.Nat.{ℕ, ◌+◌}

@@ -1,7 +1,7 @@
 -- `unproductive` says exactly when some rule derives no text.
 use mathlib.Core.Path.{◌≡◌, refl, sym, ap, ◌∙◌, subst}
-use mathlib.Core.Bool.{Bool, true, false, not, ◌&&◌, ◌||◌}
-use mathlib.Core.Logic.{◌⊎◌, inl, inr, ⊎_elim, ◌↔◌}
+use mathlib.Core.Bool.{Bool, true, false, not}
+use mathlib.Core.Logic.{◌⊎◌, inl, inr, ◌↔◌}
 use mathlib.Core.List.Memᴰ.{head as in_head}
 use mathlib.Core.List.Memᴰ.{tail as in_Tail}
 use mathlib.Core.List.{List, [], ◌∷◌, ◌++◌, append_assoc, append-nil, Memᴰ as In}
@@ -13,18 +13,18 @@ use lib.ListN.{length, get_or, drop, length-append}
 use lib.Seq.{drop-append_seam}
 use Rattle.text.specs.Lists.{Text, any, all}
 use Rattle.text.specs.Utf8.{known}
-use Rattle.text.proofs.Tests.{T_true, T_false, and_left, and_right}
+use Rattle.text.proofs.Tests.{and_left, and_right}
 use Rattle.tree.specs.Tree.{Terminal, Symbol, terminal, Grammar}
 use Rattle.plain.specs.Written.{terminals_in}
 use Rattle.plain.specs.Plain.{alts, ruled, fits, width}
 use Rattle.plain.specs.Live.{live}
 use Rattle.plain.proofs.Live.{fits-live, live-fits}
-use Rattle.derive.specs.Derive.{Row, end, leaf, node, Derives, d-end, d-leaf, d-node, alternative, height}
+use Rattle.derive.specs.Derive.{Row, end, leaf, node, Derives, d-end, d-leaf, d-node, alternative}
 use Rattle.derive.specs.Bound.{symbols_of}
 use Rattle.derive.specs.Pick.{beside}
 use Rattle.derive.specs.Productive.{Produces, Unproductive}
 use Rattle.derive.specs.Yield.{yields, productive, unproductive}
-use Rattle.derive.proofs.Tools.{both-and, or_case, or_left, or_right, is_t, not_t}
+use Rattle.derive.proofs.Tools.{both-and, or_case, or_left, or_right}
 use Rattle.derive.proofs.Rows.{join}
 use Rattle.derive.proofs.Bound.{still, count, count-le, count_same}
 use Rattle.derive.proofs.Symbols.{Inside, alternative-of, ruled-of, the-terminal}

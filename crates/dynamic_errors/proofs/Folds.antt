@@ -1,6 +1,6 @@
 -- An attribute twice in all that is ahead, event by event.
 use mathlib.Core.Path.{◌≡◌, refl, sym, ap, ◌∙◌}
-use mathlib.Core.Bool.{Bool, true, false, ◌||◌}
+use mathlib.Core.Bool.{Bool, false, ◌||◌}
 use mathlib.Core.List.{List, [], ◌∷◌}
 use Rattle.text.specs.Lists.{Text}
 use Rattle.text.proofs.Lists.{or_assoc, or-false}

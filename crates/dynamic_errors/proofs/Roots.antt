@@ -3,7 +3,7 @@ use mathlib.Core.Path.{◌≡◌, refl, sym, ap, ap₂, ◌∙◌}
 use mathlib.Core.Bool.{Bool, true, false, not, ◌||◌}
 use mathlib.Core.List.{List, [], ◌∷◌}
 use mathlib.Core.Logic.{⊎_elim}
-use Prim.Native.Nat.{ℕ, ◌+◌, ◌*◌, ◌≤◌, ◌<◌}
+use Prim.Native.Nat.{ℕ, ◌+◌}
 use native.Mathlib.Omega.{arith}
 use lib.Dec.{eqb}
 use lib.ListN.{get_or}
@@ -11,12 +11,12 @@ use borrow.Author.Tests.{eq-eqb, eqb-true, eqb-false}
 use Rattle.text.specs.Lists.{Text, pick, same}
 use Rattle.text.proofs.Lists.{or-false}
 use Rattle.text.proofs.Tests.{look}
-use Rattle.tree.specs.Tree.{Mark, unmarked, included, attribute, deleted, Symbol, Grammar}
+use Rattle.tree.specs.Tree.{Mark, unmarked, included, attribute, deleted, Grammar}
 use Rattle.tree.specs.Tokens.{mark_number}
 use Rattle.derive.specs.Derive.{Row, root}
 use Rattle.xml.specs.Names.{xml_name}
 use Rattle.plain.specs.Plain.{rule_mark}
-use Rattle.xml.specs.Document.{Xml, nodes, mark_of, document, twice, misnamed, unwritable, is_attribute, not_one, namespaced}
+use Rattle.xml.specs.Document.{Xml, mark_of, document, twice, misnamed, unwritable, is_attribute, not_one, namespaced}
 use Rattle.left_parse.specs.Noted.{Room}
 use Rattle.left_parse.specs.Steps.{Found, Named}
 use Rattle.markup.specs.Pieces.{Headed}
@@ -27,9 +27,8 @@ use Rattle.writer.proofs.Whole.{Rooted, rooted, root-row, row-again, found_first
 use Rattle.xml_shape.specs.Judges.{Judges}
 use Rattle.xml_shape.specs.Names.{repeated}
 use Rattle.dynamic_errors.specs.declared.Findings.{Findings}
-use Rattle.dynamic_errors.specs.declared.Verdict.{Verdict}
 use Rattle.dynamic_errors.specs.declared.Verdict.TheVariants.{Allowed, RepeatedAttribute, NotXmlName, NotXmlCharacter, AttributeRoot, DeletedRoot, AttributeXmlns}
-use Rattle.extent.specs.Extent.{tag, most_of, attributes_of, Covers, Grown}
+use Rattle.extent.specs.Extent.{tag, attributes_of, Covers, Grown}
 use Rattle.extent.specs.declared.Extent.{Extent}
 use Rattle.extent.proofs.Sizes.{not-twice, no_names}
 use Rattle.dynamic_errors.specs.declared.Review.{Review}

@@ -1,22 +1,22 @@
 -- How characters are spelt, one by one and in a row.
 use mathlib.Core.Path.{◌≡◌, refl, sym, ap, ◌∙◌}
-use mathlib.Core.Bool.{Bool, true, false, ◌&&◌}
+use mathlib.Core.Bool.{Bool}
 use mathlib.Core.Logic.{⊎_elim}
-use mathlib.Core.List.{List, [], ◌∷◌, ◌++◌, append-nil}
-use Prim.Native.Nat.{ℕ, zero, suc, ◌+◌, ◌-◌, ◌≤◌, ◌<◌, min}
+use mathlib.Core.List.{List, [], ◌∷◌, ◌++◌}
+use Prim.Native.Nat.{ℕ, suc, ◌+◌, ◌-◌, ◌≤◌, ◌<◌}
 use native.Mathlib.Omega.{arith}
 use lib.Dec.{eqb}
 use lib.ListN.{length, get_or, take, drop, drop_of_length-le}
 use lib.Seq.{drop-cons, take-nil}
 use borrow.Author.Tests.{eq-eqb, ne_eqb}
-use Rattle.text.specs.Lists.{Text, chars, pick, concat_map}
+use Rattle.text.specs.Lists.{Text, chars, concat_map}
 use Rattle.text.proofs.Tests.{split}
 use Rattle.tree.specs.Tokens.{capped}
 use Rattle.xml.specs.Bytes.{escape}
 use Rattle.xml.proofs.References.{reference-small}
 use Rattle.xml.proofs.Escapes.{Escaped, as-reference, as-itself, escaped}
 use Rattle.encode.specs.Out.{State, state, puts, enc, spelt, in_value, Wrote}
-use Rattle.encode.proofs.Puts.{enc-append, enc-one, enc-none, puts_none, paid}
+use Rattle.encode.proofs.Puts.{enc-one, enc-none, puts_none, paid}
 
 pub spelt-name : (mode c : ℕ) → mode ≡ 0 → spelt mode c ≡ c ∷ []
 spelt-name mode c e = rw (eq-eqb mode 0 e)

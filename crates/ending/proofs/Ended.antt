@@ -19,7 +19,6 @@ use Rattle.opening.specs.declared.Start.{Start}
 use Rattle.opening.specs.declared.Begun.{Begun}
 use Rattle.opening.specs.declared.Begun.TheVariants.{At, Refused as Not-begun}
 use Rattle.opening.specs.Stages.{begun_of}
-use Rattle.job.specs.declared.Parse.{Parse}
 use Rattle.job.specs.Found.{Prepared}
 use Rattle.job.specs.Parses.{parsed_of, Parses}
 use Rattle.job.proofs.Readings.{parses-of}

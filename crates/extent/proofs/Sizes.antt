@@ -1,7 +1,7 @@
 -- The bytes of a row's attributes and contents are at most what is counted.
 use mathlib.Core.Path.{◌≡◌, refl, sym, subst, ap, ◌∙◌}
 use mathlib.Core.Logic.{⊎_elim}
-use mathlib.Core.Bool.{Bool, true, false, ◌||◌}
+use mathlib.Core.Bool.{Bool, true, false}
 use mathlib.Core.List.{List, [], ◌∷◌, ◌++◌}
 use Prim.Native.Nat.{ℕ, ◌+◌, ◌*◌, ◌/◌, ◌%◌, ◌≤◌, ◌<◌}
 use native.Mathlib.Omega.{arith}
@@ -9,7 +9,7 @@ use lib.Dec.{ltb, eqb}
 use borrow.Author.Tests.{eqb-true}
 use Rattle.text.proofs.Tests.{look}
 use lib.ListN.{length, length-append}
-use Rattle.text.specs.Lists.{Text, chars, pick, concat_map, repeats}
+use Rattle.text.specs.Lists.{Text, chars, pick, concat_map}
 use Rattle.text.specs.Utf8.{utf8}
 use Rattle.tree.specs.Tokens.{capped}
 use Rattle.xml.specs.Document.{Xml, none, char, attr, elem, attribute_names, twice}

@@ -1,25 +1,23 @@
 -- The place that the search finds is that of the fault.
-use mathlib.Core.Bool.{Bool, true, false}
+use mathlib.Core.Bool.{false}
 use mathlib.Core.List.{List, [], ◌∷◌}
-use mathlib.Core.Logic.{◌⊎◌, inl, inr, ⊎_elim}
+use mathlib.Core.Logic.{◌⊎◌, ⊎_elim}
 use mathlib.Core.Path.{◌≡◌, refl, sym, ap, subst, ◌∙◌}
-use Prim.Native.Nat.{ℕ, suc, ◌+◌, ◌*◌, ◌<◌, ◌≤◌}
-use native.Mathlib.Decide.{ℕ_discrete}
+use Prim.Native.Nat.{ℕ, ◌+◌, ◌<◌, ◌≤◌}
 use native.Mathlib.Omega.{arith}
 use lib.Dec.{T}
 use lib.ListN.{length, get_or, drop}
 use Rattle.text.specs.Lists.{Text, all}
 use Rattle.text.specs.Utf8.{known}
 use Rattle.tree.specs.Tree.{Terminal, Symbol, terminal, Grammar}
-use Rattle.plain.specs.Plain.{alts, fits, width}
+use Rattle.plain.specs.Plain.{alts, width}
 use Rattle.derive.specs.Derive.{Row, Derives, d-end, d-node, alternative, root}
-use Rattle.derive.specs.Productive.{Produces}
 use Rattle.derive.specs.Yield.{productive, unproductive}
 use Rattle.derive.proofs.Rows.{forward}
 use Rattle.derive.proofs.Symbols.{alternative-of, root-inside}
 use Rattle.derive.proofs.Productive.{derived-productive}
 use Rattle.viable.specs.Fault.{FaultAt}
-use Rattle.viable.specs.Stands.{begun, begun_by, Stands, at-root, past-terminal, into, past-symbol, Farthest}
+use Rattle.viable.specs.Stands.{begun, Stands, at-root, past-terminal, into, past-symbol, Farthest}
 use Rattle.viable.proofs.Sound.{First, is-literal, no-literal, first_of}
 use Rattle.viable.proofs.Fault.{root-produces, farthest-fault}
 use Rattle.chart.specs.Code.{next_kind, goes_at, rule_at, owner_at, after_dot, head_of, On, at-end, at-terminal, at_symbol, Ruled}
@@ -38,7 +36,7 @@ use Rattle.fault.proofs.Ranges.{one-begun}
 use Rattle.stands.specs.State.{Exact}
 use Rattle.sparse.specs.Steps.{Flagged, LeastOn}
 use Rattle.prepare.proofs.Rows.{ruled-as}
-use Rattle.stands.specs.Viable.{Begins, Next, by-terminal, by-entering, by-passing, Viable, at_first, onward}
+use Rattle.stands.specs.Viable.{Begins, by-terminal, by-entering, by-passing, Viable, at_first, onward}
 use Rattle.fault.specs.Far.{Begun, Placed}
 use Rattle.fault.specs.Far as far
 use Rattle.fault.proofs.Alike.{begun-same}

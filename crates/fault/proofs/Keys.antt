@@ -3,7 +3,7 @@ use mathlib.Core.Bool.{Bool, true, false, ◌&&◌}
 use mathlib.Core.List.{List}
 use mathlib.Core.Logic.{◌⊎◌, inl, inr, ⊎_elim}
 use mathlib.Core.Path.{◌≡◌, refl, sym, ap, subst, ◌∙◌}
-use Prim.Native.Nat.{ℕ, suc, ◌+◌, ◌*◌, ◌-◌, ◌<◌, ◌≤◌}
+use Prim.Native.Nat.{ℕ, ◌+◌, ◌*◌, ◌-◌, ◌<◌, ◌≤◌}
 use native.Mathlib.Decide.{ℕ_discrete}
 use native.Mathlib.Omega.{arith}
 use lib.Dec.{T}
@@ -19,7 +19,6 @@ use Rattle.reach.specs.Work.{Listed, l-here, l-next}
 use Rattle.reach.specs.Lists as lists
 use Rattle.reach.proofs.Keys.{use-none, use-some, key-use, members}
 use Rattle.sparse.specs.Cells.{Shape}
-use Rattle.stands.specs.Viable.{Begins}
 use Rattle.fault.specs.Firsts.{AllLive, SomeLive, Tokened, Finishing, at-end, at-terminal, at_other, Tells, KeyPut, First, Keyed, Firsts}
 
 module _ {Tb c : List ℕ} {p : ℕ} where

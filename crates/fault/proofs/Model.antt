@@ -1,21 +1,18 @@
 -- What the flags of a grammar's code say of the grammar.
-use mathlib.Core.Bool.{Bool, true, false, not, ◌||◌}
+use mathlib.Core.Bool.{false, not}
 use mathlib.Core.List.{List, [], ◌∷◌, Memᴰ as In}
-use mathlib.Core.Logic.{◌⊎◌, inl, inr, ⊎_elim}
-use mathlib.Core.Path.{◌≡◌, refl, sym, ap, subst, ◌∙◌}
-use Prim.Native.Nat.{ℕ, zero, suc, ◌+◌, ◌*◌, ◌<◌, ◌≤◌}
+use mathlib.Core.Logic.{◌⊎◌, ⊎_elim}
+use mathlib.Core.Path.{◌≡◌, refl, sym, ap, subst}
+use Prim.Native.Nat.{ℕ, zero, suc, ◌+◌, ◌<◌}
 use native.Mathlib.Omega.{arith}
 use lib.Dec.{T}
-use lib.ListN.{length, get_or, drop}
-use Rattle.text.specs.Limits.{most_size, record_chars}
-use Rattle.text.specs.Lists.{Text, any, all}
-use Rattle.text.specs.Utf8.{known}
+use lib.ListN.{length}
+use Rattle.text.specs.Lists.{any, all}
 use Rattle.text.proofs.Tests.{look, is_t, not_t, both-and, and_left, and_right, or_case, or_right}
 use Rattle.tree.specs.Tree.{Terminal, Symbol, terminal, Grammar}
 use Rattle.plain.specs.Written.{terminals_in}
-use Rattle.plain.specs.Plain.{alts, fits, width, ruled}
+use Rattle.plain.specs.Plain.{alts, ruled}
 use Rattle.plain.specs.Live.{live}
-use Rattle.derive.specs.Derive.{Row, Derives, alternative, root}
 use Rattle.derive.specs.Bound.{symbols_of}
 use Rattle.derive.specs.Yield.{yields, productive, unproductive}
 use Rattle.derive.proofs.Symbols.{the-terminal}

@@ -1,11 +1,10 @@
 -- From what the stages of the search promise to the place.
 use mathlib.Core.List.{List}
-use mathlib.Core.Path.{◌≡◌, refl, sym, ap, subst, ◌∙◌}
-use Prim.Native.Nat.{ℕ, zero, suc, ◌+◌, ◌<◌, ◌≤◌}
+use mathlib.Core.Path.{◌≡◌, refl, subst}
+use Prim.Native.Nat.{ℕ, zero, suc, ◌+◌, ◌<◌}
 use native.Mathlib.Omega.{arith}
 use lib.ListN.{length, get_or, replicate, length-replicate}
 use Rattle.text.specs.Lists.{Text}
-use Rattle.stands.specs.Viable.{Ground}
 use Rattle.stands.specs.State.{Bare, Standing, Exact}
 use Rattle.fault.specs.Firsts.{Firsts}
 use Rattle.fault.specs.Far.{Ranging, Reach, Placing, Placed}

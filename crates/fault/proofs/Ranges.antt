@@ -1,15 +1,14 @@
 -- How far dots reach, one after the other.
 use mathlib.Core.List.{List}
 use mathlib.Core.Logic.{◌⊎◌, inl, inr, ⊎_elim}
-use mathlib.Core.Path.{◌≡◌, refl, sym, ap, subst, ◌∙◌}
+use mathlib.Core.Path.{◌≡◌, refl, sym, subst, ◌∙◌}
 use Prim.Native.Nat.{ℕ, ◌+◌, ◌-◌, ◌<◌, ◌≤◌}
 use native.Mathlib.Decide.{ℕ_discrete}
 use native.Mathlib.Omega.{arith}
-use lib.ListN.{length, get_or, drop}
+use lib.ListN.{length}
 use Rattle.text.specs.Lists.{Text}
 use Rattle.chart.specs.Code.{next_kind}
 use Rattle.stands.specs.State.{Stood, flag_at}
-use Rattle.fault.specs.Firsts.{Tokened}
 use Rattle.fault.specs.Far.{Begun, Ranging, Reached, Ranged, Reach}
 
 module _ {Tb c : List ℕ} {R : Text} {size i : ℕ} (g : Ranging Tb c R size i) where

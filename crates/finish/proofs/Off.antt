@@ -1,33 +1,29 @@
 -- From a fixed point to what the walk and the search for the fault are given.
-use mathlib.Core.Bool.{false}
-use mathlib.Core.List.{List, [], ◌∷◌}
-use mathlib.Core.Path.{◌≡◌, refl, sym, subst, ◌∙◌}
+use mathlib.Core.List.{List}
+use mathlib.Core.Path.{◌≡◌, refl, sym, subst}
 use Prim.Native.Nat.{ℕ, ◌+◌, ◌-◌, ◌*◌, ◌<◌, ◌≤◌}
 use native.Mathlib.Decide.{ℕ_discrete}
 use native.Mathlib.Omega.{arith}
 use lib.Dec.{T}
 use lib.ListN.{length, get_or, drop}
 use Rattle.text.specs.Limits.{most_size, record_chars}
-use Rattle.text.specs.Lists.{Text, all}
-use Rattle.text.specs.Utf8.{known}
+use Rattle.text.specs.Lists.{Text}
 use Rattle.tree.specs.Tree.{Terminal, Grammar}
 use Rattle.plain.specs.Plain.{fits}
-use Rattle.derive.specs.Yield.{unproductive}
-use Rattle.viable.specs.Fault.{FaultAt}
-use Rattle.chart.specs.Code.{next_kind, goes_at, rule_at, owner_at, fits_at, Fitting, On, at-end, at-terminal, at_symbol, Ruled}
+use Rattle.chart.specs.Code.{next_kind, goes_at, rule_at, owner_at, Fitting, On, at-end, at-terminal, at_symbol, Ruled}
 use Rattle.chart.specs.Heights.{stretches, none}
 use Rattle.rules.specs.Ready.{Token, Ready}
 use Rattle.prepare.specs.Rows.{Rows}
 use Rattle.prepare.proofs.Rows.{ruled-as, fitted}
 use Rattle.heights.specs.Filling.{Filled}
-use Rattle.reach.specs.Flags.{Reached, Fits, Begins, Ends, Wanted, LeftClosed, FitsOnly, home_of}
+use Rattle.reach.specs.Flags.{Reached, Fits, Begins, Wanted, LeftClosed, FitsOnly, home_of}
 use Rattle.sparse.specs.Cells.{Noted, Shape}
 use Rattle.sparse.proofs.Coded.{shape_of}
 use Rattle.left_pass.proofs.Shifts.{fits-within}
 use Rattle.reach.proofs.Keys.{home-most}
 use Rattle.sparse.specs.Steps.{Empties}
 use Rattle.full.specs.Whole.{Marked}
-use Rattle.full.proofs.Marks.{flag-other, flag-fits}
+use Rattle.full.proofs.Marks.{flag-other}
 use Rattle.full.proofs.Whole.{coded, whole_code, whole-least, whole-attained, reached, wanted, flagged}
 use Rattle.fixpoint.specs.Fixed.{Fixpoint}
 use Rattle.fixpoint.proofs.Sound.{fixed-heights}

@@ -16,7 +16,7 @@ use Rattle.heights.specs.Filling.{Gives, by-terminal, by-split, by-owned, Closed
 use Rattle.heights.proofs.Cells.{next_place, rule-place, owner-place}
 use Rattle.heights.proofs.Values.{Value, value-is, up_is, up-low, up_none}
 use Rattle.heights.proofs.Exact.{shape, SoundAt, Sound, shift_by, split_by, owned_by, value-by, heights-of}
-use Rattle.fixpoint.specs.Fixed.{Fixed, Fixpoint}
+use Rattle.fixpoint.specs.Fixed.{Fixpoint}
 
 module _ (c f : List ℕ) (g : Grammar) (r : Text) (size top first : ℕ) (k : Coded c f g r size top first) (t : List ℕ) (fix : Fixpoint c f size (length r) t) where
   abbrev n : ℕ

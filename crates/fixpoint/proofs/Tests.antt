@@ -15,12 +15,12 @@ use lib.Seq.{get_or-set_same, get_or-set_other}
 use Rattle.text.specs.Limits.{most_size}
 use Rattle.chart.specs.Code.{next_kind, owner_at}
 use Rattle.chart.specs.Heights.{none}
-use Rattle.heights.specs.Table.{cell_of, value_of, Shape, Place}
+use Rattle.heights.specs.Table.{cell_of, value_of, Shape}
 use Rattle.heights.specs.Filling.{Gives, by-terminal, by-split, by-owned}
 use Rattle.sweeps.specs.Layers.{Offered}
 use Rattle.tells.specs.Tells.{Tells}
-use Rattle.tells.proofs.Tells.{hit, miss, not_so}
-use Rattle.fixpoint.specs.Fixed.{Below, Fixed, DotsFixed, StartsFixed, EndsFixed, Fixpoint, Least, Leasts, Lowered}
+use Rattle.tells.proofs.Tells.{hit, miss}
+use Rattle.fixpoint.specs.Fixed.{Below, Fixed, StartsFixed, EndsFixed, Fixpoint, Least, Leasts, Lowered}
 
 -- what holds below b and at b
 pub and-here : (P : ℕ → Type 0) (b : ℕ) → ((p : ℕ) → p < b → P p) → P b → (p : ℕ) → p < b + 1 → P p

@@ -6,7 +6,7 @@ use native.Mathlib.Decide.{ℕ_discrete}
 use native.Mathlib.Omega.{arith}
 use lib.ListN.{length, get_or, set, length-set}
 use lib.Seq.{get_or-set_same, get_or-set_other}
-use borrow.Author.Tests.{ne_eqb, eq-eqb}
+use borrow.Author.Tests.{ne_eqb}
 use Rattle.text.specs.Limits.{most_size, record_chars}
 use Rattle.chart.specs.Code.{next_kind, fits_at}
 use Rattle.reach.specs.Flags.{dot_at, begin_at, end_at}

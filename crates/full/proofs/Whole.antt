@@ -13,7 +13,7 @@ use Rattle.text.specs.Lists.{Text}
 use Rattle.text.proofs.Tests.{look}
 use Rattle.tree.specs.Tree.{Terminal, Symbol, terminal, Grammar}
 use Rattle.plain.specs.Plain.{alts, fits}
-use Rattle.derive.specs.Derive.{Row, end, node, alternative, Derives, d-end, d-leaf, d-node, height}
+use Rattle.derive.specs.Derive.{Row, end, node, Derives, d-end, d-leaf, d-node, height}
 use Rattle.derive.proofs.Rows.{forward}
 use Rattle.derive.proofs.Levels.{Low}
 use Rattle.chart.specs.Code.{next_kind, goes_at, rule_at, owner_at, after_dot, head_of, flag, fits_at, Fitting, On, at-end, at-terminal, at_symbol, Ruled, Coded}

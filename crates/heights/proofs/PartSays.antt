@@ -1,7 +1,7 @@
 -- Heights of a part that are attained, and that no offer lowers, say exactly what derives the stretches where it is used.
-use mathlib.Core.Path.{◌≡◌, refl, sym, subst, ap, ◌∙◌}
+use mathlib.Core.Path.{◌≡◌, refl, sym, subst}
 use mathlib.Core.List.{List, [], ◌∷◌, Memᴰ as Memb}
-use Prim.Native.Nat.{ℕ, suc, ◌+◌, ◌*◌, ◌<◌, ◌≤◌, max}
+use Prim.Native.Nat.{ℕ, suc, ◌+◌, ◌*◌, ◌<◌, ◌≤◌}
 use native.Mathlib.Nat.{mul-le-mul}
 use native.Mathlib.Decide.{dec_lt}
 use native.Mathlib.Omega.{arith}
@@ -10,15 +10,14 @@ use Rattle.text.specs.Limits.{most_size, record_chars}
 use Rattle.text.specs.Lists.{Text}
 use Rattle.tree.specs.Tree.{Terminal, Symbol, Grammar}
 use Rattle.plain.specs.Plain.{alts}
-use Rattle.derive.specs.Derive.{Row, end, node, alternative, Derives, d-leaf, d-node, d-end, height}
+use Rattle.derive.specs.Derive.{Row, end, node, Derives, d-leaf, d-node, d-end, height}
 use Rattle.derive.specs.Bound.{symbols_of, stretches, top}
 use Rattle.derive.proofs.Bound.{stretches-count, bounded}
 use Rattle.derive.proofs.Symbols.{in-inside}
-use Rattle.derive.proofs.Levels.{Low}
-use Rattle.chart.specs.Code.{next_kind, owner_at, after_dot, head_of, Chain, ch-last, ch-next, Ruled}
+use Rattle.chart.specs.Code.{owner_at, after_dot, head_of, Chain, ch-last, ch-next, Ruled}
 use Rattle.chart.specs.Heights.{none, Says, says_none, says-height, SaysRule, rule-none, rule-height}
-use Rattle.heights.specs.Part.{toward, Offers, Least}
-use Rattle.heights.proofs.Part.{Found, find, Attained, chain_first, Stays, Spot, Reached, complete, toward-rest, toward-rule}
+use Rattle.heights.specs.Part.{Least}
+use Rattle.heights.proofs.Part.{find, Attained, chain_first, Stays, Spot, Reached, complete, toward-rest, toward-rule}
 
 -- a height that is always enough is no "none"
 pub top_small : {At : ℕ → Terminal → Type 0} {c : List ℕ} {g : Grammar} {size root first : ℕ} → Ruled At c g size root first → (r : Text) → size ≤ most_size

@@ -1,17 +1,17 @@
 -- Blocks of items: a list of numbers that, wherever a finished table takes it over, is the alternatives of a symbol.
-use mathlib.Core.List.{List, [], ◌∷◌, ◌++◌, append_assoc}
+use mathlib.Core.List.{List, [], ◌∷◌, ◌++◌}
 use mathlib.Core.Logic.{◌⊎◌, inl, inr, ⊎_elim}
 use mathlib.Core.Path.{◌≡◌, refl, sym, ap, ◌∙◌, subst}
-use Prim.Native.Nat.{ℕ, zero, suc, ◌+◌, ◌*◌, ◌-◌, ◌<◌, ◌≤◌}
+use Prim.Native.Nat.{ℕ, suc, ◌+◌, ◌*◌, ◌-◌, ◌<◌, ◌≤◌}
 use native.Mathlib.Omega.{arith}
 use lib.ListN.{length, length-append}
 use Rattle.text.proofs.Tests.{split}
 use Rattle.tree.specs.Tree.{Symbol, Rule, Grammar}
 use Rattle.plain.specs.Plain.{alts, weight}
-use Rattle.items.specs.Items.{kind_at, Starts, Among, Stands, Spells, sp_end, sp-item, Alternatives, al-last, al-more, Spelt}
+use Rattle.items.specs.Items.{kind_at, Starts, Among, Stands, sp_end, sp-item, Alternatives, al-last, al-more, Spelt}
 use Rattle.items.specs.Scanned.{RuleCover, RuleBegins, Begins, Clean, Cleans}
 use Rattle.items.specs.Built.{Cover}
-use Rattle.items.specs.Final.{Placed, PlacedAll, Final}
+use Rattle.items.specs.Final.{Placed, PlacedAll}
 use Rattle.items.proofs.Uses.{rule-spelt}
 
 module _ (F : List ℕ) (g : Grammar) (S : Starts) where

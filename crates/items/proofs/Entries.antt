@@ -2,9 +2,8 @@
 use mathlib.Core.Bool.{Bool, true, false, not, ◌||◌}
 use mathlib.Core.List.Memᴰ.{append_left as in_left}
 use mathlib.Core.List.Memᴰ.{append_right as in_right}
-use mathlib.Core.List.Memᴰ.{head as in_head}
-use mathlib.Core.List.{List, [], ◌∷◌, ◌++◌, append_assoc, append-nil, Memᴰ as In}
-use mathlib.Core.Logic.{◌⊎◌, inl, inr}
+use mathlib.Core.List.{List, [], ◌∷◌, ◌++◌, Memᴰ as In}
+use mathlib.Core.Logic.{inl, inr}
 use mathlib.Core.Path.{◌≡◌, refl, sym, ap, ◌∙◌, subst}
 use Prim.Native.Nat.{ℕ, ◌+◌, ◌*◌, ◌<◌, ◌≤◌}
 use native.Mathlib.Omega.{arith}
@@ -12,30 +11,28 @@ use borrow.Author.Tests.{not-false}
 use lib.ListN.{length, length-append}
 use Rattle.text.specs.Lists.{Text, any, same, concat_map}
 use Rattle.text.proofs.Lists.{concat-append}
-use Rattle.tree.specs.Tree.{Mark, Chars, string, hex, Member, chars, range, class, Terminal, literal, inclusion, exclusion, insertion}
-use Rattle.tree.specs.Tree.{Symbol, terminal, nonterminal, group, option, repeat0, repeat1, repeat0sep, repeat1sep, rest, Alternative, nil, cons, Body, one, also, Grammar}
-use Rattle.tree.specs.Tokens.{Token, include, exclude, set-end, open-group, close-group, next-alternative, to-option, to-repeat0, to-repeat1, to-repeat0sep, to-repeat1sep, encode, numbers}
+use Rattle.tree.specs.Tree.{Mark, string, hex, Member, chars, range, class, Terminal, literal, inclusion, exclusion, insertion}
+use Rattle.tree.specs.Tree.{Symbol, terminal, nonterminal, Alternative, Body, Grammar}
+use Rattle.tree.specs.Tokens.{Token, include, exclude, set-end, encode}
 use Rattle.tree.specs.Tokens.{member_token, member_tokens, terminal_tokens, symbol_tokens, alternative_tokens, body_tokens}
-use Rattle.plain.specs.Written.{heads, terminals, names_in, terminals_in, within, within_alternative, within_body, kind, made}
-use Rattle.plain.specs.Plain.{symbols, alternatives, alts, makes, weight}
+use Rattle.plain.specs.Written.{heads, terminals, names_in, terminals_in, within, within_alternative, within_body}
+use Rattle.plain.specs.Plain.{symbols, alternatives, makes, weight}
 use Rattle.layout.specs.Layout.{laid, laid_alternative, laid_body}
-use Rattle.tokens.specs.Proper.{Proper, ProperAlternative, ProperBody}
 use Rattle.tokens.specs.Lengths.{first_number}
-use Rattle.measure.specs.Costs.{cost, costs, cost_of, repeat_cost_of}
+use Rattle.measure.specs.Costs.{cost, costs, cost_of}
 use Rattle.tokens.proofs.Walk.{by-mark}
-use Rattle.measure.proofs.Sizes.{costs-append, terminal-costs}
-use Rattle.items.specs.declared.Action.{Action}
-use Rattle.items.specs.declared.Action.TheVariants.{Skip, Push, Open, Operator, Close, Finish}
-use Rattle.items.specs.Items.{Starts, Among, Stands, st-terminal, st-name, Reads, token_at, lead}
+use Rattle.measure.proofs.Sizes.{terminal-costs}
+use Rattle.items.specs.declared.Action.TheVariants.{Skip, Push}
+use Rattle.items.specs.Items.{Starts, Among, Stands, st-terminal, Reads, lead}
 use Rattle.repetitions.specs.Blocks.{Entry, entry, nums, one_block}
-use Rattle.items.specs.Machine.{Abs, pushed, One, Two, Block, Closed, Act, Fit, action_of, late_action_of}
-use Rattle.repetitions.specs.Blocks.{one_count, one_first, two_block, two_count, two_first, star_block, once_block, rest_block, both_ends}
+use Rattle.items.specs.Machine.{Abs, pushed, action_of}
+use Rattle.repetitions.specs.Blocks.{one_count, one_first, two_block, two_count, two_first}
 use Rattle.items.specs.Scanned.{At}
-use Rattle.items.specs.Final.{Known, Placed, PlacedAll, Final}
-use Rattle.items.proofs.Reps.{act-as, one-length, two-length}
-use Rattle.items.proofs.Blocks.{Rows, r_last, r-more, r-item, Blocks, b-none, b-rule, sound-then}
-use Rattle.items.proofs.Runs.{Trace, t-done, t-step, trace-append, sound-block, at_left, at_right, Ok, Run, shorter, run_none}
-use Rattle.items.proofs.Runs.{run-then, run-quiet, run-block, reads-final, means-made, among_later}
+use Rattle.items.specs.Final.{Placed, Final}
+use Rattle.items.proofs.Reps.{act-as}
+use Rattle.items.proofs.Blocks.{Rows}
+use Rattle.items.proofs.Runs.{Ok, Run}
+use Rattle.items.proofs.Runs.{run-then, run-quiet, reads-final}
 use Rattle.items.proofs.Adds.{Adds, adds_none}
 use Rattle.items.proofs.Lays.{LaysIn, lays-none}
 

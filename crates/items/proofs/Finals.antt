@@ -1,6 +1,6 @@
 -- Where rules begin, with the names; the table after names were linked takes the scanned items over.
 use mathlib.Core.Bool.{Bool, true, false, ◌||◌}
-use mathlib.Core.List.{List, [], ◌∷◌, ◌++◌, append-nil, Memᴰ as In}
+use mathlib.Core.List.{List, [], ◌∷◌, ◌++◌, Memᴰ as In}
 use mathlib.Core.List.Memᴰ.{append_cases as in-cases}
 use mathlib.Core.List.Memᴰ.{append_left as in_left}
 use mathlib.Core.List.Memᴰ.{append_right as in_right}
@@ -10,21 +10,20 @@ use Prim.Native.Nat.{ℕ, zero, suc, ◌+◌, ◌*◌, ◌-◌, ◌<◌, ◌≤�
 use native.Mathlib.Omega.{arith}
 use lib.Dec.{T}
 use lib.ListN.{length, get_or, take, drop, length-drop}
-use lib.Seq.{get_or-take, get_or-drop, length-take-le, take-take, drop-drop}
-use borrow.Author.Tests.{eq-eqb}
+use lib.Seq.{get_or-take, get_or-drop, length-take-le, take-take}
 use Rattle.text.specs.Lists.{Text, pick, any, same, repeats, concat_map}
 use Rattle.text.proofs.Tests.{is_t, same-is, clash}
-use Rattle.tree.specs.Tree.{Mark, unmarked, included, attribute, deleted, Symbol, nonterminal, Rule, Grammar, rules}
-use Rattle.tree.specs.Tokens.{name, rule-head, mark_number, counted}
+use Rattle.tree.specs.Tree.{unmarked, Symbol, nonterminal, Rule, Grammar, rules}
+use Rattle.tree.specs.Tokens.{name, mark_number}
 use Rattle.plain.specs.Written.{written, heads}
 use Rattle.plain.specs.Static.{duplicate}
-use Rattle.plain.specs.Plain.{alts, alternatives, rule_for, makes, ruled, weight, size, rule_mark, over}
+use Rattle.plain.specs.Plain.{alts, rule_for, makes, ruled, weight, size, rule_mark}
 use Rattle.layout.specs.Layout.{starts_of}
 use Rattle.items.specs.declared.State.{State}
-use Rattle.items.specs.Items.{kind_at, target_at, token_at, Reads, mark_kind, Starts, Among, st-name, Alternatives, Items}
+use Rattle.items.specs.Items.{kind_at, target_at, token_at, Reads, Starts, Among, st-name, Alternatives, Items}
 use Rattle.repetitions.specs.Blocks.{kind_by}
 use Rattle.items.specs.Final.{Placed, PlacedAll, Final}
-use Rattle.items.specs.Scanned.{At, Listed, l-none, l-rule, RuleCover, RuleBegins, Begins, Clean, Cleans, Bodies, Whole, Scanned}
+use Rattle.items.specs.Scanned.{Listed, l-none, l-rule, RuleCover, RuleBegins, Begins, Clean, Cleans, Whole, Scanned}
 use Rattle.items.specs.Linked.{NameAt, head_at, first_at, Linkable, Resolved, Linked}
 use Rattle.items.specs.Built.{Cover, Built}
 use Rattle.items.proofs.Links.{beside_first}

@@ -1,23 +1,21 @@
 -- What the machine's stores do to a table that has a state.
 use mathlib.Core.Bool.{Bool, true, false}
-use mathlib.Core.List.{List, [], ◌∷◌, ◌++◌, append-nil, append_assoc}
-use mathlib.Core.Logic.{◌⊎◌, ⊎_elim}
+use mathlib.Core.List.{List, [], ◌∷◌, ◌++◌, append_assoc}
 use mathlib.Core.Path.{◌≡◌, refl, sym, ap, ◌∙◌, subst}
 use Prim.Native.Nat.{ℕ, ◌+◌, ◌*◌, ◌-◌, ◌<◌, ◌≤◌}
 use native.Mathlib.Omega.{arith}
-use borrow.Author.Tests.{eq-eqb, ne_eqb}
 use lib.Dec.{eqb}
 use lib.ListN.{length, get_or, take, drop, length-append, length-take}
-use lib.Seq.{sets, length-sets, take-take, take_at, length-take-le}
+use lib.Seq.{sets, length-sets, take-take, take_at}
 use Rattle.text.specs.Lists.{pick}
 use Rattle.items.specs.declared.State.{State}
 use Rattle.items.specs.declared.Action.{Action}
-use Rattle.repetitions.specs.Blocks.{Entry, entry, nums, entry_at, both_ends, once_block, option_block, star_block, rest_block, list_block}
+use Rattle.repetitions.specs.Blocks.{Entry, entry, nums, entry_at, both_ends, once_block, option_block, star_block, list_block}
 use Rattle.repetitions.specs.Blocks.{one_block, one_count, one_first, two_block, two_count, two_first, laid}
 use Rattle.items.specs.Machine.{Abs, pushed, One, Two, Block}
-use Rattle.items.specs.Machine.{block_list, Closed, Finished, Fit, Has, Rep, Copied, Space, Act, Ready}
+use Rattle.items.specs.Machine.{Closed, Finished, Fit, Has, Rep, Copied, Space, Act, Ready}
 use Rattle.repetitions.proofs.Stores.{take-sets, entry_kept}
-use Rattle.items.proofs.Windows.{win-before, win-after, win-end, stack-under, stack_at, stack_above}
+use Rattle.items.proofs.Windows.{win-before, win-after, win-end, stack_at, stack_above}
 
 pub one-length : (k : ℕ) (f : Entry) (i : ℕ) → length (one_block k f i) ≡ 3 * one_count k
 unfolding one_block one_count

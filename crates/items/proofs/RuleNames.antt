@@ -2,29 +2,22 @@
 use mathlib.Core.Bool.{Bool, true, false, ◌||◌}
 use mathlib.Core.List.{List, [], ◌∷◌, ◌++◌, append-nil}
 use mathlib.Core.Logic.{◌⊎◌, inl, inr, ⊎_elim}
-use mathlib.Core.Path.{◌≡◌, refl, sym, ap, ap₂, ◌∙◌, subst}
-use Prim.Native.Nat.{ℕ, zero, suc, ◌+◌, ◌*◌, ◌-◌, ◌<◌, ◌≤◌}
+use mathlib.Core.Path.{◌≡◌, refl, sym, ap, ◌∙◌}
+use Prim.Native.Nat.{ℕ, suc, ◌+◌, ◌*◌, ◌-◌, ◌<◌, ◌≤◌}
 use native.Mathlib.Omega.{arith}
 use lib.Dec.{T}
 use lib.ListN.{length, get_or, take, drop, length-drop}
-use lib.Seq.{get_or-take, get_or-drop, length-take-le, take-take, drop-drop}
+use lib.Seq.{get_or-take, get_or-drop, length-take-le, drop-drop}
 use borrow.Author.Tests.{eq-eqb}
-use Rattle.text.specs.Lists.{Text, pick, any, same, repeats, concat_map}
+use Rattle.text.specs.Lists.{Text, pick, any, same, concat_map}
 use Rattle.text.proofs.Tests.{is_t, same-is, clash}
-use Rattle.tree.specs.Tree.{Mark, unmarked, included, attribute, deleted, Symbol, nonterminal, Rule, Grammar, rules}
+use Rattle.tree.specs.Tree.{Mark, unmarked, included, attribute, deleted, Symbol, nonterminal, Rule, Grammar}
 use Rattle.tree.specs.Tokens.{name, rule-head, mark_number, counted}
-use Rattle.plain.specs.Written.{heads}
-use Rattle.plain.specs.Static.{duplicate}
-use Rattle.plain.specs.Plain.{alts, alternatives, rule_for, weight, size, rule_mark, over}
-use Rattle.items.specs.declared.State.{State}
-use Rattle.items.specs.Items.{kind_at, target_at, token_at, Reads, mark_kind, Starts, Among, st-name, Alternatives, Items}
+use Rattle.plain.specs.Plain.{rule_for, weight, size, rule_mark, over}
+use Rattle.items.specs.Items.{mark_kind, Starts, Among, Alternatives}
 use Rattle.repetitions.specs.Blocks.{kind_by}
-use Rattle.items.specs.Final.{Placed, PlacedAll, Final}
-use Rattle.items.specs.Scanned.{At, Listed, l-none, l-rule, RuleCover, RuleBegins, Begins, Clean, Cleans, Bodies, Whole, Scanned}
-use Rattle.items.specs.Linked.{NameAt, head_at, first_at, Linkable, Resolved, Linked}
-use Rattle.items.specs.Built.{Cover, Built}
-use Rattle.items.proofs.Links.{beside_first}
-use Rattle.items.proofs.Blocks.{cover-later}
+use Rattle.items.specs.Scanned.{At, Bodies}
+use Rattle.items.specs.Linked.{NameAt}
 
 -- the first item of the first rule of a name
 abbrev pub first_for : List Rule → List ℕ → Text → ℕ

@@ -1,19 +1,19 @@
 -- The machine runs over a grammar's rules.
-use mathlib.Core.Bool.{Bool, true, false}
+use mathlib.Core.Bool.{false}
 use mathlib.Core.List.{List, [], ◌∷◌, ◌++◌, append_assoc, append-nil}
 use mathlib.Core.Logic.{◌⊎◌, inl, inr, ⊎_elim}
 use mathlib.Core.Path.{◌≡◌, refl, sym, ap, ◌∙◌, subst}
 use Prim.Native.Nat.{ℕ, ◌+◌, ◌*◌, ◌<◌, ◌≤◌}
 use native.Mathlib.Omega.{arith}
-use lib.ListN.{length, length-append, take, drop}
+use lib.ListN.{length, length-append}
 use Rattle.text.specs.Lists.{Text, concat_map}
 use Rattle.text.proofs.Lists.{concat-append}
 use Rattle.text.proofs.Tests.{split}
-use Rattle.tree.specs.Tree.{Mark, unmarked, Symbol, nonterminal, Body, Rule, Prolog, no-prolog, version, Grammar, rules}
+use Rattle.tree.specs.Tree.{Mark, unmarked, Symbol, nonterminal, Rule, Prolog, no-prolog, version, Grammar, rules}
 use Rattle.tree.specs.Tokens.{Token, rule-head, rule_end, version-is, encode, numbers, body_tokens, rule_tokens, prolog_tokens, grammar_tokens}
-use Rattle.plain.specs.Written.{within_body, written}
+use Rattle.plain.specs.Written.{within_body}
 use Rattle.plain.specs.Static.{undefined}
-use Rattle.plain.specs.Plain.{alternatives, alts, makes, weight, size}
+use Rattle.plain.specs.Plain.{alternatives, makes, weight, size}
 use Rattle.layout.specs.Layout.{laid_body, laid_rule}
 use Rattle.layout.proofs.Sums.{Own}
 use Rattle.tokens.specs.Proper.{ProperBody, ProperRules}
@@ -21,16 +21,16 @@ use Rattle.tokens.specs.Lengths.{first_number}
 use Rattle.measure.specs.Costs.{cost, costs, cost_of, repeat_cost_of}
 use Rattle.tokens.proofs.Walk.{by-mark}
 use Rattle.measure.proofs.Sizes.{costs-append, size-costs}
-use Rattle.items.specs.declared.Action.TheVariants.{Skip, Push, Open, Operator, Close, Finish}
-use Rattle.items.specs.Items.{Starts, Among, Alternatives, Spelt}
-use Rattle.repetitions.specs.Blocks.{Entry, entry, nums}
-use Rattle.items.specs.Machine.{Abs, pushed, Act, Fit, action_of, late_action_of}
-use Rattle.items.specs.Scanned.{At, Listed, l-none, l-rule, Begins, Bodies, Whole}
+use Rattle.items.specs.declared.Action.TheVariants.{Skip, Open, Finish}
+use Rattle.items.specs.Items.{Starts, Among, Alternatives}
+use Rattle.repetitions.specs.Blocks.{entry, nums}
+use Rattle.items.specs.Machine.{Abs, Act, action_of, late_action_of}
+use Rattle.items.specs.Scanned.{At, Listed, l-none, l-rule, Begins, Bodies}
 use Rattle.items.specs.Final.{Final, PlacedAll}
 use Rattle.items.proofs.Reps.{act-as}
-use Rattle.items.proofs.Blocks.{Rows, rows-alternatives, rows-length, placed-append, Under, Sound, sound_none, sound-then, alternatives-last}
+use Rattle.items.proofs.Blocks.{rows-alternatives, rows-length, placed-append, Under, Sound, sound_none, sound-then, alternatives-last}
 use Rattle.items.proofs.Uses.{rule-spelt}
-use Rattle.items.proofs.Runs.{Trace, t-done, t-step, trace-append, at_left, at_right, Ok, Run, shorter}
+use Rattle.items.proofs.Runs.{Trace, t-done, t-step, trace-append, at_left, at_right, Ok, shorter}
 use Rattle.items.proofs.Adds.{Adds, written_in, adds_none, adds-rule, adds-rules}
 use Rattle.items.proofs.Lays.{Lays, lays-none, lays-then, begins-left, begins-right, own_split}
 use Rattle.items.proofs.Entries.{KnownAll, known-append, Bod, three-more, ok-pushed, skip-run}

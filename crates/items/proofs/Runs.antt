@@ -2,18 +2,16 @@
 use mathlib.Core.List.{List, [], ◌∷◌, ◌++◌, append_assoc, append-nil}
 use mathlib.Core.Logic.{inr}
 use mathlib.Core.Path.{◌≡◌, refl, sym, ap, ◌∙◌, subst}
-use Prim.Native.Nat.{ℕ, ◌+◌, ◌*◌, ◌<◌, ◌≤◌}
+use Prim.Native.Nat.{ℕ, ◌+◌, ◌*◌, ◌≤◌}
 use native.Mathlib.Omega.{arith}
-use lib.ListN.{length, drop, take, length-append}
+use lib.ListN.{length, drop, length-append}
 use lib.Seq.{drop-drop, drop-append_seam}
-use Rattle.text.specs.Lists.{concat_map}
 use Rattle.tree.specs.Tree.{Symbol, Grammar}
 use Rattle.tree.specs.Tokens.{Token, numbers, encode}
 use Rattle.plain.specs.Written.{kind, made}
 use Rattle.tokens.specs.Lengths.{first_number}
-use Rattle.items.specs.Items.{Starts, Among, Stands, st-made, Reads, lead, target_at, kind_at}
-use Rattle.repetitions.specs.Blocks.{Entry, entry, nums}
-use Rattle.items.specs.Machine.{Abs, pushed, Act, Fit, action_of}
+use Rattle.items.specs.Items.{Starts, Among, Stands, st-made, Reads, lead}
+use Rattle.items.specs.Machine.{Abs, Act, Fit, action_of}
 use Rattle.items.specs.Scanned.{At}
 use Rattle.items.specs.Final.{Placed, PlacedAll, Final}
 use Rattle.items.proofs.Blocks.{placed-append, Blocks, Sound, sound_none, sound-then, blocks-sound}

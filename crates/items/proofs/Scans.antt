@@ -3,13 +3,13 @@ use mathlib.Core.Bool.{false}
 use mathlib.Core.List.{List, [], ◌∷◌, ◌++◌}
 use mathlib.Core.Logic.{⊎_elim}
 use mathlib.Core.Path.{◌≡◌, refl, sym, ap, ◌∙◌, subst}
-use Prim.Native.Nat.{ℕ, ◌+◌, ◌*◌, ◌-◌, ◌<◌, ◌≤◌}
+use Prim.Native.Nat.{ℕ, ◌+◌, ◌-◌, ◌<◌, ◌≤◌}
 use native.Mathlib.Omega.{arith}
 use lib.ListN.{length, get_or, take, drop, take-append-drop}
-use lib.Seq.{take-take, length-take-le}
+use lib.Seq.{take-take}
 use Rattle.text.proofs.Tests.{split}
 use Rattle.tree.specs.Tree.{Symbol, Grammar, rules}
-use Rattle.tree.specs.Tokens.{Token, numbers, encode, grammar_tokens}
+use Rattle.tree.specs.Tokens.{Token, numbers, grammar_tokens}
 use Rattle.plain.specs.Static.{duplicate}
 use Rattle.plain.specs.Plain.{size}
 use Rattle.layout.specs.Layout.{layout, starts_of}
@@ -20,9 +20,9 @@ use Rattle.measure.proofs.Sizes.{size-costs}
 use Rattle.items.specs.declared.Action.{Action}
 use Rattle.items.specs.declared.Action.TheVariants.{Skip, Push, Open, Operator, Close, Finish}
 use Rattle.items.specs.declared.State.{State}
-use Rattle.items.specs.Machine.{Abs, Act, Fit, Has, Rep, Ready, action_of}
+use Rattle.items.specs.Machine.{Abs, Act, Fit, Rep, Ready, action_of}
 use Rattle.items.specs.Items.{Among}
-use Rattle.items.specs.Scanned.{At, Begins, Readable, Scanned, Listed}
+use Rattle.items.specs.Scanned.{Begins, Readable, Scanned, Listed}
 use Rattle.items.specs.Final.{Final}
 use Rattle.items.proofs.Reps.{act-as}
 use Rattle.items.proofs.Runs.{Trace, t-done, t-step}

@@ -1,14 +1,13 @@
 -- Stores into a table, and what its parts hold then.
-use mathlib.Core.List.{List, [], ◌∷◌, ◌++◌, append_assoc, append-nil}
-use mathlib.Core.Path.{◌≡◌, refl, sym, ap, ◌∙◌, subst}
-use Prim.Native.Nat.{ℕ, zero, suc, ◌+◌, ◌*◌, ◌-◌, ◌<◌, ◌≤◌}
+use mathlib.Core.List.{List, ◌++◌}
+use mathlib.Core.Path.{◌≡◌, refl, sym, ap, ◌∙◌}
+use Prim.Native.Nat.{ℕ, suc, ◌+◌, ◌*◌, ◌-◌, ◌<◌, ◌≤◌}
 use native.Mathlib.Numerals.{add-one, add-two}
-use native.Mathlib.Nat.{add-suc, suc-add, add-zero}
 use native.Mathlib.Omega.{arith}
-use lib.ListN.{length, get_or, take, drop, set, length-append, length-take, length-drop, length-set, get_or-append}
-use lib.Seq.{sets, length-sets, sets-eq, get_or-set_other, take-set-le, drop-set-lt, drop-set-add, take_at, drop_at, get_or-take, get_or-drop}
-use lib.Seq.{get_or-append-add, take-append-le, take-append_seam, drop-append_seam, take-take, drop-drop, take-add, length-take-le}
-use lib.Seq.{take-append-add, drop-cons}
+use lib.ListN.{length, get_or, take, drop, length-append, length-drop}
+use lib.Seq.{sets, length-sets, sets-eq, take_at, drop_at, get_or-take, get_or-drop}
+use lib.Seq.{get_or-append-add, take-take, drop-drop, take-add, length-take-le}
+use lib.Seq.{drop-cons}
 use Rattle.repetitions.specs.Blocks.{Entry, entry, nums, entry_at, laid}
 use Rattle.repetitions.proofs.Stores.{take-sets, drop-sets, drop-sets-add, laid_then, entry_kept}
 use Rattle.items.specs.Machine.{Copied}

@@ -1,25 +1,23 @@
 -- From the first number of a list to the walk, and from the walk's end to the answer.
 use mathlib.Core.Path.{◌≡◌, refl, sym, ap, ◌∙◌, subst}
 use mathlib.Core.Bool.{Bool, true, false}
-use mathlib.Core.List.{List, [], ◌∷◌, ◌++◌}
-use Prim.Native.Nat.{ℕ, suc, ◌+◌, ◌*◌, ◌<◌, ◌≤◌}
+use mathlib.Core.List.{List, [], ◌∷◌}
+use Prim.Native.Nat.{ℕ, ◌+◌, ◌<◌}
 use native.Mathlib.Omega.{arith}
-use lib.ListN.{length, get_or, set, drop}
+use lib.ListN.{length, get_or, drop}
 use lib.Seq.{drop-cons}
 use Rattle.text.specs.Lists.{Text}
-use Rattle.tree.specs.Tree.{Symbol, Grammar}
+use Rattle.tree.specs.Tree.{Grammar}
 use Rattle.plain.specs.Plain.{alts}
 use Rattle.derive.specs.Derive.{Row, alternative, left_parse, root}
-use Rattle.left_parse.specs.declared.Position.{Position}
 use Rattle.left_parse.specs.Noted.{Noted, Parsed, Room}
-use Rattle.left_parse.specs.Walk.{Over}
-use Rattle.left_parse.specs.Steps.{Found, Counted, Going}
+use Rattle.left_parse.specs.Steps.{Found, Counted}
 use Rattle.left_parse.proofs.Walks.{spot, list-head}
 use Rattle.left_parse.proofs.Scratch.{notes-of}
 use Rattle.left_parse.proofs.Notes.{begins, going-begin, going_end}
 use Rattle.judge.specs.Due.{Named, Due}
-use Rattle.judge.specs.Tracks.{afters, Opens, none_open, Table, Tracks, Lent, Some, Ended, Walked, Given, Asked, Judged}
-use Rattle.judge.proofs.Due.{Into, into-node, node-back, nothing-after, after_nothing}
+use Rattle.judge.specs.Tracks.{none_open, Table, Tracks, Some, Walked, Given, Asked, Judged}
+use Rattle.judge.proofs.Due.{into-node, node-back, nothing-after, after_nothing}
 
 -- the rules of a grammar whose items stand in the table
 pub table_of : {T : List ℕ} {R : ℕ} {g : Grammar} (G : Given T R g) → Table T g G.items.starts

@@ -1,11 +1,11 @@
 -- The steps of a walk over a list: on, or the list names no derivation.
 use mathlib.Core.Path.{◌≡◌, refl, sym, ap, ◌∙◌, subst}
 use mathlib.Core.Bool.{Bool, true, false}
-use mathlib.Core.List.{List, [], ◌∷◌, ◌++◌}
+use mathlib.Core.List.{List, [], ◌∷◌}
 use Prim.Native.Nat.{ℕ, suc, ◌+◌, ◌-◌, ◌*◌, ◌<◌, ◌≤◌}
 use native.Mathlib.Omega.{arith}
 use lib.Dec.{T as Holds}
-use lib.ListN.{length, get_or, set, drop, length-drop}
+use lib.ListN.{length, get_or, drop, length-drop}
 use lib.Seq.{drop-cons}
 use Rattle.text.specs.Lists.{Text}
 use Rattle.text.proofs.Tests.{is_t, not_t}
@@ -13,16 +13,16 @@ use Rattle.tree.specs.Tree.{Terminal, Symbol, terminal, Grammar}
 use Rattle.plain.specs.Plain.{alts, fits, width}
 use Rattle.derive.specs.Derive.{alternative}
 use Rattle.terminals.specs.Places.{TerminalAt, TerminalHere}
-use Rattle.items.specs.Items.{kind_at, target_at, token_at, Starts, Spells, Stands}
+use Rattle.items.specs.Items.{kind_at, target_at, token_at, Starts, Stands}
 use Rattle.left_pass.proofs.Shifts.{fits-within}
 use Rattle.left_parse.specs.declared.Position.{Position}
-use Rattle.left_parse.specs.Walk.{weight, Over}
-use Rattle.left_parse.specs.Steps.{Going, Skipped, Entered, Left, Counted}
+use Rattle.left_parse.specs.Walk.{Over}
+use Rattle.left_parse.specs.Steps.{Skipped, Entered, Left, Counted}
 use Rattle.left_parse.proofs.Items.{leaf-stands}
 use Rattle.left_parse.proofs.Walks.{spot, list-head, falls, falls-on, later}
 use Rattle.left_parse.proofs.Notes.{going-leaf, going-enter, going-leave}
 use Rattle.judge.specs.Due.{Named, Due}
-use Rattle.judge.specs.Tracks.{Open, afters, Opens, none_open, some-open, Table, Tracks, Lent, Some, Moved, Refuted}
+use Rattle.judge.specs.Tracks.{Open, afters, Opens, none_open, some-open, Table, Tracks, Some, Moved, Refuted}
 use Rattle.judge.proofs.Due.{at-end, end-at, out_of, out-back, over-leaf, leaf-back, into-node, node-back}
 use Rattle.judge.proofs.Tracks.{opens-set, opens-more, no-terminals, alternatives-at, token-here, Next, n-end, n-leaf, n-node, next_of, item_in}
 

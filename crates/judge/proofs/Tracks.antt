@@ -1,25 +1,24 @@
 -- Where a walk over a list stands: its open nodes, its items.
-use mathlib.Core.Path.{◌≡◌, refl, sym, ap, ◌∙◌}
+use mathlib.Core.Path.{◌≡◌, refl, ◌∙◌}
 use mathlib.Core.Logic.{⊎_elim}
-use mathlib.Core.List.{List, [], ◌∷◌, ◌++◌, Memᴰ as In}
+use mathlib.Core.List.{List, [], ◌∷◌, ◌++◌}
 use Prim.Native.Nat.{ℕ, ◌+◌, ◌-◌, ◌*◌, ◌<◌, ◌≤◌}
 use native.Mathlib.Omega.{arith}
 use lib.ListN.{length, get_or, set, drop, length-set}
 use lib.Seq.{get_or-set_same, get_or-set_other}
-use Rattle.text.specs.Limits.{grammar_table, record_chars}
 use Rattle.text.specs.Lists.{Text}
 use Rattle.tree.specs.Tree.{Terminal, Symbol, terminal, nonterminal, unmarked, Grammar, rules}
 use Rattle.tree.specs.Tokens.{terminal_tokens, encode}
-use Rattle.plain.specs.Written.{terminals_in, terminals}
+use Rattle.plain.specs.Written.{terminals_in}
 use Rattle.plain.specs.Plain.{alts, over, rule_mark}
 use Rattle.terminals.specs.Places.{TerminalAt}
 use Rattle.rules.proofs.Dots.{mark-kind}
 use Rattle.rules.proofs.Numbers.{whole, some-tokens}
-use Rattle.items.specs.Items.{kind_at, target_at, token_at, Reads, Starts, Among, Stands, st-terminal, st-name, st-made, Spells, sp_end, sp-item, Alternatives}
+use Rattle.items.specs.Items.{kind_at, target_at, token_at, Starts, Stands, st-terminal, st-name, st-made, Spells, sp_end, sp-item, Alternatives}
 use Rattle.left_parse.specs.declared.Position.{Position}
 use Rattle.left_parse.specs.Steps.{Small, Enters, Leaves}
-use Rattle.left_parse.proofs.Items.{in_table, spells-kind, stands-kind, leaf-stands}
-use Rattle.judge.specs.Tracks.{Open, afters, Opens, none_open, some-open, Table, Tracks, Lent, Some}
+use Rattle.left_parse.proofs.Items.{in_table, spells-kind}
+use Rattle.judge.specs.Tracks.{Open, Opens, none_open, some-open, Table, Some}
 
 -- open nodes stay where they are while later entries are written
 pub opens-set : {T S : List ℕ} {g : Grammar} {starts : Starts} {os : List Open} {n : ℕ} → Opens T S g starts os n → (k v : ℕ) → 2 * n ≤ k

@@ -1,8 +1,8 @@
 -- The turns of a walk over a list, and its end.
-use mathlib.Core.Path.{◌≡◌, refl, sym, ap, ◌∙◌, subst}
+use mathlib.Core.Path.{◌≡◌, refl, sym, ◌∙◌, subst}
 use mathlib.Core.Bool.{Bool, true, false}
 use mathlib.Core.List.{List}
-use Prim.Native.Nat.{ℕ, ◌+◌, ◌*◌, ◌<◌, ◌≤◌}
+use Prim.Native.Nat.{ℕ, ◌<◌, ◌≤◌}
 use native.Mathlib.Omega.{arith}
 use lib.ListN.{length, set}
 use Rattle.text.specs.Lists.{Text}
@@ -14,7 +14,7 @@ use Rattle.left_parse.specs.Steps.{Going}
 use Rattle.judge.specs.declared.Went.{Went}
 use Rattle.judge.specs.declared.Went.TheVariants.{On, Stuck}
 use Rattle.judge.specs.Due.{Named}
-use Rattle.judge.specs.Tracks.{Table, Tracks, Some, Moved, Refuted, Steps, Ended, Walked}
+use Rattle.judge.specs.Tracks.{Table, Tracks, Some, Moved, Refuted, Steps, Walked}
 use Rattle.judge.proofs.Moves.{over-named, over-list, over-record}
 
 -- what holds of every turn, from where the walk began

@@ -1,29 +1,29 @@
 -- The laws of specs/Laws.antt hold.
-use mathlib.Core.Bool.{Bool, true, false, not, ◌&&◌, ◌||◌}
+use mathlib.Core.Bool.{Bool, false, ◌&&◌, ◌||◌}
 use mathlib.Core.Path.{◌≡◌, refl, sym, subst, ap, ◌∙◌}
 use mathlib.Core.Logic.{◌⊎◌, inl, inr, ◌↔◌, ⊎_elim}
 use mathlib.Core.List.{List, [], ◌∷◌, ◌++◌}
-use Prim.Native.Nat.{ℕ, ◌<◌, ◌≤◌}
+use Prim.Native.Nat.{ℕ, ◌≤◌}
 use native.Mathlib.Omega.{arith}
 use native.Mathlib.Decide.{ℕ_discrete}
-use lib.Dec.{T, leb, eqb, leb→le}
+use lib.Dec.{T, leb, leb→le}
 use lib.ListN.{length, take, drop}
 use lib.Seq.{take-append_seam}
-use Rattle.text.specs.Lists.{Text, all}
+use Rattle.text.specs.Lists.{Text}
 use Rattle.text.specs.Utf8.{Utf8}
 use Rattle.text.proofs.Decode.{utf8-unique}
 use Rattle.text.proofs.Tests.{split, and_left, and_right}
 use Rattle.tree.specs.Tree.{Grammar}
 use Rattle.plain.specs.Static.{mismatched}
-use Rattle.derive.specs.Derive.{Row, left_parse, Derivation, root}
-use Rattle.derive.specs.Chosen.{Reading, Second}
+use Rattle.derive.specs.Derive.{Row, left_parse, root}
+use Rattle.derive.specs.Chosen.{Reading}
 use Rattle.derive.proofs.Chosen.{chosen-derives}
 use Rattle.derive.proofs.Unique.{same-derivation}
 use Rattle.xml.specs.Document.{document, mark_of, twice, misnamed, unwritable, is_attribute, not_one, namespaced}
-use Rattle.answer.specs.Answer.{Line, line, Topmost, Job, GrammarTree, of_job, of_reading, of_source, chosen, given, Names, as_numbers, as_xml, Answer, Reads, Converts, Judges}
-use Rattle.answer.specs.Answer.{grammar_lines, input_lines, need_lines, reading_lines, record_lines, list_lines, document_lines, document_lines_of, too_long, too_long_by, scratch_need, ResultBy}
+use Rattle.answer.specs.Answer.{Line, line, Topmost, Job, GrammarTree, of_job, of_reading, of_source, chosen, given, Names, as_numbers, as_xml, Answer, Reads, Judges}
+use Rattle.answer.specs.Answer.{grammar_lines, need_lines, record_lines, list_lines, document_lines, document_lines_of, too_long, too_long_by, scratch_need, ResultBy}
 use Rattle.answer.specs.Demands.{None}
-use Rattle.answer.proofs.Lines.{numbers, listed, other, head-given, none-given, passed, begun, given as given-only}
+use Rattle.answer.proofs.Lines.{numbers, listed, head-given, none-given, passed, begun, given as given-only}
 use Rattle.answer.proofs.Agree.{one-grammar}
 use Rattle.answer.proofs.Demands.{demands-hold}
 use Rattle.judging.specs.Laws.{Admits, SameTexts, OwnReading, Laws}

@@ -1,7 +1,6 @@
 -- The layout of small grammars, computed.
-use mathlib.Core.List.{List, [], ◌∷◌}
+use mathlib.Core.List.{[], ◌∷◌}
 use mathlib.Core.Path.{◌≡◌, refl}
-use Prim.Native.Nat.{ℕ}
 use Rattle.text.specs.Lists.{chars as quoted}
 use Rattle.tree.specs.Tree.{unmarked, string, literal, Symbol, terminal, nonterminal, repeat0, repeat1sep, rest, Alternative, nil, cons, one, no-prolog, Grammar}
 use Rattle.layout.specs.Layout.{layout, starts_of, dots_of, name_at}

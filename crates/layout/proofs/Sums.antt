@@ -1,19 +1,16 @@
 -- Sums over the plain rules in order: their count, and the count of their dots.
 use mathlib.Core.Bool.{Bool, true, false, ◌||◌}
 use mathlib.Core.List.{List, [], ◌∷◌, ◌++◌}
-use mathlib.Core.List.Memᴰ.{head as in_head}
-use mathlib.Core.List.Memᴰ.{tail as in_Tail}
-use mathlib.Core.List.{Memᴰ as In}
-use mathlib.Core.Path.{◌≡◌, refl, sym, ap, ◌∙◌, subst}
-use Prim.Native.Nat.{ℕ, suc, ◌+◌}
+use mathlib.Core.Path.{◌≡◌, refl, ap, ◌∙◌, subst}
+use Prim.Native.Nat.{ℕ, ◌+◌}
 use native.Mathlib.Omega.{arith}
 use lib.ListN.{length, length-append}
-use Rattle.text.specs.Lists.{Text, pick, any, same, repeats, concat_map}
+use Rattle.text.specs.Lists.{Text, any, same, repeats, concat_map}
 use borrow.Author.Tests.{eq-eqb}
 use Rattle.text.proofs.Tests.{is_t, same-is, clash}
 use Rattle.tree.specs.Tree.{unmarked, Symbol, terminal, nonterminal, group, option, repeat0, repeat1, repeat0sep, repeat1sep, rest}
 use Rattle.tree.specs.Tree.{Alternative, nil, cons, Body, one, also, Rule, Grammar, rules}
-use Rattle.plain.specs.Written.{within, within_alternative, within_body, written, heads}
+use Rattle.plain.specs.Written.{within, within_alternative, within_body, written}
 use Rattle.plain.specs.Static.{duplicate}
 use Rattle.plain.specs.Plain.{alternatives, rule_for, alts, makes, ruled, sum_of, weight, size}
 use Rattle.layout.specs.Layout.{laid, laid_alternative, laid_body, laid_rule, layout, dot_count, tails, dots_in, dots_of}

@@ -1,6 +1,6 @@
 -- A walk after each of its steps, whatever it writes.
 use mathlib.Core.Path.{◌≡◌, refl, sym, ap, ◌∙◌}
-use mathlib.Core.List.{List, [], ◌∷◌, ◌++◌, append_assoc}
+use mathlib.Core.List.{List, [], ◌∷◌, ◌++◌}
 use Prim.Native.Nat.{ℕ, ◌+◌, ◌-◌, ◌*◌, ◌≤◌, ◌<◌}
 use native.Mathlib.Omega.{arith}
 use lib.ListN.{length, get_or}
@@ -11,7 +11,7 @@ use Rattle.plain.specs.Plain.{alts, width}
 use Rattle.derive.specs.Derive.{Row, end, leaf, node, left_parse, alternative}
 use Rattle.items.specs.Items.{token_at, Starts, Stands, Reads}
 use Rattle.left_parse.specs.declared.Position.{Position}
-use Rattle.left_parse.specs.Walk.{Frame, opened, rests, Chain, bottom, Walk}
+use Rattle.left_parse.specs.Walk.{Frame, opened, rests, bottom, Walk}
 use Rattle.left_parse.specs.Steps.{Entered, Left, Small, Skipped, jumped, Inside, Node}
 use Rattle.left_parse.proofs.Scratch.{opened-past, opened-back, link-of, item_of, noted-same}
 use Rattle.left_parse.proofs.Walks.{spot, frame, node-inner, node-last, walk-leaf, walk-jump, walk-enter, walk-leave, node-ends, node-list, item-inside, place_inside}

@@ -2,7 +2,7 @@
 use mathlib.Core.Path.{◌≡◌, refl, sym, ap, ◌∙◌}
 use mathlib.Core.Logic.{◌⊎◌, ⊎_elim}
 use mathlib.Core.List.{List, [], ◌∷◌, ◌++◌}
-use Prim.Native.Nat.{ℕ, zero, suc, ◌+◌, ◌-◌, ◌*◌, ◌<◌, ◌≤◌}
+use Prim.Native.Nat.{ℕ, suc, ◌+◌, ◌-◌, ◌*◌, ◌<◌, ◌≤◌}
 use native.Mathlib.Omega.{arith}
 use lib.Dec.{T as Holds}
 use lib.ListN.{length, get_or, take, drop, length-drop, length-take, get_or-eq_default}
@@ -11,7 +11,6 @@ use Rattle.text.specs.Lists.{Text}
 use Rattle.text.proofs.Tests.{split}
 use Rattle.tree.specs.Tree.{Mark, unmarked, included, attribute, deleted, Terminal, literal, inclusion, exclusion, insertion, string, hex, Symbol, terminal, nonterminal, Grammar, rules}
 use Rattle.tree.specs.Tokens.{terminal_tokens, encode, mark_number, counted, capped}
-use Rattle.plain.specs.Written.{made}
 use Rattle.plain.specs.Plain.{alts, fits, width, rule_mark, over}
 use Rattle.derive.specs.Derive.{Row, end, leaf, node, alternative, Derives, d-end, d-leaf, d-node}
 use Rattle.tokens.specs.Lengths.{width_at}

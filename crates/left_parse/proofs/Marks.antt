@@ -1,18 +1,17 @@
 -- What an item's kind tells of a node: its mark, its name, and what it comes to.
 use mathlib.Core.Path.{◌≡◌, refl, sym, ap, ◌∙◌}
-use mathlib.Core.Bool.{Bool, true, false}
-use mathlib.Core.List.{List, [], ◌∷◌, ◌++◌, append-nil, append_assoc}
+use mathlib.Core.List.{List, ◌∷◌, ◌++◌, append-nil}
 use Prim.Native.Nat.{ℕ, ◌+◌, ◌≤◌, ◌<◌}
 use native.Mathlib.Omega.{arith}
 use lib.ListN.{length}
-use Rattle.text.specs.Lists.{Text, chars, concat_map}
-use Rattle.tree.specs.Tree.{Mark, unmarked, included, attribute, deleted, Symbol, terminal, Terminal, nonterminal, Grammar, rules}
-use Rattle.tree.specs.Tokens.{counted, mark_number}
+use Rattle.text.specs.Lists.{Text}
+use Rattle.tree.specs.Tree.{Mark, unmarked, included, attribute, deleted, Symbol, Grammar, rules}
+use Rattle.tree.specs.Tokens.{mark_number}
 use Rattle.plain.specs.Written.{Kind, atom, named, made, kind}
-use Rattle.plain.specs.Plain.{alts, width, rule_mark, over}
-use Rattle.derive.specs.Derive.{Row, end, leaf, node, alternative}
+use Rattle.plain.specs.Plain.{alts, rule_mark, over}
+use Rattle.derive.specs.Derive.{Row, node, alternative}
 use Rattle.items.specs.Items.{kind_at, token_at, mark_kind, Starts, Stands, st-terminal, st-name, st-made}
-use Rattle.xml.specs.Document.{Xml, none, char, attr, elem, join, text, mark_of, name_of, marked, value, nodes, stretch, terminal_text}
+use Rattle.xml.specs.Document.{Xml, none, attr, elem, join, mark_of, name_of, marked, value, nodes}
 use Rattle.left_parse.specs.Steps.{Named}
 
 by_kind : Grammar → Kind → Mark

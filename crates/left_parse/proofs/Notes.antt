@@ -1,23 +1,23 @@
 -- The steps that note entries.
 use mathlib.Core.Path.{◌≡◌, refl, sym, ap, ◌∙◌}
 use mathlib.Core.Logic.{⊎_elim}
-use mathlib.Core.List.{List, [], ◌∷◌, ◌++◌, append-nil}
-use Prim.Native.Nat.{ℕ, zero, suc, ◌+◌, ◌-◌, ◌*◌, ◌<◌, ◌≤◌}
+use mathlib.Core.List.{List, [], ◌∷◌, ◌++◌}
+use Prim.Native.Nat.{ℕ, suc, ◌+◌, ◌-◌, ◌*◌, ◌<◌, ◌≤◌}
 use native.Mathlib.Omega.{arith}
-use lib.ListN.{length, get_or, set, drop, length-set, length-append}
+use lib.ListN.{length, get_or, set, drop, length-set}
 use lib.Seq.{get_or-set_same, get_or-set_other}
 use Rattle.text.specs.Lists.{Text}
 use Rattle.text.proofs.Tests.{split}
 use Rattle.tree.specs.Tree.{Symbol, nonterminal, unmarked, Grammar}
 use Rattle.plain.specs.Plain.{alts}
-use Rattle.derive.specs.Derive.{Row, end, leaf, node, left_parse, alternative, root, Derives, d-end, d-leaf, d-node}
-use Rattle.items.specs.Items.{Starts, Spells, Stands, Among, Alternatives, kind_at, target_at, token_at}
+use Rattle.derive.specs.Derive.{Row, end, node, left_parse, alternative, root, Derives, d-end, d-node}
+use Rattle.items.specs.Items.{Starts, Spells, Stands, kind_at, target_at, token_at}
 use Rattle.left_parse.specs.declared.Position.{Position}
 use Rattle.left_parse.specs.Noted.{Noted, Parsed, Room}
-use Rattle.left_parse.specs.Walk.{Frame, opened, Chain, bottom, link, Walk, weight, Over}
+use Rattle.left_parse.specs.Walk.{Frame, opened, Chain, bottom, link, Walk, Over}
 use Rattle.left_parse.specs.Steps.{Found, Wide, Enters, Entered, Leaves, Left, Going, Stepped}
 use Rattle.left_parse.proofs.Items.{View, v-end, v-leaf, v-node, alternatives-of}
-use Rattle.left_parse.proofs.Scratch.{opened-length, opened-past, opened-over, opened-back, link-of, item_of, noted-same, Has, notes-of}
+use Rattle.left_parse.proofs.Scratch.{opened-length, opened-over, opened-back, link-of, item_of, noted-same, Has}
 use Rattle.left_parse.proofs.Walks.{spot, frame, seen, walk-leaf, walk-enter, walk-leave, node-ends, node-list, walk-over, item-inside, place_inside, open-inside, falls, falls-on, later}
 
 -- what an alternative's number finds

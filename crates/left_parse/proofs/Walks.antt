@@ -1,7 +1,7 @@
 -- The steps of a walk.
 use mathlib.Core.Path.{◌≡◌, refl, sym, ap, ◌∙◌}
 use mathlib.Core.List.{List, [], ◌∷◌, ◌++◌, append_assoc}
-use Prim.Native.Nat.{ℕ, zero, suc, ◌+◌, ◌-◌, ◌*◌, ◌<◌, ◌≤◌}
+use Prim.Native.Nat.{ℕ, suc, ◌+◌, ◌-◌, ◌*◌, ◌<◌, ◌≤◌}
 use native.Mathlib.Omega.{arith}
 use native.Mathlib.Nat.{suc-mul, mul-le-mul_right, add-zero}
 use lib.ListN.{length, get_or, drop, length-append, length-drop}
@@ -12,7 +12,6 @@ use Rattle.derive.specs.Derive.{Row, end, leaf, node, left_parse, alternative, D
 use Rattle.derive.proofs.Rows.{forward}
 use Rattle.items.specs.Items.{Starts, Spells, kind_at}
 use Rattle.left_parse.specs.declared.Position.{Position}
-use Rattle.left_parse.specs.Noted.{Noted}
 use Rattle.left_parse.specs.Walk.{Frame, opened, rests, Link, Chain, bottom, link, Walk, Over}
 use Rattle.left_parse.proofs.Scratch.{innermost, outer, item_of}
 use Rattle.left_parse.proofs.Items.{View, v-end, v-leaf, v-node, view, next-spells, first-stands, spells-kind, stands-kind, in_table}

@@ -12,13 +12,13 @@ use lib.ListN.{length, get_or, drop}
 use Rattle.text.specs.Lists.{Text}
 use Rattle.text.proofs.Tests.{clash, split}
 use Rattle.tree.specs.Tree.{Terminal}
-use Rattle.plain.specs.Plain.{fits, width}
+use Rattle.plain.specs.Plain.{fits}
 use Rattle.chart.specs.Code.{next_kind, goes_at, rule_at, owner_at}
 use Rattle.rules.specs.Ready.{Token}
 use Rattle.reach.specs.Flags.{dot_at, begin_at, end_at, Reached, Fits, Begins, Ends, home_of, LeftClosed, FitsOnly}
-use Rattle.reach.specs.Work.{tail_of, Seen, Waits, Kept, Waking, Woken, Collects, Collected}
-use Rattle.reach.specs.Lists.{key_of, after_key, Shape, Homes, Homed, Keying, Opened, Members}
-use Rattle.left_pass.specs.Left.{Rules, Closing, Closed, Given, Shifted, Lefting, Lefted}
+use Rattle.reach.specs.Work.{tail_of, Seen, Kept, Waking, Woken, Collects, Collected}
+use Rattle.reach.specs.Lists.{after_key, Shape, Homes, Homed, Keying, Opened, Members}
+use Rattle.left_pass.specs.Left.{Closing, Closed, Given, Shifted, Lefting, Lefted}
 use Rattle.reach.proofs.Widths.{empty-fits}
 use Rattle.reach.proofs.Counts.{count_most}
 use Rattle.reach.proofs.Keys.{key-first, key-after, after_none, after-some, use-none}

@@ -1,5 +1,4 @@
 -- One listed dot after the other is looked at: what the lists then hold.
-use mathlib.Core.Bool.{true, false}
 use mathlib.Core.List.{List}
 use mathlib.Core.Logic.{◌⊎◌, inl, inr, ⊎_elim}
 use mathlib.Core.Path.{◌≡◌, refl, sym, ap, subst, ◌∙◌}
@@ -8,12 +7,11 @@ use native.Mathlib.Decide.{ℕ_discrete}
 use native.Mathlib.Omega.{arith}
 use lib.ListN.{length, get_or, set, length-set}
 use lib.Seq.{get_or-set_same, get_or-set_other}
-use Rattle.chart.specs.Code.{next_kind, rule_at, owner_at}
-use Rattle.chart.specs.Heights.{none}
+use Rattle.chart.specs.Code.{rule_at}
 use Rattle.reach.specs.Flags.{Wanted, home_of}
-use Rattle.sparse.specs.Cells.{is_last, empty_rest, Shape}
+use Rattle.sparse.specs.Cells.{Shape}
 use Rattle.sparse.specs.Steps.{Listed}
-use Rattle.sparse.specs.Column.{UnitsTo, WakesBy, HandsBy, Wakes, Hands, WakesOf, HandsOf, Due, Rows}
+use Rattle.sparse.specs.Column.{UnitsTo, WakesBy, Wakes, Hands, Due, Rows}
 use Rattle.sparse.proofs.Column.{listed_kept, units-kept, wakes-kept, hands-kept, wakes-of, hands-of}
 use Rattle.listing.specs.Listing.{wake_added, hand_added, Idle, Rowed, Handing, Keeping, FirstIn, Sorted}
 

@@ -2,18 +2,18 @@
 use mathlib.Core.Bool.{Bool, true, false}
 use mathlib.Core.Path.{◌≡◌, refl, sym, subst, ap, ◌∙◌}
 use mathlib.Core.Logic.{inl, inr}
-use mathlib.Core.List.{List, [], ◌∷◌, ◌++◌}
-use Prim.Native.Nat.{ℕ, zero, suc, ◌+◌, ◌≤◌, ◌<◌}
+use mathlib.Core.List.{List, [], ◌∷◌}
+use Prim.Native.Nat.{ℕ, suc, ◌≤◌, ◌<◌}
 use native.Mathlib.Omega.{arith}
 use native.Mathlib.Decide.{dec_lt}
 use borrow.Author.Tests.{lt-ltb, le-ltb}
 use lib.Dec.{eqb, ltb}
 use lib.ListN.{length, take, drop, length-append}
 use lib.Seq.{take_all, take_at}
-use Rattle.text.specs.Limits.{grammar_bytes, grammar_table, most_size}
+use Rattle.text.specs.Limits.{grammar_table, most_size}
 use Rattle.text.specs.Lists.{Text, all, pick}
 use Rattle.text.specs.Stages.{StageAnswer, Settles}
-use Rattle.text.specs.Utf8.{Utf8, utf8, utf8s, unmarked, known}
+use Rattle.text.specs.Utf8.{utf8, utf8s, unmarked, known}
 use Rattle.text.specs.Decode.{Decoded, text, not-utf8, decode, unmark, break_of}
 use Rattle.text.specs.Faults.{every, Breaks, after_mark}
 use Rattle.text.specs.declared.BytePlace.{BytePlace}
@@ -22,15 +22,15 @@ use Rattle.text.specs.Stages.{at_byte, plainly}
 use Rattle.text.proofs.Faults.{break-of}
 use Rattle.text.proofs.Decode.{some_bytes, decode-sound}
 use Rattle.tree.specs.Tree.{Grammar}
-use Rattle.syntax.specs.Parser.{Parsed, parsed, no-parse, parse}
+use Rattle.syntax.specs.Parser.{parse}
 use Rattle.plain.specs.Static.{undefined, duplicate, beyond, banned, backwards, unclassed}
 use Rattle.plain.specs.Plain.{size}
 use Rattle.derive.specs.Yield.{unproductive}
-use Rattle.answer.specs.Compute.{Test, test, first_of, tree_of, grammar_tests, mismatch, value, value_at, places_at, place_in, place_values, check_values}
+use Rattle.answer.specs.Compute.{Test, test, first_of, grammar_tests, value, value_at, places_at, place_in, place_values, check_values}
 use Rattle.answer.proofs.Noted.{value-skip, place-value, placeless}
 use Rattle.answer.proofs.Stages.{stage-1, stage-2, stage-3, stage-4, stage-static, tree_is, mismatch-is}
 use Rattle.decode.specs.declared.Decoding.{Decoding}
-use Rattle.decode.specs.declared.Decoding.TheVariants.{Of, CutShort, Malformed, Unknown}
+use Rattle.decode.specs.declared.Decoding.TheVariants.{Of}
 use Rattle.text.specs.declared.CharPlace.{CharPlace}
 use Rattle.decode.specs.Refused.{why_of}
 use Rattle.decode.specs.Scan.{over}

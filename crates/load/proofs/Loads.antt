@@ -1,24 +1,20 @@
 -- From the stages' answers to the whole: characters, then bytes.
-use mathlib.Core.Bool.{Bool, true, false}
-use mathlib.Core.Path.{◌≡◌, refl, sym, subst, ap, ◌∙◌}
-use mathlib.Core.List.{List, []}
-use Prim.Native.Nat.{ℕ, ◌*◌, ◌≤◌, ◌<◌}
+use mathlib.Core.Path.{◌≡◌, refl, sym, subst, ap}
+use mathlib.Core.List.{List}
+use Prim.Native.Nat.{ℕ, ◌≤◌}
 use native.Mathlib.Omega.{arith}
-use lib.ListN.{length, take}
+use lib.ListN.{length}
 use borrow.Author.Tests.{le-ltb}
-use Rattle.text.specs.Limits.{grammar_bytes, grammar_table}
 use Rattle.text.specs.Lists.{Text}
 use Rattle.text.specs.Stages.{refused, plainly}
 use Rattle.text.specs.declared.Diagnostic.{Diagnostic}
-use Rattle.tree.specs.Tree.{Grammar}
-use Rattle.syntax.specs.Parser.{Parsed, parsed, no-parse, parse}
+use Rattle.syntax.specs.Parser.{parse}
 use Rattle.syntax.proofs.Sound.{sound}
 use Rattle.places.specs.Tokens.{place_of}
 use Rattle.spacing.specs.declared.Cell.{Cell}
 use Rattle.reader.specs.declared.Reading.{Reading}
 use Rattle.reader.specs.declared.Reading.TheVariants.{Grammar as A-grammar, NoGrammar}
 use Rattle.reader.specs.Answers.{Readable, Held, Read-as}
-use Rattle.load.specs.declared.Passed.{Passed}
 use Rattle.load.specs.declared.Loaded.{Loaded}
 use Rattle.load.specs.declared.Loaded.TheVariants.{Grammar as Accepted, Refused}
 use Rattle.load.specs.Checked.{Stands, Standing, at_character, place_for, Placed, TreeChecked, Passes, stage_of}

@@ -1,8 +1,7 @@
 -- The trees of grammar texts are proper: an end of a range is one character, and no rest is written.
-use mathlib.Core.Path.{◌≡◌, refl}
-use mathlib.Core.List.{List, [], ◌∷◌}
+use mathlib.Core.Path.{refl}
+use mathlib.Core.List.{List}
 use Prim.Native.Nat.{ℕ}
-use lib.ListN.{length}
 use Rattle.text.specs.Lists.{Text}
 use Rattle.tree.specs.Tree.{Chars, Member, Terminal, Symbol, Alternative, Body, Rule, Grammar, rules}
 use Rattle.syntax.specs.Syntax.{Character, one_char, one-hex, MemberOf, m-chars, m-range, m-class, Members, m-last, m-next, SetOf}

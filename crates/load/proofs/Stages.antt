@@ -5,7 +5,7 @@ use mathlib.Core.List.{List, [], ◌∷◌}
 use Prim.Native.Nat.{ℕ, ◌≤◌, ◌<◌}
 use native.Mathlib.Omega.{arith}
 use lib.Dec.{ltb}
-use lib.ListN.{length, take}
+use lib.ListN.{length}
 use borrow.Author.Tests.{lt-ltb, le-ltb}
 use Rattle.text.specs.Limits.{most_size}
 use Rattle.text.specs.Lists.{Text, pick}
@@ -24,7 +24,6 @@ use Rattle.static_errors.specs.Held as static
 use Rattle.tokens.specs.Lengths as tokens
 use Rattle.measure.specs.Costs as sizes
 use Rattle.locate.specs.Asked.{Asked}
-use Rattle.load.specs.declared.Passed.{Passed}
 use Rattle.load.specs.Checked.{Stands, Standing, tree_tests, Refuses, Passes}
 use Rattle.load.proofs.Proper.{grammar-proper}
 use Rattle.load.proofs.Written.{written-proper}

@@ -1,15 +1,15 @@
 -- All that a grammar text writes is proper: ends of ranges, letters of classes, and no rest.
-use mathlib.Core.Path.{◌≡◌, refl, sym, ◌∙◌}
-use mathlib.Core.Bool.{Bool, true, false, not, ◌&&◌}
+use mathlib.Core.Path.{◌≡◌, refl}
+use mathlib.Core.Bool.{Bool, true, false, not}
 use mathlib.Core.List.{List, [], ◌∷◌, ◌++◌}
 use Prim.Native.Nat.{ℕ}
 use lib.Dec.{T, eqb}
 use borrow.Author.Tests.{eqb-true}
 use Rattle.text.specs.Lists.{Text, all, concat_map}
 use Rattle.text.proofs.Tests.{and_left, and_right, both-and, clash}
-use Rattle.tree.specs.Tree.{Chars, Member, Terminal, Symbol, Alternative, Body, Rule, Grammar, rules}
-use Rattle.plain.specs.Written.{within, within_alternative, within_body, written, members_in}
-use Rattle.syntax.specs.Syntax.{letter, capital, Chr, chr, Class, c-one, c-two, Character, one_char, one-hex, MemberOf, m-chars, m-range}
+use Rattle.tree.specs.Tree.{Chars, Member, Terminal, Symbol, Alternative, Body, Rule, Grammar}
+use Rattle.plain.specs.Written.{within, within_alternative, within_body, members_in}
+use Rattle.syntax.specs.Syntax.{letter, capital, chr, Class, c-one, c-two, Character, one_char, one-hex, MemberOf, m-chars, m-range}
 use Rattle.syntax.specs.Syntax.{m-class, Members, m-last, m-next, SetOf, set-none, set-some, TerminalOf, t-literal, t-inclusion}
 use Rattle.syntax.specs.Syntax.{t-exclusion, t-insertion}
 use Rattle.syntax.specs.Syntax.{Alts, alts-one, alts-also, Alt, alt-none, alt-some, Terms, terms-one, terms-more, Term, t-factor, t-option}

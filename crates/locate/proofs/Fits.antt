@@ -8,7 +8,7 @@ use lib.ListN.{length}
 use Rattle.text.specs.Lists.{Text, any, concat_map}
 use Rattle.text.proofs.Lists.{or-false, any-concat, any-ext, any-agree}
 use Rattle.text.proofs.Tests.{clash}
-use Rattle.tree.specs.Tree.{Mark, Chars, string, hex, Member, chars, range, class}
+use Rattle.tree.specs.Tree.{Chars, string, hex, chars, range, class}
 use Rattle.tree.specs.Tokens.{Token, name, quoted, coded, include, exclude, member-quoted, member-coded, member-range, member-class, set-end, insert-quoted, insert-coded, capped}
 use Rattle.tree.specs.Tokens.{open-group, close-group, next-alternative, to-option, to-repeat0, to-repeat1, to-repeat0sep, to-repeat1sep, rule-head, rule_end, version-is}
 use Rattle.category.specs.Category.{is_class}

@@ -2,9 +2,9 @@
 use native.Mathlib.Omega.{arith}
 use mathlib.Core.Bool.{Bool, true, false}
 use mathlib.Core.Path.{◌≡◌, refl, sym, ap, subst, ◌∙◌}
-use mathlib.Core.List.{List, [], ◌∷◌}
+use mathlib.Core.List.{List, []}
 use Prim.Native.Nat.{ℕ, ◌+◌, ◌<◌, ◌≤◌}
-use lib.Dec.{T, ltb}
+use lib.Dec.{ltb}
 use lib.ListN.{length, get_or, take}
 use Rattle.text.specs.Lists.{Text, pick, any, concat_map}
 use Rattle.text.proofs.Tests.{is_t}
@@ -17,12 +17,11 @@ use Rattle.plain.specs.Static.{undefined, duplicate, beyond, banned, backwards, 
 use Rattle.static_errors.specs.Held.{Holds, Held, static_of}
 use Rattle.static_errors.specs.Scan.{Tokens, Indexed, names_at}
 use Rattle.static_errors.proofs.ProperTrees.{tokens-of, heads-are}
-use Rattle.places.specs.Spots as spots
 use Rattle.places.specs.Place.{hexes_at, at_fault, Place}
 use Rattle.places.specs.Scan.{between, lefts}
 use Rattle.places.specs.Tokens.{parts, index, fault_index, place_of}
 use Rattle.places.proofs.Parts.{parts-known}
-use Rattle.places.proofs.Unique.{Known, left-known, place_is}
+use Rattle.places.proofs.Unique.{left-known, place_is}
 use Rattle.places.proofs.Exists.{written-hexes, place-5, place-6, place-7, place-8, place-9, place-10}
 use Rattle.locate.specs.Spots.{Located}
 use Rattle.locate.specs.Faults.{Fine, FaultAt, Rated}

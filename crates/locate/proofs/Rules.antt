@@ -3,24 +3,23 @@ use native.Mathlib.Omega.{arith}
 use mathlib.Core.Bool.{Bool, true, false, not, ◌||◌}
 use mathlib.Core.Path.{◌≡◌, refl, sym, ap, ap₂, ◌∙◌}
 use mathlib.Core.List.{List, [], ◌∷◌, ◌++◌}
-use Prim.Native.Nat.{ℕ, suc, ◌+◌, ◌<◌, ◌≤◌}
-use lib.Dec.{eqb, ltb}
-use lib.ListN.{length}
+use Prim.Native.Nat.{ℕ, ◌+◌, ◌≤◌}
+use lib.Dec.{ltb}
 use Rattle.text.specs.Lists.{Text, pick, any, same, concat_map}
 use Rattle.text.proofs.Lists.{or-false}
 use Rattle.text.proofs.Tests.{clash}
-use Rattle.tree.specs.Tree.{Chars, string, hex, range}
+use Rattle.tree.specs.Tree.{Chars, range}
 use Rattle.plain.specs.Written.{hex_in}
 use Rattle.plain.specs.Static.{unassignable, runs_back, no_class}
 use Rattle.static_errors.specs.Parts as had
-use Rattle.static_errors.specs.Parts.{used_in, heads_in, end_flag, end_code, end_codes, lacking, bad_code, failing}
-use Rattle.places.specs.Spots.{Part, used, headed, spelt, member, to, other}
+use Rattle.static_errors.specs.Parts.{used_in, end_flag, end_code, end_codes, bad_code, failing}
+use Rattle.places.specs.Spots.{Part, used, headed, member, to, other}
 use Rattle.places.specs.Place.{used_at, heads_at, members_at, hexes_at, at_fault}
 use Rattle.places.specs.Tokens.{index}
 use Rattle.places.proofs.Exists.{by-rule, hits, by_parts}
-use Rattle.locate.specs.Faults.{again, at_token, second_of, offset_of}
+use Rattle.locate.specs.Faults.{again, at_token, offset_of}
 use Rattle.locate.proofs.Fits.{Fits, fits-none, fits-other, fits-prolog, fits-used, fits-headed, fits-quoted, fits-coded, fits-member, fits-member-coded, fits-range, fits-class}
-use Rattle.locate.proofs.Fits.{used-same, codes_same, seven, eight, end-codes, back-same, class_same, cap, or_l, or_r}
+use Rattle.locate.proofs.Fits.{used-same, codes_same, seven, eight, end-codes, back-same, class_same, or_l, or_r}
 
 -- 6, of one token
 repeated : {ps : List Part} {p : had.Part} → Fits ps p → (hs before : List Text) (done : List Part)

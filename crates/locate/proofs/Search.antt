@@ -2,24 +2,23 @@
 use native.Mathlib.Omega.{arith}
 use mathlib.Core.Bool.{Bool, true, false, ◌||◌}
 use mathlib.Core.Path.{◌≡◌, refl, sym, ap, ap₂, subst, ◌∙◌}
-use mathlib.Core.List.{List, [], ◌∷◌, ◌++◌, append-nil}
+use mathlib.Core.List.{List, [], ◌∷◌, ◌++◌}
 use Prim.Native.Nat.{ℕ, zero, suc, ◌+◌, ◌*◌, ◌<◌, ◌≤◌, min}
 use lib.Dec.{eqb, ltb}
 use lib.ListN.{length, get_or, take, drop, length-drop, length-append, length-take}
 use lib.Seq.{take-add, drop-drop, drop-append_seam, take-append_seam}
-use Rattle.text.specs.Limits.{grammar_table}
 use Rattle.text.specs.Lists.{Text, pick, any, same, concat_map}
 use Rattle.text.proofs.Lists.{any_append, concat-append, or-false, or_assoc}
 use Rattle.text.proofs.Tests.{clash}
 use Rattle.tree.specs.Tokens.{Token}
-use Rattle.tokens.specs.Lengths.{length_at, first_number}
+use Rattle.tokens.specs.Lengths.{length_at}
 use Rattle.tokens.specs.Names.{name_at}
 use Rattle.tokens.proofs.Walk.{some_number}
 use Rattle.static_errors.specs.Parts.{Part, part, part_at, heads_in}
-use Rattle.static_errors.specs.Scan.{Tokens, Some, Listing, names_at, Looking, heads_of}
+use Rattle.static_errors.specs.Scan.{Tokens, names_at, heads_of}
 use Rattle.static_errors.proofs.Scans.{Reached, Here, here}
 use Rattle.static_errors.proofs.Scans as scans
-use Rattle.static_errors.proofs.View.{Step, none_left}
+use Rattle.static_errors.proofs.View.{none_left}
 use Rattle.places.specs.Spots as spots
 use Rattle.places.specs.Place.{heads_at, hexes_at, at_fault}
 use Rattle.places.specs.Tokens.{token_parts, index}

@@ -1,25 +1,24 @@
 -- What tokens hold.
 use mathlib.Core.Path.{◌≡◌, refl, sym, ap, ◌∙◌}
-use mathlib.Core.Bool.{Bool, true, false, ◌||◌}
+use mathlib.Core.Bool.{Bool, false, ◌||◌}
 use mathlib.Core.List.{List, [], ◌∷◌, ◌++◌, append-nil, append_assoc}
-use Prim.Native.Nat.{ℕ, zero, suc, ◌+◌, ◌-◌, ◌%◌, ◌≤◌, ◌<◌}
+use Prim.Native.Nat.{ℕ, zero, suc, ◌+◌, ◌-◌, ◌%◌, ◌<◌}
 use native.Mathlib.Omega.{arith}
 use lib.Dec.{T as Holds}
 use lib.ListN.{length, get_or, take, drop}
 use lib.Seq.{drop-drop, drop_at}
 use Rattle.text.specs.Lists.{Text, concat_map, begins}
-use Rattle.tree.specs.Tree.{Mark, unmarked, included, attribute, deleted, Chars, string, hex, Terminal, literal, inclusion, exclusion, insertion, codes, Rule, Prolog, no-prolog, version, Grammar}
+use Rattle.tree.specs.Tree.{Mark, unmarked, included, attribute, deleted, string, hex, Terminal, literal, inclusion, exclusion, insertion, codes, Prolog, no-prolog, version, Grammar}
 use Rattle.tree.specs.Tokens.{terminal_tokens, grammar_tokens, prolog_tokens, rule_tokens, body_tokens, Token, rule-head, rule_end, encode, counted, capped, mark_number}
 use Rattle.plain.specs.Plain.{fits, width}
 use Rattle.items.specs.Items.{Reads}
 use Rattle.xml.specs.Document.{terminal_text, stretch}
 use Rattle.tokens.proofs.Names.{held-count, held-name}
 use Rattle.left_parse.proofs.Items.{named-holding, tokens-in, first-number, reads_first, mark-number}
-use Rattle.encode.specs.Out.{enc, spelt}
 use Rattle.markup.specs.declared.Piece.{Piece}
 use Rattle.markup.specs.declared.Source.TheVariants.{Table, Record}
 use Rattle.left_parse.specs.Steps.{Wide, Named}
-use Rattle.markup.specs.Pieces.{said, Says, Pieced, Headed}
+use Rattle.markup.specs.Pieces.{Says, Pieced}
 use Rattle.encode.proofs.Texts.{spelt-capped}
 
 -- a list begins a part of another

@@ -1,21 +1,21 @@
 -- The costs of a tree's tokens add up to the grammar's size.
 use mathlib.Core.List.{List, [], ◌∷◌, ◌++◌}
-use mathlib.Core.Path.{◌≡◌, refl, sym, ap, ◌∙◌}
+use mathlib.Core.Path.{◌≡◌, refl, ap, ◌∙◌}
 use Prim.Native.Nat.{ℕ, ◌+◌, ◌<◌, ◌≤◌}
 use native.Mathlib.Omega.{arith}
-use lib.ListN.{length, get_or, drop}
+use lib.ListN.{length, get_or}
 use Rattle.text.specs.Lists.{concat_map}
-use Rattle.tree.specs.Tree.{Mark, Chars, string, hex, Member, chars, range, class, Terminal, literal, inclusion, exclusion, insertion}
+use Rattle.tree.specs.Tree.{string, hex, Member, chars, range, class, Terminal, literal, inclusion, exclusion, insertion}
 use Rattle.tree.specs.Tree.{Symbol, terminal, nonterminal, group, option, repeat0, repeat1, repeat0sep, repeat1sep, rest, Alternative, nil}
 use Rattle.tree.specs.Tree.{cons, Body, one, also, Rule, Prolog, no-prolog, version, Grammar, rules}
 use Rattle.tree.specs.Tokens.{Token, close-group, next-alternative, to-option, to-repeat0, to-repeat1, to-repeat0sep, to-repeat1sep, rule_end}
 use Rattle.tree.specs.Tokens.{member_tokens, terminal_tokens, symbol_tokens, alternative_tokens, body_tokens, rule_tokens, prolog_tokens, grammar_tokens, numbers}
-use Rattle.plain.specs.Written.{within, within_alternative, within_body, written}
+use Rattle.plain.specs.Written.{within, within_alternative, within_body}
 use Rattle.plain.specs.Plain.{symbols, alternatives, alts, makes, sum_of, weight, size}
-use Rattle.tokens.specs.Proper.{ProperMembers, ProperTerminal, Proper, ProperAlternative, ProperBody, ProperRules}
+use Rattle.tokens.specs.Proper.{Proper, ProperAlternative, ProperBody, ProperRules}
 use Rattle.tokens.specs.Lengths.{length_at, Holds, Left}
 use Rattle.measure.specs.Costs.{cost_of, repeat_cost_of, cost, costs}
-use Rattle.tokens.proofs.Walk.{by-mark, some_number, left-empty, left-inside, left-length, left-first, left-within, left-next, left-start}
+use Rattle.tokens.proofs.Walk.{by-mark, some_number, left-empty, left-length, left-first, left-within, left-next, left-start}
 
 pub costs-append : (ts us : List Token) → costs (ts ++ us) ≡ costs ts + costs us
 costs-append [] us = omega arith

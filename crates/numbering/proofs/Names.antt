@@ -1,13 +1,12 @@
 -- The names of rules in the code are those of the layout, and as many.
-use mathlib.Core.Bool.{Bool, true, false, ◌&&◌}
+use mathlib.Core.Bool.{Bool, true}
 use mathlib.Core.List.{List, [], ◌∷◌}
 use mathlib.Core.Logic.{⊎_elim}
-use mathlib.Core.Path.{◌≡◌, refl, sym, ap, ◌∙◌, subst}
+use mathlib.Core.Path.{◌≡◌, refl, sym, ap, ◌∙◌}
 use Prim.Native.Nat.{ℕ, zero, suc, ◌+◌, ◌-◌, ◌<◌, ◌≤◌}
 use native.Mathlib.Omega.{arith}
 use lib.Dec.{T, eqb}
 use lib.ListN.{length, get_or, take}
-use lib.Seq.{take-length}
 use borrow.Author.Tests.{eq-eqb, eqb-true}
 use Rattle.text.proofs.Tests.{split, T_true, T_false, and_left, and_right}
 use Rattle.tree.specs.Tree.{Terminal, Symbol, Grammar}
@@ -15,7 +14,7 @@ use Rattle.plain.specs.Plain.{alts, sum_of, weight}
 use Rattle.layout.specs.Layout.{layout, dot_count, name_at}
 use Rattle.layout.proofs.Spots.{sum-take, name-ends}
 use Rattle.derive.specs.Derive.{root}
-use Rattle.chart.specs.Code.{next_kind, goes_at, owner_at, flag, head_of, Chain, ch-last, ch-next, Owned, RuleOf, Ruled}
+use Rattle.chart.specs.Code.{next_kind, goes_at, owner_at, flag, head_of, Chain, ch-last, ch-next, Ruled}
 use Rattle.numbering.specs.Names.{Named, is_name, name_count}
 
 chain-some : {c : List ℕ} {dots : List (List Symbol)} {e q : ℕ} {ts : List (List Symbol)} → Chain c dots e q ts → 0 < weight ts

@@ -18,7 +18,7 @@ use Rattle.tree.specs.Tree.{Alternative, nil, cons, Body, one, also, Rule, Gramm
 use Rattle.tokens.specs.Proper.{Proper, ProperAlternative, ProperBody, ProperRules}
 use Rattle.plain.specs.Written.{within, within_alternative, within_body, written}
 use Rattle.plain.specs.Plain.{rule_for, alts, makes, ruled}
-use Rattle.derive.specs.Bound.{family, symbols_of}
+use Rattle.derive.specs.Bound.{family}
 use Rattle.derive.specs.Derive.{root}
 use Rattle.derive.proofs.Symbols.{in-concat}
 use Rattle.rounds.specs.Rounds.{Stands, AllStand}

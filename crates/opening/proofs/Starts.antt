@@ -7,7 +7,7 @@ use Prim.Native.Nat.{ℕ}
 use native.Mathlib.Omega.{arith}
 use lib.Dec.{ltb, eqb}
 use Rattle.text.specs.Limits.{grammar_table}
-use Rattle.text.specs.Stages.{diagnostic_of, plainly}
+use Rattle.text.specs.Stages.{diagnostic_of}
 use Rattle.text.specs.Utf8.{known}
 use Rattle.text.specs.Decode.{break_of}
 use Rattle.text.specs.Faults.{every, after_mark}
@@ -15,7 +15,7 @@ use Rattle.text.specs.declared.Diagnostic.{Diagnostic}
 use Rattle.text.specs.declared.CharPlace.{CharPlace}
 use Rattle.plain.specs.Plain.{size}
 use Rattle.answer.specs.Answer.{Job, Need, main_need, table_need}
-use Rattle.answer.specs.Compute.{fault_in, first_of, grammar_tests, need_tests, Value, value, value_at, places_at, place_values, check_values, job_values}
+use Rattle.answer.specs.Compute.{fault_in, need_tests, Value, value, value_at, places_at, place_values, check_values, job_values}
 use Rattle.answer.proofs.Noted.{value-skip}
 use Rattle.answer.proofs.Stages.{stage-15}
 use Rattle.load.specs.Loaded.{Turned}

@@ -11,10 +11,10 @@ use Rattle.text.specs.Limits.{record_chars}
 use denote.Enum.Declared.{tag_of}
 use types.Run.{OneOf}
 use Rattle.text.specs.Lists.{Text}
-use Rattle.text.specs.Decode.{text, decode, break_of}
+use Rattle.text.specs.Decode.{decode, break_of}
 use Rattle.answer.proofs.Stages.{stage-12, stage-13, stage-14}
 use Rattle.decode.specs.declared.Decoding.{Decoding}
-use Rattle.decode.specs.declared.Decoding.TheVariants.{Of, CutShort, Malformed, Unknown}
+use Rattle.decode.specs.declared.Decoding.TheVariants.{Of}
 use Rattle.text.specs.declared.CharPlace.{CharPlace}
 use Rattle.decode.specs.contracts.Decoding.{the_type}
 use Rattle.decode.specs.Refused.{why_of}

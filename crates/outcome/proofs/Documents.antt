@@ -29,9 +29,9 @@ use Rattle.convert.specs.declared.Converted.{Converted}
 use Rattle.convert.specs.declared.Converted.TheVariants.{Xml, Refused as Not-converted}
 use Rattle.convert.specs.Concluded.{Written, NotWritten, Concludes}
 use Rattle.convert.proofs.Conclusions.{written-case, refused-case}
-use Rattle.exported.specs.Exported.{done, shown}
+use Rattle.exported.specs.Exported.{shown}
 use Rattle.outcome.specs.Outcome.{answer_of}
-use Rattle.outcome.proofs.Outcomes.{refusing, answering, refused-outcome, done-is}
+use Rattle.outcome.proofs.Outcomes.{answering, refused-outcome, done-is}
 
 -- 17 and on name no place
 pub nowhere : (j : Job) (k : ℕ) → 17 ≤ k → record { byte = 0; fault = 0; grammar = 0 } ≡ places_at (job_values j) k

@@ -1,6 +1,6 @@
 -- A record that is derived is all of it the beginning of an accepted text, so its fault is not before its end.
-use mathlib.Core.List.{List, [], append-nil}
-use mathlib.Core.Path.{◌≡◌, sym, subst, ◌∙◌}
+use mathlib.Core.List.{[], append-nil}
+use mathlib.Core.Path.{sym, subst, ◌∙◌}
 use Prim.Native.Nat.{ℕ, ◌<◌}
 use native.Mathlib.Omega.{arith}
 use lib.ListN.{length, take}

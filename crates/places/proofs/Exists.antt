@@ -8,17 +8,17 @@ use native.Mathlib.Decide.{ℕ_discrete}
 use lib.Dec.{T, eqb, ltb}
 use lib.ListN.{length}
 use borrow.Author.Tests.{eq-eqb, ne_eqb}
-use Rattle.text.specs.Lists.{Text, pick, any, same, repeats, concat_map}
+use Rattle.text.specs.Lists.{Text, any, same, repeats, concat_map}
 use Rattle.text.proofs.Lists.{any-concat, any-ext, or-false, concat-append, concat-concat}
 use Rattle.text.proofs.Tests.{clash, T_true}
-use Rattle.tree.specs.Tree.{Mark, Chars, string, hex, Member, chars, range, class, Terminal, literal, inclusion, exclusion, insertion, Rule, Grammar, rules}
-use Rattle.tree.specs.Tree.{Symbol, terminal, nonterminal, group, option, repeat0, repeat1, repeat0sep, repeat1sep}
+use Rattle.tree.specs.Tree.{string, hex, Member, chars, range, class, Terminal, literal, inclusion, exclusion, insertion, Rule, Grammar}
+use Rattle.tree.specs.Tree.{Symbol, terminal, group, option, repeat0, repeat1, repeat0sep, repeat1sep}
 use Rattle.tree.specs.Tokens.{member_token, member_tokens, terminal_tokens}
 use Rattle.plain.specs.Written.{within_body, written, names_in, terminals_in, members_in, chars_in_member, chars_in, hex_in, names, terminals, members, hexes, heads}
 use Rattle.plain.specs.Static.{undefined, duplicate, beyond, banned, backwards, unclassed, unassignable, runs_back, no_class}
-use Rattle.syntax.specs.Syntax.{Ixml, ixml, RuleOf, a-rule, Rules, rules-none, rules-next, PrologOf, prolog-none, prolog-some}
-use Rattle.places.specs.Spots.{Part, used, headed, spelt, member, to, other, Spot, spots, spots_rule, spots_rules, spots_alts, spots_prolog}
-use Rattle.places.specs.Place.{used_at, heads_at, members_at, hexes_of, hexes_at, at_fault, First, here, later, Place}
+use Rattle.syntax.specs.Syntax.{Ixml, ixml, RuleOf, a-rule, Rules, rules-none, rules-next}
+use Rattle.places.specs.Spots.{Part, used, headed, spelt, member, to, other, Spot, spots, spots_rule, spots_rules, spots_prolog}
+use Rattle.places.specs.Place.{used_at, heads_at, members_at, hexes_at, at_fault, First, here, later, Place}
 use Rattle.places.specs.Tokens.{token_parts}
 use Rattle.places.proofs.Parts.{bare, Local, in-alts, in-prolog, all-written}
 use Rattle.places.proofs.Unique.{left-known}

@@ -1,21 +1,20 @@
 -- Without their places, the spots of a derivation are the parts of its tokens; and what the static rules ask for is among them.
 use mathlib.Core.Path.{◌≡◌, refl, sym, ap, ap₂, ◌∙◌}
-use mathlib.Core.List.{List, [], ◌∷◌, ◌++◌, append_assoc, append-nil}
+use mathlib.Core.List.{List, [], ◌∷◌, ◌++◌, append-nil}
 use Prim.Native.Nat.{ℕ}
 use Rattle.text.specs.Lists.{Text, concat_map}
-use Rattle.text.proofs.Lists.{concat-append, concat-concat}
-use Rattle.tree.specs.Tree.{Mark, Chars, string, hex, Member, chars, range, class, Terminal, literal, inclusion, exclusion, insertion, Rule, Prolog, Grammar, rules}
+use Rattle.text.proofs.Lists.{concat-append}
+use Rattle.tree.specs.Tree.{Mark, Member, Terminal, Rule, Prolog, Grammar}
 use Rattle.tree.specs.Tree.{Symbol, terminal, nonterminal, group, option, repeat0, repeat1, repeat0sep, repeat1sep, Alternative, Body}
-use Rattle.tree.specs.Tokens.{Token, set-end, close-group, next-alternative, to-option, to-repeat0, to-repeat1, to-repeat0sep, to-repeat1sep, rule_end, open-group, rule-head}
-use Rattle.tree.specs.Tokens.{member_token, member_tokens, terminal_tokens, symbol_tokens, alternative_tokens, body_tokens, rule_tokens, prolog_tokens, grammar_tokens}
-use Rattle.plain.specs.Written.{within, within_alternative, within_body, written, names_in, terminals_in, members_in, chars_in_member, chars_in, hex_in, names, terminals, members, hexes, heads}
-use Rattle.syntax.specs.Syntax.{CharsOf, c-string, c-hex}
+use Rattle.tree.specs.Tokens.{Token, close-group, next-alternative, to-option, to-repeat0, to-repeat1, to-repeat0sep, to-repeat1sep, rule_end}
+use Rattle.tree.specs.Tokens.{member_token, member_tokens, terminal_tokens, symbol_tokens, alternative_tokens, body_tokens, rule_tokens, prolog_tokens}
+use Rattle.plain.specs.Written.{within, within_alternative, within_body, written}
+use Rattle.syntax.specs.Syntax.{c-string, c-hex}
 use Rattle.syntax.specs.Syntax.{MemberOf, m-chars, m-range, m-class, Members, m-last, m-next, SetOf, set-none, set-some, TerminalOf, t-literal, t-inclusion, t-exclusion, t-insertion}
 use Rattle.syntax.specs.Syntax.{Alts, alts-one, alts-also, Alt, alt-none, alt-some, Terms, terms-one, terms-more, Term, t-factor, t-option, t-repeat0, t-repeat0sep, t-repeat1, t-repeat1sep}
 use Rattle.syntax.specs.Syntax.{Factor, f-terminal, f-nonterminal, f-group, RuleOf, a-rule, Rules, rules-none, rules-next, PrologOf, prolog-none, prolog-some, Ixml, ixml}
-use Rattle.places.specs.Spots.{Part, used, headed, spelt, member, to, other, Spot, spot}
+use Rattle.places.specs.Spots.{Part, used, headed, other, Spot, spot}
 use Rattle.places.specs.Spots.{spots_member, spots_members, spots_set, spots_terminal, spots_alts, spots_alt, spots_terms, spots_term, spots_factor, spots_rule, spots_rules, spots_prolog, spots}
-use Rattle.places.specs.Place.{used_at, heads_at, members_at, hexes_of, hexes_at}
 use Rattle.places.specs.Tokens.{token_parts, parts}
 
 abbrev pub bare : List Spot → List Part

@@ -1,27 +1,27 @@
 -- The scan at a character, past spacing and past words.
 use mathlib.Core.Bool.{Bool, true, false, not, ◌&&◌, ◌||◌}
-use mathlib.Core.Path.{◌≡◌, refl, sym, ap, subst, ◌∙◌}
+use mathlib.Core.Path.{◌≡◌, refl, sym, ap, ◌∙◌}
 use mathlib.Core.Logic.{⊎_elim}
-use mathlib.Core.List.{List, [], ◌∷◌, ◌++◌}
-use Prim.Native.Nat.{ℕ, zero, suc, ◌<◌}
+use mathlib.Core.List.{List, [], ◌∷◌}
+use Prim.Native.Nat.{ℕ, suc, ◌<◌}
 use native.Mathlib.Omega.{arith}
 use lib.Dec.{T, eqb, leb}
 use lib.ListN.{length}
 use borrow.Author.Tests.{eqb-true, lt-leb, not-true}
-use Rattle.text.specs.Lists.{Text, chars, among, all, pick}
+use Rattle.text.specs.Lists.{Text, chars, among, all}
 use Rattle.text.proofs.Tests.{T_true, split}
 use Rattle.tree.specs.Tree.{Mark, Chars}
-use Rattle.syntax.specs.Syntax.{Chr, chr, Is, is, ch, whitespace, cchar, quote, digit, capital, letter, bar, is_mark, is_tmark, defines, namestart, namefollower}
+use Rattle.syntax.specs.Syntax.{chr, Is, is, ch, whitespace, cchar, quote, digit, capital, letter, bar, is_mark, is_tmark, defines, namestart, namefollower}
 use Rattle.syntax.specs.Syntax.{Comment, comment, Inside, in-none, in-char, in-comment, S, s-none, s-white, s-comment, RS}
 use Rattle.syntax.specs.Syntax.{Qchar, q-plain, q-doubled, Qchars, q-last, q-next, String, a-string, Digits, d-last, d-next, Hex, a-hex, CharsOf, c-string, c-hex}
 use Rattle.syntax.specs.Syntax.{Class, c-one, c-two, Followers, f-none, f-next, Name, a-name, Word, word_end, word-char, Marked, mark-none, mark-some}
 use Rattle.syntax.specs.Syntax as syntax
 use Rattle.syntax.specs.Spacing.{spacing}
-use Rattle.syntax.proofs.Classes.{by-category, clash, and_left, and_right, and-false, differ, at-ch, among-not, not-among, none_of, spacing-not}
+use Rattle.syntax.proofs.Classes.{by-category, clash, and_left, and_right, and-false, differ, at-ch, among-not, spacing-not}
 use Rattle.syntax.proofs.Names.{spacing-follower}
 use Rattle.syntax.proofs.SpacingLaws.{rs-s}
 use Rattle.text.proofs.Table.{below, below_at}
-use Rattle.places.specs.Scan.{State, between, word, quoted, closed, sign, opens, onward, step, begins, lefts}
+use Rattle.places.specs.Scan.{between, word, quoted, closed, sign, opens, onward, lefts}
 use Rattle.places.specs.Scan as scan
 
 -- 1. Characters.

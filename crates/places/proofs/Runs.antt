@@ -2,21 +2,20 @@
 use mathlib.Core.Path.{◌≡◌, refl, sym, ap, ◌∙◌}
 use mathlib.Core.List.{List, [], ◌∷◌, ◌++◌, append_assoc, append-nil}
 use Prim.Native.Nat.{ℕ}
-use lib.ListN.{length}
-use Rattle.text.specs.Lists.{Text, concat_map}
+use Rattle.text.specs.Lists.{Text}
 use Rattle.text.proofs.Lists.{concat-append}
 use Rattle.tree.specs.Tree.{Chars, Member, Terminal, Symbol, Alternative, Body, Rule, Prolog, Grammar}
-use Rattle.syntax.specs.Syntax.{Is, ch, S, RS, namestart, namefollower, quote, CharsOf, Name}
+use Rattle.syntax.specs.Syntax.{Is, ch, S, namestart, namefollower, quote, CharsOf, Name}
 use Rattle.syntax.specs.Syntax.{MemberOf, m-chars, m-range, m-class, Members, m-last, m-next, SetOf, set-none, set-some, TerminalOf, t-literal, t-inclusion, t-exclusion, t-insertion}
 use Rattle.syntax.specs.Syntax.{Alts, alts-one, alts-also, Alt, alt-none, alt-some, Terms, terms-one, terms-more, Term, t-factor, t-option, t-repeat0, t-repeat0sep, t-repeat1, t-repeat1sep}
 use Rattle.syntax.specs.Syntax.{Factor, f-terminal, f-nonterminal, f-group, RuleOf, a-rule, Rules, rules-none, rules-next, PrologOf, prolog-none, prolog-some, Ixml, ixml}
 use Rattle.syntax.proofs.Classes.{by-category}
 use Rattle.syntax.proofs.SpacingLaws.{rs-s}
 use Rattle.syntax.proofs.Shorter.{of-character}
-use Rattle.places.specs.Spots.{Spot, spot}
+use Rattle.places.specs.Spots.{Spot}
 use Rattle.places.specs.Spots.{spots_member, spots_members, spots_set, spots_terminal, spots_alts, spots_alt, spots_terms, spots_term, spots_factor, spots_rule, spots_rules, spots_prolog, spots}
 use Rattle.places.specs.Laws.{left}
-use Rattle.places.specs.Scan.{State, between, word, sign, opens, lefts}
+use Rattle.places.specs.Scan.{between, word, sign, opens, lefts}
 use Rattle.places.proofs.Quiet.{loud, stirs, Calm, Stop, calm-nil, calm-s, calm-word, calm-quote, rs-calm, calm-dot, dot-calm}
 use Rattle.places.proofs.Quiet.{past-dot, stop-ch, bar-stops, defines-stops, past-s, past-mark, past-tmark}
 use Rattle.places.proofs.Quiet.{put, past-name, past-class, past-string, past-chars, past-set, past-group, fresh, past_first}

@@ -1,7 +1,7 @@
 -- A text has one place for each refusal, inside the text: the computed one.
 use native.Mathlib.Omega.{arith}
 use mathlib.Core.Bool.{Bool, true, false}
-use mathlib.Core.Path.{◌≡◌, refl, sym, ap, subst, ◌∙◌}
+use mathlib.Core.Path.{◌≡◌, refl, sym, subst, ◌∙◌}
 use mathlib.Core.List.{List, [], ◌∷◌, ◌++◌}
 use Prim.Native.Nat.{ℕ, zero, suc, ◌+◌, ◌-◌, ◌<◌, ◌≤◌}
 use lib.ListN.{length, get_or}
@@ -13,7 +13,7 @@ use Rattle.syntax.proofs.Complete.{complete}
 use Rattle.places.specs.Spots.{Part, Spot, spots}
 use Rattle.places.specs.Place.{at_fault, First, here, later, Place}
 use Rattle.places.specs.Scan.{State, between, begins, step, lefts}
-use Rattle.places.specs.Tokens.{parts, index, fault_index, on_tree, place_of}
+use Rattle.places.specs.Tokens.{index, fault_index, place_of}
 use Rattle.places.specs.Laws.{left}
 use Rattle.places.proofs.Runs.{lefts-known}
 use Rattle.places.proofs.Parts.{bare, parts-known}

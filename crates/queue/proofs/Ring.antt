@@ -1,6 +1,6 @@
 -- The queue of rules: a ring.
 use mathlib.Core.List.{List}
-use mathlib.Core.Path.{◌≡◌, refl, sym, ap, subst, ◌∙◌}
+use mathlib.Core.Path.{◌≡◌, refl, sym, ap, ◌∙◌}
 use Prim.Native.Nat.{ℕ, zero, suc, ◌+◌, ◌-◌, ◌<◌, ◌≤◌}
 use native.Mathlib.Decide.{ℕ_discrete, dec_lt}
 use native.Mathlib.Omega.{arith}
@@ -10,7 +10,7 @@ use lib.Seq.{get_or-set_same, get_or-set_other}
 use borrow.Author.Tests.{lt-ltb, le-ltb, le-leb, lt-leb}
 use Rattle.text.specs.Lists.{pick}
 use Rattle.reach.specs.Work.{at_most}
-use Rattle.queue.specs.Queue.{flag_of, head_of, count_of, slot, Pending, Waits, Queued, Put, Taken}
+use Rattle.queue.specs.Queue.{flag_of, head_of, count_of, slot, Waits, Queued, Put, Taken}
 
 pub around-in : (k : ℕ) → k < 512 → pick (ltb k 512) k (k - 512) ≡ k
 around-in k l = rw (lt-ltb k 512 l)

@@ -1,9 +1,8 @@
 -- Starts that nothing touched are passed over together.
 use mathlib.Core.List.{List}
 use mathlib.Core.Path.{◌≡◌, subst}
-use Prim.Native.Nat.{ℕ, zero, suc, ◌+◌, ◌-◌, ◌<◌, ◌≤◌}
+use Prim.Native.Nat.{ℕ, zero, suc, ◌+◌, ◌-◌, ◌≤◌}
 use native.Mathlib.Omega.{arith}
-use lib.ListN.{get_or}
 use Rattle.listing.specs.Starts.{Passed}
 use Rattle.quick.specs.Quick.{From}
 use Rattle.quick.proofs.Columns.{from-bare}

@@ -9,10 +9,7 @@ use denote.Enum.Declared.{tag_of}
 use types.Run.{OneOf}
 use lib.ListN.{length}
 use Rattle.text.specs.Lists.{Text}
-use Rattle.tree.specs.Tree.{Grammar}
-use Rattle.chart.specs.Code.{Ruled}
 use Rattle.chart.specs.Heights.{stretches}
-use Rattle.rules.specs.Ready.{Token}
 use Rattle.left_pass.specs.Left.{Lefted}
 use Rattle.right_pass.specs.Right.{Righted}
 use Rattle.right_pass.proofs.Given.{no-derivation}
@@ -25,7 +22,7 @@ use Rattle.quick.specs.Quick.{Filled}
 use Rattle.reading.specs.declared.Walked.{Walked}
 use Rattle.reading.specs.declared.Walked.TheVariants as walked
 use Rattle.reading.specs.contracts.Walked.{the_type}
-use Rattle.reading.specs.Answer.{Finished, NotRead, no-reading}
+use Rattle.reading.specs.Answer.{Finished, no-reading}
 use Rattle.quick_reading.specs.declared.Tried.TheVariants as tried
 use Rattle.quick_reading.specs.Readable.{Flagged, Passed, Staged, is_answer}
 

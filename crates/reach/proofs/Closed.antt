@@ -5,15 +5,14 @@ use Prim.Native.Nat.{ℕ, zero, suc, ◌+◌, ◌-◌, ◌<◌, ◌≤◌}
 use native.Mathlib.Numerals.{add-one}
 use native.Mathlib.Omega.{arith}
 use borrow.Author.Tests.{ne_eqb}
-use lib.Dec.{T}
-use lib.ListN.{length, get_or, drop}
+use lib.ListN.{length, get_or}
 use Rattle.text.specs.Lists.{Text}
 use Rattle.tree.specs.Tree.{Terminal, Symbol, terminal, Grammar}
-use Rattle.plain.specs.Plain.{alts, fits, width}
-use Rattle.derive.specs.Derive.{Row, node, alternative, Derives, d-end, d-leaf, d-node, root, Derivation}
+use Rattle.plain.specs.Plain.{alts, width}
+use Rattle.derive.specs.Derive.{Row, alternative, Derives, d-end, d-leaf, d-node, root, Derivation}
 use Rattle.derive.proofs.Rows.{forward}
 use Rattle.chart.specs.Code.{next_kind, goes_at, rule_at, owner_at, after_dot, head_of, On, at-end, at-terminal, at_symbol, Chain, ch-last, ch-next, Ruled}
-use Rattle.reach.specs.Flags.{Reached, Fits, Continued, Begins, Ends, Wanted, home_of, LeftClosed, RightClosed}
+use Rattle.reach.specs.Flags.{Reached, Continued, Begins, Ends, Wanted, home_of, LeftClosed, RightClosed}
 
 -- the end of the alternative in which the dot p is
 abbrev pub end_of : List (List Symbol) → ℕ → ℕ

@@ -1,5 +1,4 @@
 -- Dots by rules: keys, and lists made of them.
-use mathlib.Core.Bool.{Bool, true, false}
 use mathlib.Core.List.{List}
 use mathlib.Core.Logic.{◌⊎◌, inl, inr, ⊎_elim}
 use mathlib.Core.Path.{◌≡◌, refl, sym, subst, ap, ◌∙◌}
@@ -7,17 +6,15 @@ use Prim.Native.Nat.{ℕ, zero, suc, ◌+◌, ◌*◌, ◌-◌, ◌<◌, ◌≤�
 use native.Mathlib.Decide.{ℕ_discrete}
 use native.Mathlib.Numerals.{add-one}
 use native.Mathlib.Omega.{arith}
-use lib.Dec.{eqb}
 use lib.ListN.{length, get_or, set, length-set}
 use lib.Seq.{get_or-set_same, get_or-set_other}
 use borrow.Author.Tests.{eq-eqb, ne_eqb}
-use Rattle.text.specs.Lists.{pick}
 use Rattle.text.proofs.Tests.{split}
 use Rattle.chart.specs.Code.{next_kind, rule_at, owner_at}
 use Rattle.chart.specs.Uses.{LastUse, Uses}
 use Rattle.reach.specs.Flags.{home_of}
-use Rattle.reach.specs.Work.{Seen, Listed, l-here, l-next, Linked}
-use Rattle.reach.specs.Lists.{use_key, after_key, end_key, key_of, Shape, Homes, HomesFrom, Homed, Keying, Opened, Members, Listing, Keyed, PutKey}
+use Rattle.reach.specs.Work.{Seen, Listed, l-here, l-next}
+use Rattle.reach.specs.Lists.{use_key, after_key, end_key, key_of, Shape, HomesFrom, Keying, Opened, Members, Keyed, PutKey}
 
 pub home-first : (c : List ℕ) (p e : ℕ) → owner_at c p ≡ e + 1 → home_of c p ≡ e
 unfolding home_of

@@ -9,7 +9,7 @@ use lib.ListN.{length, get_or, set, length-set}
 use lib.Seq.{get_or-set_same, get_or-set_other}
 use Rattle.reach.specs.Flags.{dot_at}
 use Rattle.reach.proofs.Counts.{counted-one, counted-high, count-le, count_less, count-more, count_next, count-zero}
-use Rattle.reach.specs.Work.{tail_of, Seen, Waits, at_most, Kept, Lifted, Grown, Lift, Raised, Listed, l-here, l-next, Linked, Spreads, Spread}
+use Rattle.reach.specs.Work.{tail_of, Seen, Waits, at_most, Kept, Grown, Lift, Raised, Listed, l-here, l-next, Linked, Spreads, Spread}
 use Rattle.reach.specs.Work.{Waking, Woken, Collects, Collecting, Collected}
 
 -- a byte is raised

@@ -8,7 +8,7 @@ use lib.ListN.{length, drop, take, set}
 use Rattle.text.specs.Limits.{levels}
 use Rattle.text.specs.Lists.{Text}
 use Rattle.tree.specs.Tree.{Mark, unmarked, included, attribute, deleted, Body, Rule}
-use Rattle.tree.specs.Tokens.{mark_number, counted, numbers, body_tokens, rule_end}
+use Rattle.tree.specs.Tokens.{mark_number, counted, body_tokens, rule_end}
 use Rattle.syntax.specs.Syntax.{ch, defines}
 use Rattle.syntax.specs.Result.{Result, ok, fail, hd, tl, map, then, guard, expect}
 use Rattle.syntax.specs.Spacing.{skip}

@@ -2,33 +2,29 @@
 use mathlib.Core.Bool.{Bool, true, false, ◌||◌, ◌&&◌}
 use mathlib.Core.Path.{◌≡◌, refl, sym, ap, subst, ◌∙◌}
 use mathlib.Core.Logic.{◌⊎◌, inl, inr, ⊎_elim, ◌↔◌}
-use mathlib.Core.List.{List, [], ◌∷◌}
-use Prim.Native.Nat.{ℕ, ◌+◌, ◌*◌, ◌<◌, ◌≤◌}
+use mathlib.Core.List.{List, []}
+use Prim.Native.Nat.{ℕ, ◌<◌}
 use native.Mathlib.Omega.{arith}
 use lib.Dec.{T, ltb, eqb}
-use lib.ListN.{length}
 use borrow.Author.Tests.{le-ltb, ltb-true, ltb-false}
 use Rattle.text.specs.Limits.{grammar_table}
 use Rattle.text.specs.Lists.{Text}
-use Rattle.text.specs.Stages.{plainly, diagnostic_of}
-use Rattle.text.specs.Utf8.{Utf8}
+use Rattle.text.specs.Stages.{plainly}
 use Rattle.text.specs.declared.Diagnostic.{Diagnostic}
 use Rattle.text.proofs.Decode.{decode-sound}
-use Rattle.text.proofs.Tests.{is_t}
 use Rattle.tree.specs.Tree.{Grammar}
 use Rattle.plain.specs.Static.{mismatched}
-use Rattle.answer.specs.Answer.{Line, line, Topmost, Job, job, of_tree, of_job, GrammarTree, main_need, table_need, grammar_lines, input_lines, Placed, Answers}
-use Rattle.answer.specs.Compute.{Test, first_of, mismatch, grammar_tests, need_tests}
+use Rattle.answer.specs.Answer.{Line, Topmost, Job, job, of_tree, of_job, main_need, grammar_lines, input_lines, Placed}
+use Rattle.answer.specs.Compute.{first_of, mismatch, grammar_tests, need_tests}
 use Rattle.answer.proofs.Lines.{one-topmost, first-topmost}
 use Rattle.answer.proofs.Agree.{grammar-agrees, need-agrees, tree-known, tree-sound, one-grammar, one-record, same_test}
 use Rattle.answer.proofs.Stages.{stage-lent}
 use Rattle.opening.specs.declared.Start.{Start}
 use Rattle.opening.specs.declared.Begun.{Begun}
 use Rattle.opening.specs.declared.Begun.TheVariants.{At, Refused as Ended}
-use Rattle.opening.specs.Stages.{begun_of, Opened, Started, Opens, lending, lending_of, need_of}
+use Rattle.opening.specs.Stages.{Opened, Started, Opens, lending, lending_of, need_of}
 use Rattle.opening.proofs.Starts.{need-is}
 use Rattle.state.specs.State.{Keeps}
-use Rattle.exported.specs.declared.Answer.{Answer}
 use Rattle.exported.specs.Exported.{shown, done, refusal_of}
 use Rattle.resume.specs.Resume.{Belongs, later_lines, no_notes, Rounds}
 use Rattle.resume.specs.Stages.{Resumed, NotResumed, alien, no_room, Resumes}

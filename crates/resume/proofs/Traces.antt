@@ -1,9 +1,9 @@
 -- A read from its start on.
 use mathlib.Core.Bool.{Bool, true, false}
 use mathlib.Core.List.{List, [], ◌∷◌}
-use mathlib.Core.Logic.{◌⊎◌, inl, inr, ⊎_elim, ◌↔◌}
+use mathlib.Core.Logic.{inl, inr, ◌↔◌}
 use mathlib.Core.Path.{◌≡◌, refl, sym, ap, subst, ◌∙◌}
-use Prim.Native.Nat.{ℕ, zero, suc, ◌+◌, ◌*◌, ◌<◌, ◌≤◌}
+use Prim.Native.Nat.{ℕ, suc, ◌+◌, ◌<◌, ◌≤◌}
 use native.Mathlib.Nat.{mul-le-mul}
 use native.Mathlib.Decide.{ℕ_discrete}
 use native.Mathlib.Omega.{arith}
@@ -13,7 +13,6 @@ use Rattle.text.specs.Stages.{plainly}
 use Rattle.tree.specs.Tree.{Grammar}
 use Rattle.plain.specs.Plain.{ruled}
 use Rattle.chart.specs.Code.{flag}
-use Rattle.chart.specs.Heights.{none}
 use Rattle.answer.specs.Answer as defined
 use Rattle.answer.specs.Answer.{Line, line, Topmost, Job, job, of_job, GrammarTree, grammar_lines, input_lines}
 use Rattle.answer.proofs.Agree.{one-grammar, one-record}

@@ -5,17 +5,16 @@ use mathlib.Core.Path.{◌≡◌, refl, sym, subst, ap, ◌∙◌}
 use Prim.Native.Nat.{ℕ, ◌+◌, ◌*◌, ◌-◌, ◌<◌, ◌≤◌}
 use native.Mathlib.Decide.{ℕ_discrete}
 use native.Mathlib.Omega.{arith}
-use lib.ListN.{length, get_or, set, length-set}
+use lib.ListN.{get_or, set, length-set}
 use lib.Seq.{get_or-set_same, get_or-set_other}
-use Rattle.chart.specs.Code.{next_kind, goes_at, rule_at, owner_at}
+use Rattle.chart.specs.Code.{next_kind, rule_at, owner_at}
 use Rattle.reach.specs.Flags.{dot_at, begin_at, end_at, Fits, Continued, Begins, Ends, Wanted, home_of}
-use Rattle.reach.specs.Work.{tail_of, Seen, Waits, Kept, Grown, Lift, Waking, Woken}
-use Rattle.reach.specs.Lists.{key_of, Shape, Members}
+use Rattle.reach.specs.Work.{tail_of, Seen, Kept, Grown, Lift, Waking, Woken}
+use Rattle.reach.specs.Lists.{key_of}
 use Rattle.left_pass.specs.Left.{Stir}
-use Rattle.right_pass.specs.Right.{Wants, At, AtList, Stepped, FirstDone, SymbolDone, EmptyDone, Done, Closing, Closed}
-use Rattle.reach.proofs.Queue.{grown-le, waits-on, waits-from}
+use Rattle.right_pass.specs.Right.{Wants, At, AtList, Stepped, FirstDone, SymbolDone, EmptyDone}
 use Rattle.reach.proofs.Keys.{key-end, key-use, use-some, end-some}
-use Rattle.left_pass.proofs.Steps.{stir-none, stir-join, stir-grown, stir-woken, woken-le, woken-same, lift-same}
+use Rattle.left_pass.proofs.Steps.{stir-none, stir-join, stir-grown, stir-woken, woken-same, lift-same}
 
 -- a dot is opened
 module _ {size low i : ℕ} {M Q : List ℕ} (p : ℕ) (k : Kept size low M Q i) (h : p < 512) where

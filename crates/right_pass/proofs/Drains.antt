@@ -7,7 +7,7 @@ use native.Mathlib.Decide.{ℕ_discrete}
 use native.Mathlib.Omega.{arith}
 use lib.ListN.{get_or}
 use Rattle.chart.specs.Code.{next_kind, goes_at, rule_at, owner_at}
-use Rattle.reach.specs.Flags.{begin_at, end_at, Fits, Continued, Begins, Ends, Wanted}
+use Rattle.reach.specs.Flags.{Continued}
 use Rattle.reach.specs.Work.{tail_of, Waits}
 use Rattle.right_pass.specs.Right.{At, Stepped, FirstDone, SymbolDone, EmptyDone, Done, Closing, Closed}
 use Rattle.reach.proofs.Queue.{waits-on, waits-from}

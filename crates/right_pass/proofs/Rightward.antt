@@ -8,13 +8,12 @@ use native.Mathlib.Omega.{arith}
 use lib.ListN.{length, get_or}
 use Rattle.text.specs.Lists.{Text}
 use Rattle.text.proofs.Tests.{split}
-use Rattle.tree.specs.Tree.{Terminal}
 use Rattle.chart.specs.Code.{next_kind, goes_at, rule_at, owner_at}
 use Rattle.rules.specs.Ready.{Token}
-use Rattle.reach.specs.Flags.{dot_at, begin_at, end_at, Reached, Fits, Continued, Begins, Ends, Wanted, home_of, LeftClosed, FitsOnly, RightClosed}
+use Rattle.reach.specs.Flags.{dot_at, begin_at, end_at, Fits, Continued, Begins, Ends, Wanted, home_of, LeftClosed, FitsOnly}
 use Rattle.reach.specs.Work.{tail_of, Seen, Kept, Raised, Waking, Woken, Collects, Collected}
 use Rattle.reach.specs.Lists.{key_of, Shape, Homes, Homed, Opened, Members}
-use Rattle.right_pass.specs.Right.{Wants, Closing, Closed, Unshifted, Unshifting, Righting, Righted}
+use Rattle.right_pass.specs.Right.{Closing, Closed, Unshifted, Unshifting, Righting, Righted}
 use Rattle.reach.proofs.Counts.{count_most}
 use Rattle.reach.proofs.Queue.{raised-le}
 use Rattle.reach.proofs.Keys.{home_below, key-end, key-use, use-none, end-some}

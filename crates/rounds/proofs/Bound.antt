@@ -19,7 +19,7 @@ use Rattle.derive.specs.Derive.{Row, end, leaf, node, Derives, d-end, d-leaf, d-
 use Rattle.derive.specs.Level.{can_one, can}
 use Rattle.derive.specs.Bound.{symbols_of}
 use Rattle.derive.proofs.Rows.{forward}
-use Rattle.derive.proofs.Levels.{node-can, both-can, complete, complete-one, sound, sound-one, can-more, Low}
+use Rattle.derive.proofs.Levels.{node-can, both-can, complete-one, sound, sound-one, can-more, Low}
 use Rattle.derive.proofs.Bound.{still, count, count-le, count_same}
 use Rattle.derive.proofs.Symbols.{Inside, alternative-of, ruled-of}
 use Rattle.rounds.specs.Rounds.{most_rounds, Stands, AllStand}

@@ -3,11 +3,11 @@ use mathlib.Core.List.Memᴰ.{tail as in_Tail}
 use mathlib.Core.List.{List, [], ◌∷◌, ◌++◌, Memᴰ as In}
 use mathlib.Core.Logic.{◌⊎◌, inl, inr, ⊎_elim}
 use mathlib.Core.Path.{◌≡◌, refl, sym, ap, ◌∙◌, subst}
-use Prim.Native.Nat.{ℕ, zero, suc, ◌+◌, ◌*◌, ◌-◌, ◌<◌, ◌≤◌}
+use Prim.Native.Nat.{ℕ, zero, suc, ◌+◌, ◌-◌, ◌<◌, ◌≤◌}
 use native.Mathlib.Nat.{not-suc-le-zero}
 use native.Mathlib.Decide.{ℕ_discrete}
 use native.Mathlib.Omega.{arith}
-use lib.ListN.{length, get_or, take, drop, length-append, get_or-append}
+use lib.ListN.{length, get_or, take, length-append}
 use lib.Seq.{get_or-append-add}
 use Rattle.text.proofs.Tests.{split}
 use Rattle.tree.specs.Tree.{Mark, unmarked, included, attribute, deleted, Symbol, Grammar, rules}
@@ -15,7 +15,7 @@ use Rattle.plain.specs.Plain.{alts, weight, rule_mark, over}
 use Rattle.items.specs.Items.{kind_at, Starts, Among, Stands, st-terminal, st-name, st-made, Spells, sp_end, sp-item, Alternatives, al-last, al-more, mark_kind}
 use Rattle.chart.specs.Code.{after_dot, Chain, ch-last, ch-next, owner_at, goes_at}
 use Rattle.layout.specs.Layout.{tails, dots_in, dot_count, starts_from}
-use Rattle.layout.proofs.Sums.{tails-count, dots-weigh}
+use Rattle.layout.proofs.Sums.{tails-count}
 
 tails-head : (ss : List Symbol) (more : List (List Symbol)) → get_or (tails ss ++ more) 0 [] ≡ ss
 tails-head [] more = refl

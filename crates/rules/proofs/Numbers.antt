@@ -1,33 +1,22 @@
 -- What stands at an item, and the code's numbers by its kind.
-use mathlib.Core.Bool.{Bool}
 use mathlib.Core.List.{List, [], ◌∷◌, ◌++◌, append_assoc}
 use mathlib.Core.Logic.{◌⊎◌, inl, inr, ⊎_elim}
-use mathlib.Core.Path.{◌≡◌, refl, sym, ap, ◌∙◌, subst}
+use mathlib.Core.Path.{◌≡◌, refl, sym, ap, ◌∙◌}
 use Prim.Native.Nat.{ℕ, zero, suc, ◌+◌, ◌*◌, ◌-◌, ◌<◌, ◌≤◌}
 use native.Mathlib.Nat.{not-suc-le-zero}
-use native.Mathlib.Decide.{dec_lt, ℕ_discrete}
+use native.Mathlib.Decide.{ℕ_discrete}
 use native.Mathlib.Omega.{arith}
-use lib.ListN.{length, get_or, take, drop, length-append, length-drop, length-take, take-append-drop}
-use lib.Seq.{drop-append-le, length-take-le}
+use lib.ListN.{length, get_or, take, drop, length-append, length-drop, take-append-drop}
+use lib.Seq.{drop-append-le}
 use borrow.Author.Tests.{eq-eqb, ne_eqb, lt-ltb, le-ltb}
-use Rattle.text.specs.Lists.{Text}
 use Rattle.text.proofs.Tests.{split}
-use Rattle.tree.specs.Tree.{Mark, unmarked, string, hex, Terminal, literal, inclusion, exclusion, insertion, Symbol, terminal, nonterminal, Grammar, rules}
+use Rattle.tree.specs.Tree.{string, hex, Terminal, literal, inclusion, exclusion, insertion, Symbol, terminal}
 use Rattle.tree.specs.Tokens.{encode, terminal_tokens}
-use Rattle.plain.specs.Plain.{alts, weight, width, fits, rule_mark, over}
-use Rattle.plain.specs.Plain as plain
 use Rattle.plain.specs.Written.{kind, made, atom}
-use Rattle.derive.specs.Derive.{root}
-use Rattle.items.specs.Items.{kind_at, target_at, token_at, Starts, Among, Stands, st-terminal, st-name, st-made, Reads, mark_kind}
-use Rattle.items.specs.Built.{Cover}
-use Rattle.chart.specs.Code.{after_dot, head_of, Chain, Owned, owner_at, goes_at, rule_at, fits_at, flag, at-end, at-terminal, at_symbol}
-use Rattle.chart.specs.Code as code
-use Rattle.terminals.specs.Sound.{SoundTerminal}
-use Rattle.terminals.specs.Places.{TerminalAt, TerminalHere}
+use Rattle.items.specs.Items.{kind_at, target_at, token_at}
+use Rattle.chart.specs.Code.{owner_at}
 use Rattle.tokens.specs.Lengths.{width_at}
-use Rattle.rules.specs.Ready.{Last, owner_of, Owners, next_kind_of, goes_of, rule_of, Reach, Reaches, Codes, Ready, Token}
-use Rattle.terminals.proofs.Places.{term-two, width_is}
-use Rattle.rules.proofs.Dots.{Place, pl-end, pl-item, stands-kind, mark-kind, alts-place, alts-inner, alts-last, alts-some, alts-begins, Linked, chain-law}
+use Rattle.rules.specs.Ready.{owner_of, next_kind_of, goes_of, rule_of}
 
 -- a list of a function's values
 abbrev pub tab : {A : Type 0} → (ℕ → A) → ℕ → ℕ → List A

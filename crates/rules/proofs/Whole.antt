@@ -2,32 +2,31 @@
 use mathlib.Core.List.{List, [], ◌∷◌, ◌++◌, Memᴰ as In}
 use mathlib.Core.Logic.{◌⊎◌, inl, inr, ⊎_elim}
 use mathlib.Core.Path.{◌≡◌, refl, sym, ap, ◌∙◌, subst}
-use Prim.Native.Nat.{ℕ, zero, suc, ◌+◌, ◌*◌, ◌-◌, ◌<◌, ◌≤◌}
+use Prim.Native.Nat.{ℕ, suc, ◌+◌, ◌-◌, ◌<◌, ◌≤◌}
 use native.Mathlib.Decide.{dec_lt, ℕ_discrete}
 use native.Mathlib.Omega.{arith}
 use lib.ListN.{length, get_or, take, drop}
 use Rattle.text.specs.Lists.{concat_map}
 use Rattle.text.proofs.Tests.{split}
-use Rattle.tree.specs.Tree.{Mark, unmarked, string, hex, Terminal, literal, inclusion, exclusion, insertion, Symbol, terminal, nonterminal, Grammar, rules}
+use Rattle.tree.specs.Tree.{unmarked, Terminal, Symbol, terminal, nonterminal, Grammar, rules}
 use Rattle.tree.specs.Tokens.{encode, terminal_tokens}
-use Rattle.plain.specs.Plain.{alts, weight, width, fits, rule_mark, over}
+use Rattle.plain.specs.Plain.{alts, weight, rule_mark, over}
 use Rattle.plain.specs.Plain as plain
-use Rattle.plain.specs.Written.{kind, made, atom}
 use Rattle.layout.specs.Layout.{layout, dot_count, starts_from, starts_of, dots_in, dots_of, name_at}
 use Rattle.layout.proofs.Sums.{dots-weigh, layout-size}
 use Rattle.layout.proofs.Spots.{Spot, spot, concat-at, name-ends}
 use Rattle.derive.specs.Derive.{alternative, root}
 use Rattle.derive.specs.Bound.{symbols_of}
 use Rattle.derive.proofs.Symbols.{inside-in, ruled-of}
-use Rattle.items.specs.Items.{kind_at, target_at, token_at, Starts, Among, Stands, st-terminal, st-name, st-made, Reads, mark_kind}
+use Rattle.items.specs.Items.{kind_at, target_at, token_at, Starts, Among, Stands, st-terminal, st-name, st-made, Reads}
 use Rattle.items.specs.Built.{Cover}
-use Rattle.chart.specs.Code.{after_dot, head_of, Chain, Owned, Ruled, owner_at, goes_at, rule_at, fits_at, flag, at-end, at-terminal, at_symbol}
+use Rattle.chart.specs.Code.{after_dot, head_of, Chain, Owned, Ruled, owner_at, goes_at, rule_at, at-end, at-terminal, at_symbol}
 use Rattle.chart.specs.Code as code
 use Rattle.terminals.specs.Sound.{SoundTerminal}
 use Rattle.terminals.specs.Places.{TerminalAt, TerminalHere}
-use Rattle.rules.specs.Ready.{Last, owner_of, Owners, next_kind_of, goes_of, rule_of, Reach, Reaches, Codes, Ready, Token}
+use Rattle.rules.specs.Ready.{Last, owner_of, Owners, Reach, Codes, Ready, Token}
 use Rattle.terminals.proofs.Places.{term-two, width_is}
-use Rattle.rules.proofs.Dots.{dots-in, Place, pl-end, pl-item, stands-kind, mark-kind, alts-place, alts-before, alts-inner, alts-last}
+use Rattle.rules.proofs.Dots.{dots-in, Place, pl-end, pl-item, mark-kind, alts-place, alts-before, alts-inner, alts-last}
 use Rattle.rules.proofs.Dots.{alts-some, alts-begins, Linked, chain-law, starts-at}
 use Rattle.rules.proofs.Numbers.{tab, tab-count, tab-at, Begin, owner-begin, owner-inner, owner-inv, whole, some-tokens, made-not}
 use Rattle.rules.proofs.Numbers.{kind-end, kind-symbol, kind-terminal, goes-terminal, goes-symbol, goes_on, goes-no}

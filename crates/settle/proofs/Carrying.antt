@@ -17,13 +17,13 @@ use Rattle.heights.specs.Part.{by-terminal, by-split}
 use Rattle.heights.proofs.Values.{up-most}
 use Rattle.reach.specs.Flags.{dot_at, Wanted, home_of}
 use Rattle.reach.proofs.Closed.{home-next}
-use Rattle.sparse.specs.Cells.{is_last, empty_in, empty_rest, rule_of, rest_of, Shape}
+use Rattle.sparse.specs.Cells.{empty_in, rule_of, rest_of, Shape}
 use Rattle.sparse.specs.Steps.{toward_of, OffersAt, Fell, On, over_of}
-use Rattle.sparse.proofs.Rows.{Over, by-terminal as over-t, by-symbol as over-s, over-some, over-other, over-away, last-is, last-not, rule-empty}
+use Rattle.sparse.proofs.Rows.{Over, by-terminal as over-t, by-symbol as over-s, over-some, last-is, last-not, rule-empty}
 use Rattle.sparse.proofs.Falls.{fell-refl, fell-join}
 use Rattle.sparse.proofs.Toward.{fell-toward}
 use Rattle.queue.specs.Queue.{Pending, count_of, Queued}
-use Rattle.settle.specs.Settle.{LeftHeld, RightHeld, Pends, Moved, Offered, Put, Carried, AtLeft, LeftCarried}
+use Rattle.settle.specs.Settle.{LeftHeld, RightHeld, Pends, Offered, Put, Carried, AtLeft, LeftCarried}
 use Rattle.settle.proofs.Held.{left-kept, right_kept, pending-kept, rule_end}
 
 pub pick-most : (b : Bool) (x y m : ℕ) → x ≤ m → y ≤ m → pick b x y ≤ m

@@ -3,26 +3,25 @@ use mathlib.Core.Bool.{Bool, true, false}
 use mathlib.Core.List.{List}
 use mathlib.Core.Logic.{◌⊎◌, inl, inr, ⊎_elim}
 use mathlib.Core.Path.{◌≡◌, refl, sym, ap, subst, ◌∙◌}
-use Prim.Native.Nat.{ℕ, ◌+◌, ◌*◌, ◌-◌, ◌<◌, ◌≤◌, max}
-use native.Mathlib.Decide.{ℕ_discrete, dec_lt}
+use Prim.Native.Nat.{ℕ, ◌+◌, ◌-◌, ◌<◌, ◌≤◌, max}
+use native.Mathlib.Decide.{ℕ_discrete}
 use native.Mathlib.Omega.{arith}
-use lib.ListN.{length, get_or, set}
+use lib.ListN.{set}
 use Rattle.text.proofs.Tests.{look, clash}
 use Rattle.chart.specs.Code.{next_kind, goes_at, rule_at, owner_at}
-use Rattle.chart.specs.Heights.{cell_at, none}
+use Rattle.chart.specs.Heights.{cell_at}
 use Rattle.heights.specs.Table.{cell_of, up_of}
-use Rattle.heights.specs.Filling.{total, Only}
+use Rattle.heights.specs.Filling.{Only}
 use Rattle.heights.proofs.Lowering.{sum-set}
 use Rattle.heights.proofs.Part.{toward-rest}
-use Rattle.reach.specs.Flags.{Wanted, home_of}
 use Rattle.sparse.specs.Cells.{is_last, row_of, empty_rest, rule_of, rest_of, Shape}
-use Rattle.sparse.specs.Steps.{toward_of, Lowered, lowered, kept, Fell, On, over_of}
+use Rattle.sparse.specs.Steps.{toward_of, Lowered, lowered, kept, Fell, over_of}
 use Rattle.sparse.proofs.Rows.{last-is, row-inner, row_first, rest-row}
-use Rattle.sparse.proofs.Falls.{rule-same, rest-same, fell-refl, fell-join, Target, own, rules, fell-set, lowered-cell, other_row}
-use Rattle.sparse.proofs.Toward.{target-of, toward-row, fell-toward}
-use Rattle.queue.specs.Queue.{Pending, count_of, Queued}
+use Rattle.sparse.proofs.Falls.{rule-same, rest-same, fell-refl, own, rules, fell-set, lowered-cell, other_row}
+use Rattle.sparse.proofs.Toward.{toward-row, fell-toward}
+use Rattle.queue.specs.Queue.{Pending, Queued}
 use Rattle.queue.specs.Queue.{Put as Enqueued}
-use Rattle.settle.specs.Settle.{LeftHeld, RightHeld, Pends, Moved, Offered, Put}
+use Rattle.settle.specs.Settle.{LeftHeld, RightHeld, Pends, Offered, Put}
 
 module _ (c M F : List ℕ) (size n i j : ℕ) where
   -- a dot keeps what it holds where the dot after it does not change; nothing rises

@@ -1,5 +1,5 @@
 -- What uses of a rule have taken account of, one after the other.
-use mathlib.Core.Bool.{Bool, true, false}
+use mathlib.Core.Bool.{true, false}
 use mathlib.Core.List.{List}
 use mathlib.Core.Logic.{◌⊎◌, inl, inr, ⊎_elim}
 use mathlib.Core.Path.{◌≡◌, refl, sym, ap, subst, ◌∙◌}
@@ -9,7 +9,7 @@ use native.Mathlib.Omega.{arith}
 use lib.Dec.{eqb}
 use lib.ListN.{get_or}
 use Rattle.text.proofs.Tests.{clash}
-use Rattle.chart.specs.Code.{next_kind, goes_at, rule_at, owner_at}
+use Rattle.chart.specs.Code.{next_kind, rule_at}
 use Rattle.chart.specs.Heights.{none}
 use Rattle.chart.specs.Uses.{LastUse, Uses}
 use Rattle.heights.specs.Table.{up_of}
@@ -18,7 +18,7 @@ use Rattle.heights.proofs.Values.{up_none, up-most}
 use Rattle.reach.specs.Flags.{dot_at, Reached, Wanted, home_of}
 use Rattle.reach.proofs.Closed.{home-next}
 use Rattle.sparse.specs.Cells.{is_last, empty_in, empty_rest, rule_of, rest_of, Shape}
-use Rattle.sparse.specs.Steps.{toward_of, On, over_of}
+use Rattle.sparse.specs.Steps.{On}
 use Rattle.sparse.proofs.Rows.{Over, by-terminal as over-t, by-symbol as over-s, over-some, last-is, rest-away, rest-last, rest-empty, empty-end}
 use Rattle.sparse.proofs.Falls.{fell-refl, fell-join}
 use Rattle.sparse.proofs.Toward.{toward-last}

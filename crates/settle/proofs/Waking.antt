@@ -1,5 +1,5 @@
 -- The rows of a stretch, one after the other, are taken account of; then the rules that fell, until none is pending.
-use mathlib.Core.Bool.{Bool, true, false}
+use mathlib.Core.Bool.{true, false}
 use mathlib.Core.List.{List}
 use mathlib.Core.Logic.{◌⊎◌, inl, inr, ⊎_elim}
 use mathlib.Core.Path.{◌≡◌, refl, sym, ap, subst, ◌∙◌}
@@ -10,7 +10,7 @@ use lib.Dec.{eqb, leb}
 use lib.ListN.{get_or}
 use borrow.Author.Tests.{ne_eqb}
 use Rattle.text.proofs.Tests.{look, clash}
-use Rattle.chart.specs.Code.{next_kind, goes_at, rule_at, owner_at}
+use Rattle.chart.specs.Code.{next_kind, goes_at, rule_at}
 use Rattle.chart.specs.Heights.{none}
 use Rattle.heights.specs.Table.{cell_of, up_of}
 use Rattle.heights.specs.Filling.{total, Only}
@@ -19,16 +19,15 @@ use Rattle.heights.specs.Part.{Offers, by_end, by-terminal, by-split}
 use Rattle.reach.specs.Flags.{dot_at, end_at, Reached, Fits, Wanted, home_of}
 use Rattle.reach.proofs.Closed.{home-next}
 use Rattle.sparse.specs.Cells.{is_last, empty_in, empty_rest, rule_of, wide_rest, rest_of, Shape}
-use Rattle.sparse.specs.Steps.{toward_of, Fell, On, over_of, Given, LeastOn}
+use Rattle.sparse.specs.Steps.{toward_of, Fell, On, over_of, Given}
 use Rattle.sparse.specs.Column.{Vanishes, WakesBy, Wakes, Rows}
 use Rattle.sparse.proofs.Rows.{last-is, empty-end, rule-cell, rule-none, rule-empty, rest_end, rest-empty, rest-away, rest-row}
 use Rattle.sparse.proofs.Rows.{Over, by-terminal as over-t, by-symbol as over-s, over-some, over-terminal, over-symbol}
 use Rattle.sparse.proofs.Falls.{fell-refl, fell-join}
 use Rattle.sparse.proofs.Toward.{fell-toward, fell-rule, fell-rest}
-use Rattle.queue.specs.Queue.{Pending, count_of, Waits, Queued, Taken}
+use Rattle.queue.specs.Queue.{Pending, count_of, Queued, Taken}
 use Rattle.queue.specs.Queue.{Put as Enqueued}
-use Rattle.settle.specs.Settle.{LeftHeld, RightHeld, Pends, Moved, AtLeft, LeftCarried, RightDone, LastDone, Falls, Revisited, Woken, AllWoken, Settled}
-use Rattle.settle.proofs.Held.{rule_end}
+use Rattle.settle.specs.Settle.{LeftHeld, RightHeld, Pends, Moved, LeftCarried, RightDone, LastDone, Revisited, Woken, AllWoken, Settled}
 use Rattle.settle.proofs.Carrying.{pick-most, end-left}
 use Rattle.settle.proofs.Using.{left-of-none, last-of-none, right-of-none, moved-refl, moved-join, left-next, right-next, right-stays, left-stays}
 

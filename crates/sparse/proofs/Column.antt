@@ -5,7 +5,7 @@ use mathlib.Core.Path.{◌≡◌, sym, ap, subst, ◌∙◌}
 use Prim.Native.Nat.{ℕ, ◌+◌, ◌<◌, ◌≤◌}
 use native.Mathlib.Omega.{arith}
 use lib.ListN.{length, get_or}
-use Rattle.chart.specs.Code.{next_kind, rule_at, owner_at}
+use Rattle.chart.specs.Code.{rule_at}
 use Rattle.heights.specs.Table.{cell_of, up_of}
 use Rattle.reach.specs.Flags.{Reached, Wanted, home_of}
 use Rattle.sparse.specs.Cells.{is_last, rest_of, Shape}

@@ -3,7 +3,7 @@ use mathlib.Core.Bool.{Bool, true, false}
 use mathlib.Core.List.{List, [], ◌∷◌}
 use mathlib.Core.Logic.{⊎_elim}
 use mathlib.Core.Path.{◌≡◌, refl, sym, ap, subst, ◌∙◌}
-use Prim.Native.Nat.{ℕ, suc, ◌+◌, ◌*◌, ◌-◌, ◌<◌, ◌≤◌, max}
+use Prim.Native.Nat.{ℕ, ◌+◌, ◌-◌, ◌<◌, ◌≤◌}
 use native.Mathlib.Decide.{ℕ_discrete, dec_lt}
 use native.Mathlib.Omega.{arith}
 use lib.Dec.{eqb, leb}
@@ -13,7 +13,7 @@ use Rattle.text.specs.Lists.{Text, pick}
 use Rattle.text.proofs.Tests.{look}
 use Rattle.tree.specs.Tree.{Terminal, Symbol, Grammar}
 use Rattle.plain.specs.Plain.{alts}
-use Rattle.derive.specs.Derive.{Row, end, node, alternative, Derives, d-end, d-node}
+use Rattle.derive.specs.Derive.{end, node, alternative, Derives, d-end, d-node}
 use Rattle.derive.proofs.Levels.{Low}
 use Rattle.chart.specs.Code.{next_kind, goes_at, rule_at, owner_at, after_dot, head_of, On as Stood, at-end, at-terminal, at_symbol, Ruled}
 use Rattle.chart.specs.Heights.{cell_at, none}
@@ -25,7 +25,7 @@ use Rattle.heights.proofs.Values.{up_is, up-low}
 use Rattle.heights.proofs.Part.{Attained, RuleLow, offered, offered-rule}
 use Rattle.reach.specs.Flags.{dot_at, end_at, Reached, Fits, Wanted, home_of}
 use Rattle.sparse.specs.Cells.{is_last, empty_in, empty_rest, rule_of, wide_rest, rest_of, Shape}
-use Rattle.sparse.specs.Steps.{Flagged, Sound, OffersAt, Fell}
+use Rattle.sparse.specs.Steps.{Flagged, OffersAt, Fell}
 use Rattle.sparse.proofs.Rows.{rule-cell, rule-none, last-is, wide-last, rest_end, rest-away, rest-last, rest-row, rest-unwanted}
 
 -- heights go by cells

@@ -1,8 +1,8 @@
 -- What the value of a dot lowers, and how heights follow when cells fall.
 use mathlib.Core.Bool.{Bool, true, false}
 use mathlib.Core.List.{List}
-use mathlib.Core.Path.{◌≡◌, refl, sym, ap, subst, ◌∙◌}
-use Prim.Native.Nat.{ℕ, ◌+◌, ◌-◌, ◌<◌, ◌≤◌, max}
+use mathlib.Core.Path.{◌≡◌, sym, ap, subst, ◌∙◌}
+use Prim.Native.Nat.{ℕ, ◌+◌, ◌-◌, ◌<◌, ◌≤◌}
 use native.Mathlib.Decide.{ℕ_discrete, dec_lt}
 use native.Mathlib.Omega.{arith}
 use lib.Dec.{eqb, leb}
@@ -10,12 +10,11 @@ use Rattle.text.specs.Lists.{pick}
 use Rattle.chart.specs.Code.{next_kind, rule_at, owner_at}
 use Rattle.chart.specs.Heights.{cell_at, none}
 use Rattle.heights.specs.Table.{cell_of, up_of}
-use Rattle.heights.specs.Part.{toward}
 use Rattle.heights.proofs.Part.{toward-rest, toward-rule}
 use Rattle.heights.proofs.Values.{up_is, up_none}
 use Rattle.reach.specs.Flags.{dot_at, end_at, Wanted, home_of}
 use Rattle.reach.proofs.Closed.{home-first}
-use Rattle.sparse.specs.Cells.{is_last, row_of, empty_in, empty_rest, rule_of, wide_rest, rest_of}
+use Rattle.sparse.specs.Cells.{is_last, row_of, rule_of, wide_rest, rest_of}
 use Rattle.sparse.specs.Steps.{toward_of, Fell, On}
 use Rattle.sparse.proofs.Rows.{rule-cell, rest-last, rest-row, last-is, row-inner, row_first}
 use Rattle.sparse.proofs.Falls.{rule-same, rest-same, Target, own, rules}

@@ -13,7 +13,7 @@ use Rattle.heights.specs.Table.{cell_of, up_of}
 use Rattle.heights.specs.Filling.{Only}
 use Rattle.heights.specs.Part.{by-terminal}
 use Rattle.heights.proofs.Values.{up_is, up_none}
-use Rattle.reach.specs.Flags.{Fits, Wanted, home_of}
+use Rattle.reach.specs.Flags.{Fits, Wanted}
 use Rattle.reach.proofs.Closed.{home-next}
 use Rattle.sparse.specs.Cells.{row_of, rule_of, rest_of, Shape, Tables}
 use Rattle.sparse.specs.Steps.{OffersAt, Fell, On, HandedOn, Listed, Lowered, lowered, kept}

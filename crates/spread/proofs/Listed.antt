@@ -1,5 +1,5 @@
 -- What a stretch that is not empty hands on, by the rows that the column lists.
-use mathlib.Core.Bool.{true, false}
+use mathlib.Core.Bool.{true}
 use mathlib.Core.List.{List}
 use mathlib.Core.Logic.{⊎_elim}
 use mathlib.Core.Path.{◌≡◌, sym, ap, subst, ◌∙◌}
@@ -9,7 +9,7 @@ use native.Mathlib.Omega.{arith}
 use lib.ListN.{length, get_or}
 use Rattle.text.specs.Lists.{pick}
 use Rattle.text.proofs.Tests.{look, clash}
-use Rattle.chart.specs.Code.{next_kind, rule_at, owner_at}
+use Rattle.chart.specs.Code.{next_kind, rule_at}
 use Rattle.chart.specs.Heights.{none}
 use Rattle.heights.specs.Table.{cell_of, up_of}
 use Rattle.heights.proofs.Values.{up_none}

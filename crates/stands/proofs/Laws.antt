@@ -3,7 +3,7 @@ use mathlib.Core.Bool.{Bool, true, false}
 use mathlib.Core.List.{List}
 use mathlib.Core.Logic.{◌⊎◌, inl, inr, ⊎_elim}
 use mathlib.Core.Path.{◌≡◌, refl, sym, ap, subst, ◌∙◌}
-use Prim.Native.Nat.{ℕ, suc, ◌+◌, ◌*◌, ◌-◌, ◌<◌, ◌≤◌}
+use Prim.Native.Nat.{ℕ, ◌+◌, ◌*◌, ◌-◌, ◌<◌, ◌≤◌}
 use native.Mathlib.Decide.{ℕ_discrete}
 use native.Mathlib.Omega.{arith}
 use lib.Dec.{leb, leb→le, le→leb}
@@ -16,9 +16,9 @@ use Rattle.heights.specs.Filling.{total}
 use Rattle.heights.proofs.Lowering.{sum-set}
 use Rattle.reach.specs.Flags.{Fits}
 use Rattle.reach.specs.Work.{Listed, l-here, l-next, Linked}
-use Rattle.sparse.specs.Cells.{rule_of, Reads}
+use Rattle.sparse.specs.Cells.{rule_of}
 use Rattle.stands.specs.Viable.{Begins, Next, by-terminal, by-entering, by-passing, Viable, at_first, onward, Ground}
-use Rattle.stands.specs.State.{flag_at, Stood, Bare, Added, Is, Entering, Entered, Passing, PassedAt, Passed, Standing, Following, Followed}
+use Rattle.stands.specs.State.{flag_at, Stood, Bare, Added, Is, Entered, PassedAt, Passed, Standing, Following, Followed}
 use Rattle.stands.specs.State.{Sound, Done, Quiet, Grown, Stepped, Closed, Exact}
 
 -- 1. What is added.

@@ -2,7 +2,7 @@
 use mathlib.Core.Bool.{Bool, true, false}
 use mathlib.Core.List.{List}
 use mathlib.Core.Logic.{◌⊎◌, inl, inr}
-use mathlib.Core.Path.{◌≡◌, refl, sym, ap, subst, ◌∙◌}
+use mathlib.Core.Path.{◌≡◌, refl, sym, ◌∙◌}
 use Prim.Native.Nat.{ℕ, ◌+◌, ◌<◌, ◌≤◌}
 use native.Mathlib.Decide.{dec_lt, ℕ_discrete}
 use native.Mathlib.Omega.{arith}
@@ -11,7 +11,7 @@ use lib.ListN.{length, get_or, set, length-set, get_or-eq_default}
 use lib.Seq.{get_or-set_same, get_or-set_other}
 use borrow.Author.Tests.{eqb-true, eq-eqb}
 use Rattle.tells.specs.Tells.{Tells}
-use Rattle.tells.proofs.Tells.{hit, miss, not_so}
+use Rattle.tells.proofs.Tells.{hit, miss}
 use Rattle.state.specs.State.{state_length, rounds_of, BytesAt, Head, Keeps, Kept, headed, Counted, Blank}
 
 pub equal : (x y z : ℕ) → x ≡ z → Tells (eqb x y) (z ≡ y)

@@ -1,29 +1,20 @@
 -- The rules over the tokens of a tree are the rules over the tree.
 use mathlib.Core.Path.{◌≡◌, refl, sym, ap, ap₂, ◌∙◌}
-use mathlib.Core.Bool.{Bool, true, false, not, ◌&&◌, ◌||◌}
-use mathlib.Core.List.{List, [], ◌∷◌, ◌++◌, append_assoc, append-nil}
-use Prim.Native.Nat.{ℕ, zero, suc, ◌+◌, ◌≤◌, ◌<◌, min}
-use native.Mathlib.Omega.{arith}
-use lib.Dec.{T, ltb, eqb}
-use lib.ListN.{length, get_or, take, drop}
-use borrow.Author.Tests.{ltb-false, ltb-true, lt-ltb, le-ltb}
-use Rattle.text.specs.Lists.{Text, pick, any, all, same, repeats, concat_map}
-use Rattle.text.proofs.Lists.{or-false, any_append, any-concat, any-agree, concat-append, concat-concat}
+use mathlib.Core.Bool.{Bool, true, false, ◌&&◌}
+use mathlib.Core.List.{List, [], ◌∷◌, ◌++◌, append-nil}
+use Prim.Native.Nat.{◌+◌}
+use lib.Dec.{T}
+use Rattle.text.specs.Lists.{Text, all, concat_map}
+use Rattle.text.proofs.Lists.{concat-append, concat-concat}
 use Rattle.text.proofs.Table.{and_left, and_right}
-use Rattle.text.proofs.Tests.{look, split}
-use mathlib.Core.Logic.{⊎_elim}
-use Rattle.category.specs.Category.{is_class}
-use Rattle.tree.specs.Tree.{Mark, Chars, string, hex, Member, Terminal, literal, inclusion, exclusion, insertion, Prolog, no-prolog, version, Rule, Grammar, rules}
+use Rattle.tree.specs.Tree.{Mark, Terminal, Prolog, no-prolog, version, Rule, Grammar, rules}
 use Rattle.tree.specs.Tree.{Symbol, terminal, nonterminal, group, option, repeat0, repeat1, repeat0sep, repeat1sep, rest, Alternative, nil, cons, Body, one, also}
-use Rattle.tree.specs.Tree as tree
-use Rattle.tree.specs.Tokens.{Token, name, quoted, coded, include, exclude, member-quoted, member-coded, member-range, member-class}
-use Rattle.tree.specs.Tokens.{set-end, insert-quoted, insert-coded, open-group, close-group, next-alternative, to-option, to-repeat0}
-use Rattle.tree.specs.Tokens.{to-repeat1, to-repeat0sep, to-repeat1sep, rule-head, rule_end, version-is, capped, encode}
-use Rattle.tree.specs.Tokens.{member_token, member_tokens, terminal_tokens, symbol_tokens, alternative_tokens, body_tokens, rule_tokens, prolog_tokens, grammar_tokens}
-use Rattle.plain.specs.Written.{within, within_alternative, within_body, written, names_in, terminals_in, members_in, chars_in_member, chars_in, hex_in, names, terminals, members, hexes, heads}
-use Rattle.static_errors.specs.Held.{proper_member, proper_symbol}
-use Rattle.static_errors.specs.Parts.{part, used_in, heads_in}
-use Rattle.static_errors.specs.Scan.{heads_of}
+use Rattle.tree.specs.Tokens.{Token, name}
+use Rattle.tree.specs.Tokens.{open-group, close-group, next-alternative, to-option, to-repeat0}
+use Rattle.tree.specs.Tokens.{to-repeat1, to-repeat0sep, to-repeat1sep, rule-head, rule_end, version-is}
+use Rattle.tree.specs.Tokens.{terminal_tokens, symbol_tokens, alternative_tokens, body_tokens, rule_tokens, prolog_tokens, grammar_tokens}
+use Rattle.plain.specs.Written.{within, within_alternative, within_body, written, terminals}
+use Rattle.static_errors.specs.Held.{proper_symbol}
 
 -- What is taken from tokens, and from symbols, agrees symbol by symbol.
 pub record Local {A : Type 0} (p : Token → List A) (q : Symbol → List A) : Type 0 where

@@ -1,14 +1,13 @@
 -- One token at a place of a table, and what its form makes of it.
 use mathlib.Core.Path.{◌≡◌, refl, sym, ap, ◌∙◌}
 use mathlib.Core.Bool.{Bool, true, false, not, ◌||◌}
-use mathlib.Core.List.{List, [], ◌∷◌, ◌++◌}
-use Prim.Native.Nat.{ℕ, zero, suc, ◌+◌, ◌≤◌, ◌<◌}
+use mathlib.Core.List.{List, []}
+use Prim.Native.Nat.{ℕ, ◌+◌, ◌≤◌}
 use native.Mathlib.Omega.{arith}
 use native.Mathlib.Decide.{ℕ_discrete}
-use lib.Dec.{eqb, ltb}
 use lib.ListN.{length, get_or}
-use borrow.Author.Tests.{lt-ltb, le-ltb, eq-eqb, ne_eqb}
-use Rattle.text.specs.Lists.{Text, pick, any, same}
+use borrow.Author.Tests.{eq-eqb, ne_eqb}
+use Rattle.text.specs.Lists.{Text, any, same}
 use Rattle.text.proofs.Lists.{or-false, any_append}
 use Rattle.category.specs.Category.{letters}
 use Rattle.tokens.specs.Lengths.{form_of, length_at}

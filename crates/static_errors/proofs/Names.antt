@@ -1,20 +1,19 @@
 -- Names in a table, looked up.
-use mathlib.Core.Path.{◌≡◌, refl, sym, ap, ◌∙◌, subst}
+use mathlib.Core.Path.{◌≡◌, refl, sym, ap, ◌∙◌}
 use mathlib.Core.Bool.{Bool, true, false, ◌&&◌, ◌||◌}
-use mathlib.Core.List.{List, [], ◌∷◌, ◌++◌}
-use Prim.Native.Nat.{ℕ, zero, suc, ◌+◌, ◌-◌, ◌≤◌, ◌<◌, min}
+use mathlib.Core.List.{List, [], ◌∷◌}
+use Prim.Native.Nat.{ℕ, zero, suc, ◌+◌, ◌-◌, ◌≤◌, ◌<◌}
 use native.Mathlib.Omega.{arith}
 use native.Mathlib.Numerals.{add-one}
-use lib.Dec.{T, eqb}
-use lib.ListN.{length, get_or, take, drop, length-take, length-drop, drop_of_length-le}
-use lib.Seq.{drop-cons, get_or-take, get_or-drop, slice, slice-cons, slice_empty}
+use lib.Dec.{eqb}
+use lib.ListN.{length, get_or, take, drop}
+use lib.Seq.{slice, slice-cons, slice_empty}
 use borrow.Author.Tests.{eq-eqb, ne_eqb}
 use Rattle.text.specs.Lists.{Text, any, same, repeats, chars}
 use Rattle.text.proofs.Lists.{same-lengths}
-use Rattle.text.proofs.Tests.{same-is}
 use Rattle.tokens.specs.Names.{name_at, Named}
 use Rattle.tokens.proofs.Names.{name-length}
-use Rattle.static_errors.specs.Scan.{Listing, names_at}
+use Rattle.static_errors.specs.Scan.{names_at}
 
 -- where the search of a list is
 pub record FoundAt (t : List ℕ) (a : ℕ) (index : List ℕ) (from n i : ℕ) : Type 0 where

@@ -1,28 +1,23 @@
 -- The tokens of a proper tree are sound, and give its heads.
 use mathlib.Core.Path.{◌≡◌, refl, sym, ap, ap₂, ◌∙◌}
-use mathlib.Core.Bool.{Bool, true, false, not, ◌&&◌, ◌||◌}
-use mathlib.Core.Logic.{⊎_elim}
-use mathlib.Core.List.{List, [], ◌∷◌, ◌++◌, append-nil}
-use Prim.Native.Nat.{ℕ, zero, suc, ◌≤◌, ◌<◌, min}
+use mathlib.Core.Bool.{Bool, true, false, ◌&&◌, ◌||◌}
+use mathlib.Core.List.{List, [], ◌∷◌, ◌++◌}
+use Prim.Native.Nat.{ℕ}
 use native.Mathlib.Omega.{arith}
-use lib.Dec.{T, ltb, eqb}
-use lib.ListN.{length, get_or, take, drop}
-use borrow.Author.Tests.{ltb-false, lt-ltb, le-ltb}
-use Rattle.text.specs.Lists.{Text, pick, any, all, same, repeats, concat_map}
-use Rattle.text.proofs.Lists.{or-false, any_append, any-concat, any-agree, any-ext, concat-concat}
+use lib.Dec.{T}
+use Rattle.text.specs.Lists.{Text, pick, any, all, concat_map}
+use Rattle.text.proofs.Lists.{any_append, any-concat}
 use Rattle.text.proofs.Table.{and_left, and_right}
-use Rattle.text.proofs.Tests.{look, split, clash, T_true}
-use Rattle.category.specs.Category.{is_class}
-use Rattle.tree.specs.Tree.{Mark, Chars, string, hex, Member, Terminal, literal, inclusion, exclusion, insertion, Rule, Grammar, rules, codes}
+use Rattle.text.proofs.Tests.{T_true}
+use Rattle.tree.specs.Tree.{string, hex, Member, Terminal, literal, inclusion, exclusion, insertion, Grammar}
 use Rattle.tree.specs.Tree.{Symbol, terminal, nonterminal, group, option, repeat0, repeat1, repeat0sep, repeat1sep, rest}
 use Rattle.tree.specs.Tree as tree
 use Rattle.tree.specs.Tokens.{open-group, close-group, next-alternative, to-option, to-repeat0, to-repeat1, to-repeat0sep, to-repeat1sep, rule_end, version-is}
-use Rattle.tree.specs.Tokens.{Token, name, set-end, rule-head, capped, encode, member_token, member_tokens, terminal_tokens, grammar_tokens}
-use Rattle.plain.specs.Written.{written, names_in, terminals_in, members_in, chars_in_member, chars_in, hex_in, names, terminals, members, hexes, heads}
-use Rattle.plain.specs.Static.{undefined, duplicate, beyond, unassignable, banned, code_of, runs_back, backwards, no_class, unclassed}
-use Rattle.static_errors.specs.Held.{single, lettered, proper_member, proper_symbol, proper, Holds, static_of}
-use Rattle.static_errors.specs.Parts.{Part, used, headed, code, other, end_code, part, used_in, heads_in, codes_in, lacking, bad_code, bad_codes, backward, classless, failing}
-use Rattle.static_errors.specs.Scan.{sound, Tokens, heads_of, fails, name_refusal, code_refusal, refusal_of}
+use Rattle.tree.specs.Tokens.{Token, name, member_token, member_tokens, terminal_tokens, grammar_tokens}
+use Rattle.plain.specs.Written.{written, terminals, heads}
+use Rattle.static_errors.specs.Held.{single, lettered, proper_member, proper_symbol, proper, Holds}
+use Rattle.static_errors.specs.Parts.{Part, headed, other, part, heads_in}
+use Rattle.static_errors.specs.Scan.{sound, Tokens, heads_of}
 use Rattle.static_errors.proofs.Agree.{Local, of-written, of-heads}
 
 -- what tokens give, of a symbol

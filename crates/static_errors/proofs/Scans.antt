@@ -2,22 +2,20 @@
 use mathlib.Core.Path.{◌≡◌, refl, sym, ap, ◌∙◌}
 use mathlib.Core.Bool.{Bool, true, false, ◌||◌}
 use mathlib.Core.List.{List, [], ◌∷◌, ◌++◌, append_assoc, append-nil}
-use Prim.Native.Nat.{ℕ, zero, suc, ◌+◌, ◌-◌, ◌≤◌, ◌<◌}
+use Prim.Native.Nat.{ℕ, ◌+◌, ◌-◌, ◌≤◌, ◌<◌}
 use native.Mathlib.Omega.{arith}
 use native.Mathlib.Decide.{ℕ_discrete}
 use native.Mathlib.Numerals.{add-one}
-use lib.Dec.{eqb}
-use lib.ListN.{length, get_or, take, drop, set, length-set}
+use lib.ListN.{length, get_or, take, set, length-set}
 use lib.Seq.{take-suc-set, get_or-set_same, get_or-set_other}
 use borrow.Author.Tests.{eq-eqb, ne_eqb}
-use Rattle.text.specs.Lists.{Text, pick, any, concat_map}
-use Rattle.text.specs.Limits.{grammar_table}
+use Rattle.text.specs.Lists.{Text, any}
 use Rattle.tree.specs.Tokens.{Token}
-use Rattle.tokens.specs.Lengths.{form_of, length_of, length_at}
+use Rattle.tokens.specs.Lengths.{form_of, length_at}
 use Rattle.tokens.specs.Names.{name_at, Named}
 use Rattle.tokens.proofs.Forms.{sized, length-text}
 use Rattle.static_errors.specs.Parts.{part_at, part, heads_in, failing}
-use Rattle.static_errors.specs.Scan.{Tokens, Some, Listing, names_at, Indexing, Indexed, heads_of, Noting, Noted, fails}
+use Rattle.static_errors.specs.Scan.{Tokens, Some, names_at, Indexing, Indexed, heads_of, Noting, Noted, fails}
 use Rattle.static_errors.proofs.Leaf.{is-headed, not-headed}
 use Rattle.static_errors.proofs.View.{Step, step, none_left, some_left}
 

@@ -1,12 +1,12 @@
 -- The answers for a tree in a table.
 use mathlib.Core.Path.{◌≡◌, refl, sym, ap, ◌∙◌}
-use mathlib.Core.Bool.{Bool, true, false, not}
+use mathlib.Core.Bool.{Bool, false, not}
 use mathlib.Core.List.{List, [], ◌∷◌, ◌++◌}
-use Prim.Native.Nat.{ℕ, zero, suc, ◌+◌, ◌≤◌, ◌<◌}
+use Prim.Native.Nat.{ℕ, ◌+◌, ◌≤◌, ◌<◌}
 use native.Mathlib.Omega.{arith}
 use lib.ListN.{length, get_or, take}
 use Rattle.text.specs.Lists.{Text, same, concat_map, chars}
-use Rattle.tree.specs.Tree.{Mark, Prolog, no-prolog, version, Rule, Grammar, rules}
+use Rattle.tree.specs.Tree.{Mark, Prolog, no-prolog, version, Rule, Grammar}
 use Rattle.tree.specs.Tokens.{Token, rule-head, version-is, mark_number, body_tokens, rule_end, rule_tokens, prolog_tokens, grammar_tokens}
 use Rattle.plain.specs.Static.{mismatched}
 use Rattle.static_errors.specs.Held.{Holds, Held, static_of}
@@ -14,7 +14,7 @@ use Rattle.tokens.specs.Lengths.{form_of, late_form, length_at}
 use Rattle.tokens.specs.Names.{name_at, Named}
 use Rattle.tokens.proofs.Forms.{sized, length-text}
 use Rattle.tokens.proofs.Walk.{by-mark}
-use Rattle.static_errors.specs.Scan.{Tokens, Some, names_at, Indexing, Indexed, Scanning, heads_of, refusal_of}
+use Rattle.static_errors.specs.Scan.{Tokens, Some, names_at, Indexed, refusal_of}
 use Rattle.static_errors.proofs.View.{Step, step, spelt}
 use Rattle.static_errors.proofs.ProperTrees.{tokens-of}
 use Rattle.static_errors.proofs.Trees.{rules-agree}

@@ -1,29 +1,27 @@
 -- The token at a place of a table that holds tokens.
-use mathlib.Core.Path.{◌≡◌, refl, sym, ap, ap₂, ◌∙◌}
-use mathlib.Core.Bool.{Bool, true, false, not, ◌&&◌}
-use mathlib.Core.List.{List, [], ◌∷◌, ◌++◌}
-use Prim.Native.Nat.{ℕ, zero, suc, ◌+◌, ◌-◌, ◌≤◌, ◌<◌, min}
+use mathlib.Core.Path.{◌≡◌, refl, ap, ◌∙◌}
+use mathlib.Core.Bool.{not, ◌&&◌}
+use mathlib.Core.List.{List, [], ◌∷◌}
+use Prim.Native.Nat.{ℕ, ◌+◌, ◌-◌, ◌≤◌, ◌<◌}
 use native.Mathlib.Omega.{arith}
-use native.Mathlib.Nat.{add-zero}
 use native.Mathlib.Decide.{ℕ_discrete}
 use lib.Dec.{T, eqb}
-use lib.ListN.{length, get_or, take, drop, length-append, length-take, length-drop, get_or-append}
-use lib.Seq.{drop-drop, drop-append_seam, take-append_seam, take-take, get_or-take, get_or-drop}
+use lib.ListN.{length, get_or, take, drop, length-take, length-drop}
 use borrow.Author.Tests.{eq-eqb, ne_eqb}
-use Rattle.text.specs.Lists.{Text, pick, all}
+use Rattle.text.specs.Lists.{Text, all}
 use Rattle.text.proofs.Table.{and_left, and_right}
-use Rattle.tree.specs.Tree.{Mark, unmarked, included, attribute, deleted, Chars, string, hex}
+use Rattle.tree.specs.Tree.{Chars, string, hex}
 use Rattle.tree.specs.Tokens.{Token, name, quoted, coded, include, exclude, member-quoted, member-coded, member-range, member-class}
 use Rattle.tree.specs.Tokens.{set-end, insert-quoted, insert-coded, open-group, close-group, next-alternative, to-option, to-repeat0}
-use Rattle.tree.specs.Tokens.{to-repeat1, to-repeat0sep, to-repeat1sep, rule-head, rule_end, version-is, mark_number, capped, counted}
-use Rattle.tree.specs.Tokens.{end_numbers, numbers, encode}
+use Rattle.tree.specs.Tokens.{to-repeat1, to-repeat0sep, to-repeat1sep, rule-head, rule_end, version-is, mark_number}
+use Rattle.tree.specs.Tokens.{numbers}
 use Rattle.category.specs.Category.{letters}
 use Rattle.static_errors.specs.Held.{single, lettered}
 use Rattle.tokens.specs.Proper.{ProperEnd}
 use Rattle.tokens.specs.Lengths.{length_at, Told, AllTold, TokenAt, Left}
 use Rattle.tokens.specs.Names.{name_at}
 use Rattle.tokens.proofs.Walk.{form, some_number, Reads, Spelt, stands-form, stands-reads, stands-spelt, left-token, left-length, left-within, left-next}
-use Rattle.static_errors.specs.Parts.{Part, used, headed, code, between, classed, other, part_of, part_at, part}
+use Rattle.static_errors.specs.Parts.{used, headed, code, between, classed, part_of, part_at, part}
 use Rattle.static_errors.specs.Scan.{sound, Tokens}
 
 range-is : (a b : Chars) → T (single a && single b) → (v : ℕ → ℕ) → Reads (member-range a b) v → between (v 1) (v 2) (v 3) (v 4) ≡ part (member-range a b)

@@ -1,8 +1,8 @@
 -- The start and the rounds of a read, by their stages.
-use mathlib.Core.Bool.{Bool, true, false}
+use mathlib.Core.Bool.{Bool, false}
 use mathlib.Core.List.{List, []}
-use mathlib.Core.Path.{◌≡◌, refl, sym, ap, subst, ◌∙◌}
-use Prim.Native.Nat.{ℕ, ◌+◌, ◌≤◌}
+use mathlib.Core.Path.{◌≡◌, refl, ap, subst, ◌∙◌}
+use Prim.Native.Nat.{ℕ, ◌+◌}
 use native.Mathlib.Omega.{arith}
 use lib.ListN.{length, get_or, take}
 use Rattle.text.specs.Limits.{grammar_table, reading_numbers}
@@ -18,13 +18,13 @@ use Rattle.advance.specs.Round.{Readable, Rounded}
 use Rattle.state.specs.State.{rounds_of, FinishedBy, Keeps, Counted, Blank}
 use Rattle.opening.specs.declared.Start.{Start}
 use Rattle.opening.specs.declared.Begun.{Begun}
-use Rattle.opening.specs.declared.Begun.TheVariants.{At, Refused as Ended}
+use Rattle.opening.specs.declared.Begun.TheVariants.{Refused as Ended}
 use Rattle.opening.specs.Stages.{begun_of, Started, Begins}
 use Rattle.job.proofs.Readings.{choosable}
 use Rattle.exported.specs.declared.Answer.{Answer}
-use Rattle.exported.specs.Exported.{shown, done, refusal_of}
+use Rattle.exported.specs.Exported.{done, refusal_of}
 use Rattle.resume.specs.declared.Progress.{Progress}
-use Rattle.resume.specs.Resume.{Starts, Rounds, StartedAs, Counts, RoundedAs}
+use Rattle.resume.specs.Resume.{StartedAs, RoundedAs}
 use Rattle.resume.specs.Stages.{Resumed, Resumes}
 use Rattle.resume.proofs.Lines.{later-refused, rounds-refused, rounds-done, of-job, opened_of}
 use Rattle.stepping.proofs.Starts.{start-refused, start-done, start-table}

@@ -1,8 +1,8 @@
 -- The start of a read: its answer, the cleared table, and that grammar and record fit the state.
-use mathlib.Core.Bool.{Bool, true, false, ◌||◌, ◌&&◌}
+use mathlib.Core.Bool.{Bool, true, false, ◌||◌}
 use mathlib.Core.Path.{◌≡◌, refl, sym, ap, subst, ◌∙◌}
 use mathlib.Core.Logic.{◌⊎◌, inl, inr, ⊎_elim}
-use mathlib.Core.List.{List, [], ◌∷◌, ◌++◌}
+use mathlib.Core.List.{List, [], ◌∷◌}
 use Prim.Native.Nat.{ℕ, zero, suc, ◌+◌, ◌*◌, ◌<◌, ◌≤◌}
 use native.Mathlib.Decide.{dec_lt}
 use native.Mathlib.Omega.{arith}
@@ -12,31 +12,27 @@ use lib.ListN.{length, get_or, take, length-append}
 use Rattle.text.specs.Limits.{grammar_bytes, grammar_table, record_chars}
 use Rattle.text.specs.Lists.{Text, pick}
 use Rattle.text.specs.Stages.{diagnostic_of}
-use Rattle.text.specs.Utf8.{Utf8, utf8, utf8s}
+use Rattle.text.specs.Utf8.{utf8, utf8s}
 use Rattle.text.specs.declared.Diagnostic.{Diagnostic}
 use Rattle.text.proofs.Decode.{decode-sound}
-use Rattle.tree.specs.Tree.{Symbol, Terminal, terminal, Grammar}
-use Rattle.plain.specs.Plain as plain
+use Rattle.tree.specs.Tree.{Symbol, Grammar}
 use Rattle.plain.specs.Plain.{alts, weight}
 use Rattle.layout.specs.Layout.{layout, dot_count, starts_from, starts_of, dots_of, name_at}
 use Rattle.layout.proofs.Spots.{name-ends}
 use Rattle.derive.specs.Derive.{Row, Derives, d-leaf, d-node, d-end, height, root}
 use Rattle.items.specs.Items.{Starts, Among, Alternatives, al-last, al-more}
 use Rattle.chart.specs.Heights.{stretches, cell_at, none, Clear}
-use Rattle.chart.proofs.Cells.{before-next}
-use Rattle.heights.specs.Table.{cell_of, Place}
+use Rattle.heights.specs.Table.{cell_of}
 use Rattle.heights.proofs.Cells.{in-room}
 use Rattle.rules.specs.Ready.{Ready}
 use Rattle.rounds.specs.After.{rule_symbol, DotAfter, dot-none, RuleAfter, rule-none, After}
-use Rattle.answer.specs.Answer as defined
 use Rattle.answer.specs.Answer.{Topmost, Job, of_job, main_need, table_need, grammar_lines, input_lines, job_notes, Placed}
-use Rattle.answer.specs.Compute.{first_of, grammar_tests, need_tests, places_at, job_values}
+use Rattle.answer.specs.Compute.{first_of, grammar_tests, need_tests, job_values}
 use Rattle.answer.proofs.Stages.{stage-1, stage-lent}
 use Rattle.answer.proofs.Noted.{keeps-job, keeps_placed}
-use Rattle.load.specs.Loaded.{places_of}
 use Rattle.opening.specs.declared.Start.{Start}
 use Rattle.opening.specs.declared.Begun.{Begun}
-use Rattle.opening.specs.declared.Begun.TheVariants.{At, Refused as Ended}
+use Rattle.opening.specs.declared.Begun.TheVariants.{Refused as Ended}
 use Rattle.opening.specs.Stages.{begun_of, Started, Begins, NotBegun}
 use Rattle.exported.specs.Exported.{shown, done, refusal_of}
 use Rattle.resume.specs.Resume as calls

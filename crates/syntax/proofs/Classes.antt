@@ -3,10 +3,10 @@ use native.Mathlib.Omega.{arith}
 use mathlib.Core.Bool.{Bool, true, false, not, ◌&&◌, ◌||◌}
 use mathlib.Core.Path.{◌≡◌, refl, sym, ap, ◌∙◌}
 use mathlib.Core.List.{List, [], ◌∷◌}
-use Prim.Native.Nat.{ℕ, zero, suc, ◌<◌, ◌≤◌}
-use lib.Dec.{leb, eqb}
-use borrow.Author.Tests.{eqb-true, eqb-false, leb-true, leb-false, lt-leb, ne_eqb, not-true}
-use Rattle.text.specs.Lists.{Text, chars, any, all, among}
+use Prim.Native.Nat.{ℕ}
+use lib.Dec.{eqb}
+use borrow.Author.Tests.{eqb-true, ne_eqb, not-true}
+use Rattle.text.specs.Lists.{Text, chars, all, among}
 use Rattle.text.specs.Utf8.{alphabet, known, width}
 use Rattle.text.specs.Ranks.{code_at}
 use Rattle.text.proofs.Spans.{every-known}

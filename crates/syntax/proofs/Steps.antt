@@ -2,12 +2,11 @@
 use native.Mathlib.Omega.{arith}
 use mathlib.Core.Bool.{true, false}
 use mathlib.Core.Path.{◌≡◌}
-use Prim.Native.Nat.{ℕ, zero, suc, ◌<◌}
+use Prim.Native.Nat.{ℕ, zero, suc}
 use Rattle.text.specs.Lists.{Text}
 use Rattle.syntax.specs.Syntax.{ch, bar}
 use Rattle.syntax.specs.Result.{hd, tl, Result, ok, when, then, expect}
 use Rattle.syntax.specs.Spacing.{skip, spaced}
-use lib.ListN.{length}
 use Rattle.tree.specs.Tree.{Symbol, Alternative, Body, group, cons, one, also, nil}
 use Rattle.syntax.specs.Lexical.{separated}
 use Rattle.syntax.specs.Parser.{read_plain, suffix, under, starts, single, alts, terms, factor, Alts=, Alt=, Terms=, Term=, Factor=, Agrees}

@@ -1,13 +1,13 @@
 -- What 18 and 19 leave are characters: their UTF-8 is as defined.
-use mathlib.Core.Path.{◌≡◌, refl, sym, ap, ◌∙◌}
+use mathlib.Core.Path.{◌≡◌, refl, ◌∙◌}
 use mathlib.Core.Bool.{Bool, true, false, not, ◌&&◌, ◌||◌}
 use mathlib.Core.List.{List, [], ◌∷◌, ◌++◌}
-use Prim.Native.Nat.{ℕ, ◌≤◌, ◌<◌}
+use Prim.Native.Nat.{ℕ, ◌<◌}
 use native.Mathlib.Omega.{arith}
 use lib.Dec.{leb}
 use borrow.Author.Tests.{leb-true, le-leb}
 use Rattle.text.specs.Lists.{Text, chars, any, all, concat_map, Span, span, inside}
-use Rattle.text.specs.Utf8.{utf8, utf8s}
+use Rattle.text.specs.Utf8.{utf8s}
 use Rattle.tree.specs.Tokens.{capped}
 use Rattle.xml.specs.Names.{xml_char, name_start, name_char, xml_name}
 use Rattle.xml.specs.Document.{Xml, none, char, attr, elem, misnamed, unwritable}

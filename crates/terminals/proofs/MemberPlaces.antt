@@ -1,28 +1,26 @@
 -- Laws of members at places of the table.
-use mathlib.Core.Bool.{Bool, true, false, not, ◌&&◌, ◌||◌}
-use mathlib.Core.List.{List, [], ◌∷◌, ◌++◌, append_assoc, append-nil}
+use mathlib.Core.Bool.{Bool, true, false, ◌&&◌, ◌||◌}
+use mathlib.Core.List.{List, [], ◌∷◌, ◌++◌, append_assoc}
 use mathlib.Core.Path.{◌≡◌, refl, sym, ap, ◌∙◌, subst}
-use Prim.Native.Nat.{ℕ, zero, suc, ◌+◌, ◌-◌, ◌<◌, ◌≤◌, min}
+use Prim.Native.Nat.{ℕ, ◌+◌, ◌-◌, ◌<◌, ◌≤◌}
 use native.Mathlib.Decide.{ℕ_discrete}
 use native.Mathlib.Omega.{arith}
-use lib.Dec.{eqb, leb, ltb}
-use lib.ListN.{length, get_or, take, drop, length-append, length-drop}
+use lib.Dec.{eqb}
+use lib.ListN.{length, get_or, drop, length-append, length-drop}
 use lib.Seq.{get_or-drop, take-append_seam, drop-append_seam, drop-drop}
-use borrow.Author.Tests.{eq-eqb, ne_eqb, lt-ltb, le-ltb, le-leb, lt-leb}
-use Rattle.text.specs.Lists.{Text, pick, any, among, begins}
-use Rattle.text.proofs.Tests.{clash}
-use Rattle.category.specs.Category.{classes, in_class, is_class, letters, place}
-use Rattle.category.proofs.Classes.{first_letters, second_letters, class-letters, class-found, place-below, listed}
-use Rattle.tree.specs.Tree.{Mark, Chars, string, hex, Member, chars, range, class, Terminal, literal, inclusion, exclusion, insertion}
-use Rattle.tree.specs.Tokens.{numbers, encode, member_token, member_tokens, terminal_tokens, class_numbers, end_numbers, capped, mark_number}
+use borrow.Author.Tests.{eq-eqb, ne_eqb}
+use Rattle.text.specs.Lists.{Text, any, among}
+use Rattle.category.specs.Category.{classes, is_class, letters, place}
+use Rattle.category.proofs.Classes.{first_letters, second_letters, class-letters, class-found, listed}
+use Rattle.tree.specs.Tree.{Chars, string, hex, Member, chars, range, class}
+use Rattle.tree.specs.Tokens.{numbers, encode, member_token, member_tokens, class_numbers, end_numbers, capped}
 use Rattle.plain.specs.Static.{code_of}
-use Rattle.plain.specs.Plain.{is_member, fits, width}
-use Rattle.plain.specs.Written.{members_in}
+use Rattle.plain.specs.Plain.{is_member}
 use Rattle.tokens.specs.Proper.{ProperEnd}
-use Rattle.tokens.specs.Lengths.{length_at, width_at, Told, TokenAt}
-use Rattle.tokens.proofs.Walk.{by-mark, some_number, stands-length, stands-within}
-use Rattle.terminals.specs.Sound.{SoundChars, SoundMember, SoundMembers, SoundTerminal}
-use Rattle.terminals.specs.Places.{match_of, MemberShape, MemberHere, MembersAt, MembersHere, TerminalAt, TerminalHere, fits_of}
+use Rattle.tokens.specs.Lengths.{length_at, Told, TokenAt}
+use Rattle.tokens.proofs.Walk.{some_number, stands-length, stands-within}
+use Rattle.terminals.specs.Sound.{SoundChars, SoundMember}
+use Rattle.terminals.specs.Places.{match_of, MemberShape, MemberHere, MembersAt, MembersHere}
 
 pub first-at : (T : List ℕ) (at : ℕ) → get_or (drop at T) 0 0 ≡ get_or T at 0
 first-at T at = get_or-drop at T 0 0 ∙ ap (λ (i : ℕ). get_or T i 0) (let e : at + 0 ≡ at = omega arith in e)

@@ -1,29 +1,25 @@
 -- Laws of tokens at places of the table: what a member's and a terminal's numbers say.
-use mathlib.Core.Bool.{Bool, true, false, not, ◌&&◌, ◌||◌}
-use mathlib.Core.List.{List, [], ◌∷◌, ◌++◌, append_assoc, append-nil}
-use mathlib.Core.Path.{◌≡◌, refl, sym, ap, ◌∙◌, subst}
-use Prim.Native.Nat.{ℕ, zero, suc, ◌+◌, ◌-◌, ◌<◌, ◌≤◌, min}
-use native.Mathlib.Decide.{ℕ_discrete}
+use mathlib.Core.Bool.{Bool, true, false, not, ◌&&◌}
+use mathlib.Core.List.{List, [], ◌∷◌, ◌++◌, append-nil}
+use mathlib.Core.Path.{◌≡◌, refl, sym, ap, ◌∙◌}
+use Prim.Native.Nat.{ℕ, ◌+◌, ◌-◌, ◌<◌, ◌≤◌}
 use native.Mathlib.Omega.{arith}
 use lib.Dec.{eqb, leb, ltb}
 use lib.ListN.{length, get_or, take, drop, length-append, length-drop}
-use lib.Seq.{get_or-drop, take-append_seam, drop-append_seam, drop-drop}
+use lib.Seq.{get_or-drop, take-append_seam, drop-drop}
 use borrow.Author.Tests.{eq-eqb, ne_eqb, lt-ltb, le-ltb, le-leb, lt-leb}
 use Rattle.text.specs.Lists.{Text, pick, any, among, begins}
-use Rattle.text.proofs.Tests.{clash}
-use Rattle.category.specs.Category.{classes, in_class, is_class, letters, place}
-use Rattle.category.proofs.Classes.{first_letters, second_letters, class-letters, class-found, place-below, listed}
-use Rattle.tree.specs.Tree.{Mark, Chars, string, hex, Member, chars, range, class, Terminal, literal, inclusion, exclusion, insertion}
-use Rattle.tree.specs.Tokens.{numbers, encode, member_token, member_tokens, terminal_tokens, class_numbers, end_numbers, capped, mark_number}
-use Rattle.plain.specs.Static.{code_of}
+use Rattle.category.specs.Category.{classes, in_class, letters, place}
+use Rattle.category.proofs.Classes.{place-below, listed}
+use Rattle.tree.specs.Tree.{Mark, string, hex, Member, class, Terminal, literal, inclusion, exclusion, insertion}
+use Rattle.tree.specs.Tokens.{numbers, encode, member_token, member_tokens, terminal_tokens, capped, mark_number}
 use Rattle.plain.specs.Plain.{is_member, fits, width}
 use Rattle.plain.specs.Written.{members_in}
-use Rattle.tokens.specs.Proper.{ProperEnd}
-use Rattle.tokens.specs.Lengths.{length_at, width_at, Told, TokenAt}
+use Rattle.tokens.specs.Lengths.{width_at}
 use Rattle.tokens.proofs.Walk.{by-mark}
 use Rattle.terminals.proofs.Widths.{width-at}
-use Rattle.terminals.specs.Sound.{SoundChars, SoundMember, SoundMembers, SoundTerminal}
-use Rattle.terminals.specs.Places.{match_of, MemberShape, MemberHere, MembersAt, MembersHere, TerminalAt, TerminalHere, fits_of}
+use Rattle.terminals.specs.Sound.{SoundMembers, SoundTerminal}
+use Rattle.terminals.specs.Places.{match_of, MemberHere, MembersAt, TerminalAt, fits_of}
 use Rattle.terminals.proofs.MemberPlaces.{first-at, cap, and-true, member-shape}
 
 -- terminals

@@ -2,14 +2,14 @@
 use mathlib.Core.Path.{◌≡◌, refl, sym, ap, ◌∙◌}
 use mathlib.Core.Logic.{⊎_elim}
 use mathlib.Core.List.{List, [], ◌∷◌, ◌++◌}
-use Prim.Native.Nat.{ℕ, zero, suc, ◌+◌, ◌<◌, ◌≤◌}
+use Prim.Native.Nat.{ℕ, zero, suc, ◌+◌, ◌<◌}
 use native.Mathlib.Omega.{arith}
 use lib.ListN.{length, length-append}
 use Rattle.text.specs.Lists.{Text}
 use Rattle.text.specs.Utf8.{Scalar, utf8, utf8s, All, none, more, Utf8}
 use Rattle.text.specs.Decode.{Taken, got, cut, bad, second_low, second_high, rest_of, char_of, Decoded, text, not-utf8, push, after, decode_in, decode}
 use Rattle.text.proofs.Tests.{split}
-use Rattle.text.proofs.Step.{utf8-1, utf8-2, utf8-3, utf8-4, step-complete, step-sound, nothing-cut, Spells}
+use Rattle.text.proofs.Step.{utf8-1, utf8-2, utf8-3, utf8-4, step-complete, step-sound}
 
 pub some_bytes : (c : ℕ) → 0 < length (utf8 c)
 some_bytes c =

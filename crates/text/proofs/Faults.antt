@@ -7,7 +7,7 @@ use Prim.Native.Nat.{ℕ, zero, suc, ◌+◌, ◌<◌, ◌≤◌}
 use native.Mathlib.Omega.{arith}
 use lib.ListN.{length, drop, length-append}
 use Rattle.text.specs.Lists.{Text, pick, all}
-use Rattle.text.specs.Utf8.{Scalar, utf8, utf8s, All, none, more, Utf8}
+use Rattle.text.specs.Utf8.{Scalar, utf8, utf8s, All, none, more}
 use Rattle.text.specs.Decode.{Taken, got, cut, bad, char_of, onward, break_in, break_of}
 use Rattle.text.specs.Faults.{Fits, Breaks}
 use Rattle.text.proofs.Tests.{clash}

@@ -4,9 +4,9 @@ use mathlib.Core.Bool.{Bool, true, false, and-false}
 use mathlib.Core.List.{List, [], ◌∷◌}
 use Prim.Native.Nat.{ℕ, ◌+◌, ◌-◌, ◌<◌, ◌≤◌}
 use native.Mathlib.Omega.{arith}
-use lib.Dec.{T, leb, ltb, ltb→lt}
+use lib.Dec.{T, leb, ltb}
 use borrow.Author.Tests.{lt-ltb, le-ltb, leb-true, lt-leb, le-leb}
-use Rattle.text.specs.Lists.{pick, any, Span, span, inside}
+use Rattle.text.specs.Lists.{any, Span, span, inside}
 use Rattle.text.specs.Utf8.{alphabet, known, width, place_in}
 use Rattle.text.specs.Ranks.{total, code_at}
 use Rattle.text.proofs.Tests.{clash, and_left, and_right, is_t, T_true}

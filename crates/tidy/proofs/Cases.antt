@@ -1,14 +1,12 @@
 -- The worked cases hold: one test, computed over the whole table.
-use mathlib.Core.Bool.{Bool, false, ◌&&◌}
+use mathlib.Core.Bool.{Bool, false}
 use mathlib.Core.Path.{◌≡◌, refl}
 use mathlib.Core.List.{List, [], ◌∷◌}
 use lib.Dec.{T}
 use Rattle.text.specs.Lists.{Text, chars, all, same}
 use Rattle.text.specs.Utf8 as utf8
-use Rattle.text.specs.Ranks as ranks
 use Rattle.text.proofs.Tests.{and_left, and_right, same-is}
 use Rattle.category.specs.Category as category
-use Rattle.tree.specs.Tree.{Grammar}
 use Rattle.syntax.specs.Parser.{Parsed, parsed, no-parse, parse}
 use Rattle.syntax.proofs.Sound.{sound}
 use Rattle.syntax.proofs.Samples.{computing}

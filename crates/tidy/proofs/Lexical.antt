@@ -1,7 +1,7 @@
 -- Strings, hex numbers, marks, names and sets in the tidy layout read back as what they are, whatever text w follows.
 use mathlib.Core.Path.{◌≡◌, refl, subst, ◌∙◌}
 use mathlib.Core.Bool.{Bool, true, false, not, ◌||◌}
-use mathlib.Core.Logic.{◌⊎◌, inl, inr, ⊎_elim}
+use mathlib.Core.Logic.{◌⊎◌, ⊎_elim}
 use mathlib.Core.List.{List, [], ◌∷◌, ◌++◌, append_assoc, append-nil}
 use Prim.Native.Nat.{ℕ, zero, suc, ◌+◌, ◌*◌, ◌/◌, ◌%◌, ◌<◌, ◌≤◌}
 use native.Mathlib.Omega.{arith}
@@ -11,10 +11,10 @@ use Rattle.text.specs.Lists.{Text, chars, pick, concat_map, among}
 use Rattle.text.proofs.Tests.{T_true, look}
 use Rattle.text.proofs.Table.{below_at}
 use Rattle.category.specs.Category.{in_class}
-use Rattle.tree.specs.Tree.{Mark, Chars, Member, range, class}
+use Rattle.tree.specs.Tree.{Mark, Chars, Member}
 use Rattle.syntax.proofs.Classes.{by-category, among-not, clash}
 use Rattle.syntax.specs.Syntax.{Chr, chr, Is, is, ch, whitespace, S, s-none, s-white, RS, rs-white, plain, Qchar, q-plain, q-doubled, Qchars, q-last, q-next, quote}
-use Rattle.syntax.specs.Syntax.{String, a-string, digit, digit_value, Digits, d-last, d-next, Hex, a-hex, CharsOf, c-string, c-hex, Character, one_char, one-hex}
+use Rattle.syntax.specs.Syntax.{String, a-string, digit, digit_value, Digits, d-last, d-next, a-hex, CharsOf, c-string, c-hex, Character, one_char, one-hex}
 use Rattle.syntax.specs.Syntax.{Class, c-one, c-two, MemberOf, m-chars, m-range, m-class, bar, Members, m-last, m-next, SetOf, set-none, set-some}
 use Rattle.syntax.specs.Syntax.{is_mark, is_tmark, mark_of, Marked, mark-none, mark-some, Followers, f-none, f-next, Name, a-name}
 use Rattle.tidy.specs.Tidy.{quoted_char, quoted_text, lower_digit, hex_digits, chars_text, mark_text, member_text, members_text, set_text}

@@ -1,7 +1,7 @@
 -- The scan's questions are answered by a token's first number.
 use mathlib.Core.Bool.{Bool, true, false}
 use mathlib.Core.Path.{◌≡◌, refl, ap, ◌∙◌}
-use mathlib.Core.List.{List, [], ◌∷◌, ◌++◌}
+use mathlib.Core.List.{[], ◌∷◌, ◌++◌}
 use Prim.Native.Nat.{ℕ, zero, suc, ◌+◌, ◌/◌, ◌%◌, ◌<◌, ◌≤◌}
 use native.Mathlib.Omega.{arith}
 use lib.Dec.{ltb}
@@ -11,7 +11,7 @@ use Rattle.tree.specs.Tree.{Mark, unmarked, included, attribute, deleted}
 use Rattle.tree.specs.Tokens.{Token, name, quoted, coded, include, exclude, member-quoted, member-coded, member-range, member-class, set-end, insert-quoted, insert-coded}
 use Rattle.tree.specs.Tokens.{open-group, close-group, next-alternative, to-option, to-repeat0, to-repeat1, to-repeat0sep, to-repeat1sep, rule-head, rule_end, version-is, mark_number}
 use Rattle.tidy.specs.Tidy.{lower_digit, hex_digits, hex_text, mark_text}
-use Rattle.tidy.specs.Scan.{Kind, single, opening, heading, kind_of, joint}
+use Rattle.tidy.specs.Scan.{single, opening, heading, kind_of, joint}
 use Rattle.tidy.specs.Numbers.{kind_by, joint_by, sign_by, first_number, Numbered}
 
 -- what holds of the four marks' numbers

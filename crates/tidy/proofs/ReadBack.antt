@@ -1,7 +1,6 @@
 -- The tidy text reads back as the same grammar.
 use mathlib.Core.Path.{◌≡◌, refl, ◌∙◌}
-use mathlib.Core.List.{List, [], ◌∷◌, ◌++◌, append_assoc}
-use Prim.Native.Nat.{ℕ}
+use mathlib.Core.List.{List, [], ◌∷◌, ◌++◌}
 use Rattle.text.specs.Lists.{Text, chars, concat_map}
 use Rattle.tree.specs.Tree.{Rule, Prolog, version, Grammar}
 use Rattle.syntax.specs.Syntax.{is, Word, word_end, word-char, s-none, String, defines, RuleOf, a-rule, Rules, rules-none, rules-next}

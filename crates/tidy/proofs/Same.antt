@@ -8,9 +8,9 @@ use native.Mathlib.Omega.{arith}
 use lib.Dec.{T, leb, ltb, eqb, leb→le, ltb→lt}
 use lib.ListN.{length, drop}
 use borrow.Author.Tests.{eqb-true}
-use Rattle.text.specs.Limits.{grammar_bytes, most_size}
+use Rattle.text.specs.Limits.{most_size}
 use Rattle.text.specs.Lists.{Text, pick, any, all, inside, span}
-use Rattle.text.specs.Utf8.{Scalar, utf8s, All, none, more, Utf8, unmarked, alphabet, known}
+use Rattle.text.specs.Utf8.{Scalar, All, none, more, unmarked, alphabet, known}
 use Rattle.text.specs.Decode.{break_of, decode}
 use Rattle.text.specs.Faults.{every, after_mark}
 use Rattle.text.proofs.Decode.{utf8-unique}

@@ -2,16 +2,15 @@
 use mathlib.Core.Bool.{Bool, true, false}
 use mathlib.Core.Path.{◌≡◌, refl, sym, ap, ◌∙◌}
 use mathlib.Core.List.{List, [], ◌∷◌, ◌++◌, append_assoc, append-nil}
-use Prim.Native.Nat.{ℕ, zero, suc}
-use native.Mathlib.Omega.{arith}
+use Prim.Native.Nat.{ℕ, suc}
 use Rattle.text.specs.Lists.{Text, chars, pick, concat_map}
-use Rattle.tree.specs.Tree.{Mark, Chars, string, hex, Member, range, class, Terminal, literal, inclusion, exclusion, insertion}
+use Rattle.tree.specs.Tree.{Mark, string, hex, Member, range, class, Terminal, literal, inclusion, exclusion, insertion}
 use Rattle.tree.specs.Tree.{Symbol, terminal, nonterminal, group, option, repeat0, repeat1, repeat0sep, repeat1sep, rest}
 use Rattle.tree.specs.Tree.{Alternative, nil, cons, Body, one, also, Rule, Prolog, no-prolog, version, Grammar, rules}
 use Rattle.tree.specs.Tree as tree
 use Rattle.tree.specs.Tokens.{Token, close-group, next-alternative, to-option, to-repeat0, to-repeat1, to-repeat0sep, to-repeat1sep, rule_end, set-end}
 use Rattle.tree.specs.Tokens.{member_token, member_tokens, terminal_tokens, symbol_tokens, alternative_tokens, body_tokens, rule_tokens, prolog_tokens, grammar_tokens}
-use Rattle.tidy.specs.Tidy.{chars_text, mark_text, member_text, members_text, set_text, terminal_text, symbol_text, alternative_text, body_text, rule_text, prolog_text, tidy_text}
+use Rattle.tidy.specs.Tidy.{mark_text, member_text, members_text, set_text, terminal_text, symbol_text, alternative_text, body_text, rule_text, prolog_text, tidy_text}
 use Rattle.tidy.specs.Scan.{past, joint, scan}
 use Rattle.tidy.proofs.Lexical.{three}
 

@@ -1,10 +1,10 @@
 -- A tree that was read is one that is written: operators stand behind factors.
 use mathlib.Core.Path.{◌≡◌}
 use mathlib.Core.Bool.{true}
-use mathlib.Core.List.{List, [], ◌∷◌}
+use mathlib.Core.List.{List}
 use Prim.Native.Nat.{ℕ}
 use Rattle.text.specs.Lists.{Text}
-use Rattle.tree.specs.Tree.{Symbol, Alternative, Body, Rule, Grammar, rules}
+use Rattle.tree.specs.Tree.{Symbol, Alternative, Body, Rule, Grammar}
 use Rattle.tree.specs.Tokens.{grammar_tokens}
 use Rattle.syntax.specs.Syntax.{Alts, alts-one, alts-also, Alt, alt-none, alt-some, Terms, terms-one, terms-more, Term, t-factor, t-option, t-repeat0, t-repeat0sep, t-repeat1}
 use Rattle.syntax.specs.Syntax.{t-repeat1sep, Factor, f-terminal, f-nonterminal, f-group, RuleOf, a-rule, Rules, rules-none, rules-next, Ixml, ixml}

@@ -13,7 +13,6 @@ use borrow.Author.Tests.{ltb-false}
 use Rattle.text.specs.Lists.{Text, concat_map}
 use Rattle.text.proofs.Tests.{T_false, not_t, clash}
 use Rattle.tree.specs.Tree.{Chars, hex, Member, Terminal, Symbol, terminal, Alternative, Body, Rule, Prolog, Grammar}
-use Rattle.tree.specs.Tree as tree
 use Rattle.tree.specs.Tokens.{Token, close-group, next-alternative, to-option, to-repeat0, to-repeat1, to-repeat0sep, to-repeat1sep, rule_end}
 use Rattle.tree.specs.Tokens.{member_token, member_tokens, terminal_tokens, symbol_tokens, alternative_tokens, body_tokens, rule_tokens, prolog_tokens, grammar_tokens}
 use Rattle.syntax.specs.Syntax.{chr, letter, capital, c-string, c-hex, Character, one_char, one-hex, Class, c-one, c-two, MemberOf, m-chars, m-range, m-class}

@@ -9,11 +9,10 @@ use borrow.Author.Tests.{lt-ltb, le-ltb}
 use Rattle.text.proofs.Tests.{split}
 use Rattle.tree.specs.Tokens.{Token, numbers}
 use Rattle.tokens.specs.Lengths.{length_at, Left}
-use Rattle.tokens.proofs.Walk.{some_number, left-empty, left-within, left-first, left-length, left-inside, left-next}
+use Rattle.tokens.proofs.Walk.{some_number, left-empty, left-within, left-first, left-length, left-next}
 use Rattle.tidy.specs.Scan.{Kind, opening, single, member, closing, heading, other, kind_of, depth, past}
 use Rattle.tidy.specs.Numbers.{kind_by}
 use Rattle.tidy.proofs.Numbers.{numbered}
-use Rattle.tidy_writer.specs.Walk.{SomeLeft}
 
 above : (k n : ℕ) → n ≤ k → (k ≡ n → ⊥) → n + 1 ≤ k
 above k n h f = ⊎_elim (λ (l : k < n + 1). absurd (f (omega arith))) (λ (l : n + 1 ≤ k). l) (split k (n + 1))

@@ -1,19 +1,17 @@
 -- Laws of a walk over tokens: a token's numbers say how many they are, and what follows are the numbers of the other tokens.
-use mathlib.Core.Bool.{Bool, true, false}
 use mathlib.Core.List.{List, [], ◌∷◌, ◌++◌, append_assoc}
 use mathlib.Core.Path.{◌≡◌, refl, sym, ap, ◌∙◌}
-use Prim.Native.Nat.{ℕ, zero, suc, ◌+◌, ◌-◌, ◌<◌, ◌≤◌, min}
+use Prim.Native.Nat.{ℕ, ◌+◌, ◌-◌, ◌<◌, ◌≤◌}
 use native.Mathlib.Omega.{arith}
-use lib.Dec.{ltb, eqb}
-use lib.ListN.{length, get_or, take, drop, length-append, length-drop, length-take, take-append-drop, get_or-append}
+use lib.ListN.{length, get_or, take, drop, length-append, length-drop, take-append-drop, get_or-append}
 use lib.Seq.{get_or-drop, drop-append_seam, take-append_seam, drop-append-le, drop-drop, length-take-le}
-use Rattle.text.specs.Lists.{Text, pick}
+use Rattle.text.specs.Lists.{Text}
 use Rattle.tree.specs.Tree.{Mark, unmarked, included, attribute, deleted, Chars, string, hex, Grammar}
 use Rattle.tree.specs.Tokens.{Token, name, quoted, coded, include, exclude, member-quoted, member-coded, member-range, member-class, set-end, insert-quoted, insert-coded}
 use Rattle.tree.specs.Tokens.{open-group, close-group, next-alternative, to-option, to-repeat0, to-repeat1, to-repeat0sep, to-repeat1sep, rule-head, rule_end, version-is}
-use Rattle.tree.specs.Tokens.{numbers, encode, mark_number, counted, capped, class_numbers, end_numbers, grammar_tokens}
+use Rattle.tree.specs.Tokens.{numbers, encode, mark_number, counted, class_numbers, end_numbers, grammar_tokens}
 use Rattle.tokens.specs.Proper.{ProperEnd}
-use Rattle.tokens.specs.Lengths.{late_form, form_of, length_of, length_at, first_number, Told, AllTold, TokenAt, Holds, Left}
+use Rattle.tokens.specs.Lengths.{late_form, form_of, length_of, length_at, first_number, Told, TokenAt, Holds, Left}
 use Rattle.tokens.specs.Names.{name_at}
 use Rattle.tokens.proofs.Told.{told-grammar}
 

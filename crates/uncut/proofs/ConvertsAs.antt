@@ -1,14 +1,11 @@
 -- From the stages of a job to the answer of converting.
-use mathlib.Core.Bool.{Bool}
-use mathlib.Core.Path.{◌≡◌, refl, sym, ap, ◌∙◌, subst}
+use mathlib.Core.Path.{◌≡◌, sym, ap, ◌∙◌, subst}
 use mathlib.Core.List.{List, [], ◌∷◌}
-use Prim.Native.Nat.{ℕ, ◌≤◌}
+use Prim.Native.Nat.{ℕ}
 use native.Mathlib.Omega.{arith}
 use lib.ListN.{length, take, length-take}
 use Rattle.text.specs.Limits.{grammar_table}
 use Rattle.text.specs.Lists.{Text}
-use Rattle.tree.specs.Tree.{Grammar}
-use Rattle.derive.specs.Derive.{Row}
 use Rattle.derive.specs.Another.{ambiguous_of}
 use Rattle.derive.specs.Pick.{chosen_of}
 use Rattle.derive.proofs.Chosen.{chosen-derives}
@@ -21,7 +18,6 @@ use Rattle.job.specs.declared.Parse.{Parse}
 use Rattle.job.specs.declared.Parse.TheVariants.{Chosen, Refused}
 use Rattle.job.specs.Parses.{IsChosen, Parses}
 use Rattle.opening.proofs.Texts.{got-part}
-use Rattle.convert.specs.declared.Converted.{Converted}
 use Rattle.convert.specs.Concluded.{Parsing, Ready, Concludes}
 use Rattle.exported.specs.declared.Answer.{Answer}
 use Rattle.exported.specs.Exported.{shown, refusal_of}

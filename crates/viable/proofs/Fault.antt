@@ -1,19 +1,19 @@
 -- The place of the fault: there is one, and only one; `faultOf` computes it; it is the farthest place that what stands on the record reaches.
-use mathlib.Core.Path.{◌≡◌, refl, sym, ap, ◌∙◌, subst}
-use mathlib.Core.Bool.{Bool, true, false, not}
+use mathlib.Core.Path.{◌≡◌, refl, sym, subst}
+use mathlib.Core.Bool.{Bool, false, not}
 use mathlib.Core.Logic.{◌⊎◌, inl, inr}
 use mathlib.Core.List.Memᴰ.{head as in_head}
-use mathlib.Core.List.{List, [], ◌∷◌, ◌++◌, Memᴰ as In}
+use mathlib.Core.List.{[], ◌∷◌, Memᴰ as In}
 use mathlib.Core.List.Memᴰ.{append_left as in_left}
-use Prim.Native.Nat.{ℕ, zero, suc, ◌+◌, ◌≤◌}
+use Prim.Native.Nat.{ℕ, zero, suc, ◌≤◌}
 use native.Mathlib.Decide.{ℕ_discrete}
 use native.Mathlib.Omega.{arith}
 use lib.Dec.{T}
-use lib.ListN.{length, take, drop}
+use lib.ListN.{length, take}
 use Rattle.text.specs.Lists.{Text, all, concat_map}
 use Rattle.text.specs.Utf8.{known}
 use Rattle.text.proofs.Tests.{look, is_t, not_t}
-use Rattle.tree.specs.Tree.{Rule, nonterminal, unmarked, Grammar, rules}
+use Rattle.tree.specs.Tree.{nonterminal, unmarked, Grammar}
 use Rattle.plain.specs.Plain.{makes, ruled}
 use Rattle.plain.specs.Written.{written}
 use Rattle.derive.specs.Derive.{root}
@@ -21,7 +21,7 @@ use Rattle.derive.specs.Productive.{Produces}
 use Rattle.derive.specs.Yield.{productive, unproductive}
 use Rattle.derive.proofs.Productive.{any-in, productive-is}
 use Rattle.viable.specs.Fault.{Begins, FaultAt}
-use Rattle.viable.specs.Stands.{begun, Farthest}
+use Rattle.viable.specs.Stands.{Farthest}
 use Rattle.viable.specs.Compute.{begins_at, last_of, fault_of}
 use Rattle.viable.proofs.Sound.{reached-begins, reach-inside}
 use Rattle.viable.proofs.Reaching.{near, begins-is}

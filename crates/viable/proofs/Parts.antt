@@ -1,16 +1,15 @@
 -- Beginnings and parts of texts: what derives a part of a text looks at no other.
 use mathlib.Core.Path.{◌≡◌, refl, sym, ap, ◌∙◌, subst}
-use mathlib.Core.Bool.{Bool, true, false, not, ◌&&◌}
-use mathlib.Core.Logic.{inl, inr}
+use mathlib.Core.Bool.{Bool, true, false, not}
 use mathlib.Core.List.{List, [], ◌∷◌, ◌++◌}
 use Prim.Native.Nat.{ℕ, zero, suc, ◌+◌, ◌-◌, ◌<◌, ◌≤◌}
 use native.Mathlib.Nat.{suc-add, zero-add}
 use native.Mathlib.Omega.{arith}
 use lib.Dec.{T, eqb, eqb→eq, eqb_refl}
 use lib.ListN.{length, take, drop}
-use lib.Seq.{take-take, take-nil, drop-nil}
+use lib.Seq.{take-take, take-nil}
 use Rattle.text.specs.Lists.{Text, all, any, begins}
-use Rattle.text.proofs.Tests.{and_left, and_right, both-and, look, T_true}
+use Rattle.text.proofs.Tests.{and_left, and_right, both-and, T_true}
 use Rattle.tree.specs.Tree.{Terminal, literal, inclusion, exclusion, insertion, codes, Symbol, Grammar}
 use Rattle.plain.specs.Plain.{fits, width, is_member}
 use Rattle.derive.specs.Derive.{Row, Derives, d-end, d-leaf, d-node}

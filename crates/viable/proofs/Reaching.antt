@@ -1,34 +1,34 @@
 -- `beginsAt` says exactly which beginnings of a record begin some text of the grammar.
-use mathlib.Core.Path.{◌≡◌, refl, sym, ap, ◌∙◌, subst}
-use mathlib.Core.Bool.{Bool, true, false, ◌&&◌, ◌||◌}
+use mathlib.Core.Path.{◌≡◌, subst}
+use mathlib.Core.Bool.{Bool, ◌&&◌, ◌||◌}
 use mathlib.Core.Logic.{◌⊎◌, inl, inr, ⊎_elim, ◌↔◌}
-use mathlib.Core.List.{List, [], ◌∷◌, ◌++◌, map, Memᴰ as In}
+use mathlib.Core.List.{List, [], ◌∷◌, ◌++◌, Memᴰ as In}
 use mathlib.Core.List.Memᴰ.{map as in_map}
 use Prim.Native.Nat.{ℕ, zero, suc, ◌+◌, ◌*◌, ◌-◌, ◌<◌, ◌≤◌}
 use native.Mathlib.Decide.{ℕ_discrete}
 use native.Mathlib.Omega.{arith}
 use lib.Dec.{T, leb, leb→le, le→leb}
 use lib.ListN.{length, take, drop, length-append}
-use lib.Seq.{take_at, length-take-le, take-take}
+use lib.Seq.{take_at, length-take-le}
 use Rattle.text.specs.Lists.{Text, all, concat_map}
 use Rattle.text.specs.Utf8.{known}
 use Rattle.text.proofs.Tests.{split, both-and, or_case, or_left, or_right, and_left, and_right}
 use Rattle.tree.specs.Tree.{Symbol, terminal, Grammar}
-use Rattle.plain.specs.Plain.{alts, fits, width}
-use Rattle.derive.specs.Derive.{Row, end, node, Derives, d-end, d-leaf, d-node, alternative, root}
+use Rattle.plain.specs.Plain.{alts, width}
+use Rattle.derive.specs.Derive.{Row, Derives, d-end, d-leaf, d-node, alternative, root}
 use Rattle.derive.specs.Level.{first, somewhere, can_one}
 use Rattle.derive.specs.Bound.{symbols_of, ending_at, top}
 use Rattle.derive.specs.Yield.{productive}
 use Rattle.derive.proofs.Rows.{forward}
 use Rattle.derive.proofs.Tools.{found, finds}
-use Rattle.derive.proofs.Levels.{Low, sound-one}
+use Rattle.derive.proofs.Levels.{sound-one}
 use Rattle.derive.proofs.Symbols.{Inside, in-concat, alternative-of, root-inside}
 use Rattle.derive.proofs.Bound.{still, count, count-le, count_same, Cell, cells_of, cells-length, in-ending, bounded-one}
 use Rattle.derive.proofs.Productive.{all_append, derived-productive}
 use Rattle.viable.specs.Fault.{Begins}
-use Rattle.viable.specs.Stands.{begun, begun_by, Stands, at-root, past-terminal, into, past-symbol}
+use Rattle.viable.specs.Stands.{begun, Stands, at-root, past-terminal, into, past-symbol}
 use Rattle.viable.specs.Compute.{reaching, reaches_in, begins_at}
-use Rattle.viable.proofs.Parts.{less, all_take, fits-here, derives-here, begun-far}
+use Rattle.viable.proofs.Parts.{all_take, fits-here, derives-here, begun-far}
 use Rattle.viable.proofs.Sound.{reached-begins}
 
 -- something stands that reaches k

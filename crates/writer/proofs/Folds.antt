@@ -1,12 +1,12 @@
 -- What is still to be written, event by event.
 use mathlib.Core.Path.{◌≡◌, refl, sym, ap, ◌∙◌}
 use mathlib.Core.Bool.{Bool, true, false}
-use mathlib.Core.List.{List, [], ◌∷◌, ◌++◌, append-nil, append_assoc}
+use mathlib.Core.List.{List, [], ◌++◌, append_assoc}
 use Prim.Native.Nat.{ℕ, ◌+◌, ◌≤◌, ◌<◌}
 use native.Mathlib.Omega.{arith}
 use lib.ListN.{length}
 use Rattle.text.specs.Lists.{Text, chars, pick, concat_map}
-use Rattle.xml.specs.Document.{Xml, none, attr, elem, join, text}
+use Rattle.xml.specs.Document.{Xml, none, attr, elem, text}
 use Rattle.xml.specs.Bytes.{escape, attributes}
 use Rattle.encode.specs.Out.{State, state, puts, enc, Wrote}
 use Rattle.markup.specs.Tags.{closing, lead_of, end_of, state_of, no_words}
@@ -14,13 +14,13 @@ use Rattle.markup.specs.declared.StateWords.{StateWords}
 use Rattle.text.specs.declared.BytePlace.{BytePlace}
 use Rattle.encode.proofs.Puts.{puts_none, enc-none, paid}
 use Rattle.cursor.specs.Rest.{Rest, row, within, before}
-use Rattle.cursor.specs.Ahead.{Ahead, AtRow, SomeRow}
+use Rattle.cursor.specs.Ahead.{Ahead, SomeRow}
 use Rattle.cursor.specs.declared.Cursor.{Cursor}
 use Rattle.extent.proofs.Folds.{attributes_ahead, attributes-before}
 use Rattle.tags.specs.Stated.{start_of, turned}
 use Rattle.writer.specs.Markup.{May, Attributed, Came}
 use Rattle.tags.specs.declared.Output.{Output}
-use Rattle.writer.proofs.Laws.{owed, owed-text, owed-attribute, owed-element, owed-closes, owed-over, plain, IsText, is-text}
+use Rattle.writer.proofs.Laws.{owed, owed-text, owed-attribute, owed-element, owed-closes, owed-over, plain, is-text}
 use Rattle.writer.proofs.Laws.{plain-text, plain-join, text-join, spells-append, attributes-past, Shape, exposed}
 
 -- attributes: to write what is ahead from here comes to the same state as to write all from the beginning

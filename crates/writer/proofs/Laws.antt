@@ -1,18 +1,18 @@
 -- Laws of start tags, contents and attributes.
 use mathlib.Core.Path.{◌≡◌, refl, sym, ap, ◌∙◌}
 use mathlib.Core.Bool.{Bool, true, false}
-use mathlib.Core.List.{List, [], ◌∷◌, ◌++◌, append-nil, append_assoc}
-use Prim.Native.Nat.{ℕ, ◌+◌, ◌≤◌, ◌<◌}
+use mathlib.Core.List.{[], ◌∷◌, ◌++◌, append_assoc}
+use Prim.Native.Nat.{ℕ, ◌+◌, ◌<◌}
 use native.Mathlib.Omega.{arith}
 use lib.ListN.{length, length-append}
 use Rattle.text.specs.Lists.{Text, chars, concat_map}
 use Rattle.xml.specs.Document.{Xml, none, char, attr, elem, join, text}
-use Rattle.xml.specs.Bytes.{escape, attributes, content, closed}
+use Rattle.xml.specs.Bytes.{escape, attributes, content}
 use Rattle.xml.proofs.Escapes.{Escaped, as-reference, as-itself, escaped}
 use Rattle.markup.specs.Tags.{closing, lead_of, end_of}
 use Rattle.cursor.specs.Rest.{Rest, row, within, before}
 use Rattle.tags.specs.Stated.{late, start_of, stated}
-use Rattle.tags.proofs.Laws.{late-closed, stated-none}
+use Rattle.tags.proofs.Laws.{stated-none}
 
 -- every character is written as some
 some-escape : (v : Bool) (c : ℕ) → 0 < length (escape v c)

@@ -1,21 +1,19 @@
 -- The document as a whole: its root, its bytes, and the buffer.
 use mathlib.Core.Path.{◌≡◌, refl, sym, ap, ◌∙◌}
-use mathlib.Core.Bool.{Bool, true, false, ◌&&◌}
+use mathlib.Core.Bool.{Bool, true, false}
 use mathlib.Core.List.{List, [], ◌∷◌, ◌++◌, append-nil, append_assoc}
-use Prim.Native.Nat.{ℕ, suc, ◌+◌, ◌-◌, ◌*◌, ◌≤◌, ◌<◌, min}
+use Prim.Native.Nat.{ℕ, ◌+◌, ◌-◌, ◌≤◌, ◌<◌, min}
 use native.Mathlib.Omega.{arith}
-use lib.Dec.{eqb}
-use lib.ListN.{length, get_or, take, drop}
+use lib.ListN.{length, get_or, drop}
 use borrow.Author.Tests.{eq-eqb}
 use Rattle.text.specs.Lists.{Text, chars, pick, same}
-use Rattle.text.specs.Utf8.{utf8s}
-use Rattle.tree.specs.Tree.{Mark, unmarked, included, attribute, deleted, Symbol, Grammar, rules}
+use Rattle.tree.specs.Tree.{Mark, unmarked, included, attribute, deleted, Grammar}
 use Rattle.tree.specs.Tokens.{counted, mark_number}
-use Rattle.derive.specs.Derive.{Row, end, node, left_parse, alternative, root}
+use Rattle.derive.specs.Derive.{Row, end, node, alternative, root}
 use Rattle.plain.specs.Plain.{rule_mark}
 use Rattle.xml.specs.Document.{Xml, none, char, attr, elem, nodes, marked, mark_of, as_root, document, not_one, misnamed, unwritable}
 use Rattle.xml.specs.Bytes.{attributes, content, closed, bytes}
-use Rattle.left_parse.specs.Noted.{Noted, Parsed, Room}
+use Rattle.left_parse.specs.Noted.{Noted, Room}
 use Rattle.left_parse.specs.Steps.{Found, Named}
 use Rattle.left_parse.proofs.Items.{tokens-in}
 use Rattle.left_parse.proofs.Notes.{begins}
@@ -31,14 +29,13 @@ use Rattle.extent.proofs.Sizes.{start-size, state-size, row-size, no-attributes}
 use Rattle.tags.specs.Stated.{late, start_of, stated, turned}
 use Rattle.writer.specs.Markup.{fresh_at, May, Attributed, Came}
 use Rattle.writer.specs.Whole.{Job, Some, Writable, Documented, Answered}
-use Rattle.writer.specs.declared.Written.{Written}
 use Rattle.writer.specs.declared.Written.TheVariants.{Xml as Fits', TooLong}
 use Rattle.text.specs.declared.BytePlace.{BytePlace}
 use Rattle.tags.specs.declared.Output.{Output}
 use Rattle.writer.specs.declared.Plan.{Plan}
 use Rattle.tags.proofs.Laws.{stated-none, element-bytes}
 use Rattle.writer.proofs.Folds.{same-limit}
-use Rattle.tags.proofs.Chars.{ok, enc_ok, element-ok}
+use Rattle.tags.proofs.Chars.{enc_ok, element-ok}
 
 -- what stands in an element has attributes only where it may
 may-inside : {o t : Output} {p : BytePlace} {u : Bool} {d : StateWords} {n : Text} {x : Xml} → t ≡ turned o p u d → May o (elem n x none) → May t x

@@ -1,15 +1,15 @@
 -- Every character is written as itself or as a reference to it, and is read back as it was.
-use mathlib.Core.Path.{◌≡◌, refl, sym, subst, ap, ◌∙◌}
-use mathlib.Core.Bool.{Bool, true, false, not, ◌&&◌, ◌||◌}
+use mathlib.Core.Path.{◌≡◌, sym, subst}
+use mathlib.Core.Bool.{Bool, true, false, not}
 use mathlib.Core.Logic.{⊎_elim}
-use mathlib.Core.List.{List, [], ◌∷◌, ◌++◌, append_assoc}
+use mathlib.Core.List.{[], ◌∷◌, ◌++◌, append_assoc}
 use Prim.Native.Nat.{ℕ}
 use lib.Dec.{T, eqb}
 use borrow.Author.Tests.{eqb-true}
-use Rattle.text.specs.Lists.{Text, chars, pick, all, among, concat_map}
+use Rattle.text.specs.Lists.{Text, chars, pick, among, concat_map}
 use Rattle.text.proofs.Tests.{clash, look, T_true}
 use Rattle.xml.specs.Bytes.{escape}
-use Rattle.xml.specs.References.{Reference, amp, lt, gt, apos, quot, tab, lf, cr, bare, delimiters, ReadsAs, r-end, r-reference, r-bare}
+use Rattle.xml.specs.References.{Reference, amp, lt, gt, apos, tab, lf, cr, bare, delimiters, ReadsAs, r-end, r-reference, r-bare}
 
 -- the characters that are written as references: in a value, and in text
 abbrev pub special : Bool → ℕ → Bool

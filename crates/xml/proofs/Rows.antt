@@ -1,13 +1,11 @@
 -- What the nodes of a row come to, tree by tree: the equations that a walk over a derivation follows.
 use mathlib.Core.Bool.{Bool, true, false, not, ◌||◌, or_assoc}
 use mathlib.Core.Path.{◌≡◌, refl, sym, ap, ◌∙◌}
-use mathlib.Core.List.{List, [], ◌∷◌, ◌++◌, append_assoc, append-nil}
+use mathlib.Core.List.{List, [], ◌∷◌, ◌++◌, append_assoc}
 use Prim.Native.Nat.{ℕ}
 use Rattle.text.specs.Lists.{Text, chars, any, same, repeats, concat_map}
-use Rattle.tree.specs.Tree.{Mark, unmarked, included, attribute, deleted, Symbol, Grammar}
-use Rattle.derive.specs.Derive.{Row, end, leaf, node, alternative}
 use Rattle.xml.specs.Names.{xml_char, xml_name}
-use Rattle.xml.specs.Document.{Xml, none, char, attr, elem, join, text, mark_of, name_of, leaf_text, stretch, value, marked, nodes, attribute_names, twice, misnamed, unwritable, namespaced}
+use Rattle.xml.specs.Document.{Xml, none, char, attr, elem, join, text, attribute_names, twice, misnamed, unwritable, namespaced}
 use Rattle.xml.specs.Bytes.{escape, attributes, closed, content}
 
 -- one row after another

@@ -1,13 +1,12 @@
 -- The faults of all that is ahead, event by event.
 use mathlib.Core.Path.{◌≡◌, refl, sym, ap, ◌∙◌}
-use mathlib.Core.List.{List, []}
+use mathlib.Core.List.{List}
 use Prim.Native.Nat.{ℕ}
 use Rattle.text.specs.Lists.{Text}
-use Rattle.xml.specs.Document.{Xml, none, attr, elem, join, text}
+use Rattle.xml.specs.Document.{Xml, none, attr, elem, text}
 use Rattle.cursor.specs.Rest.{Rest, row, within, before}
 use Rattle.cursor.specs.Ahead.{Ahead, SomeRow}
 use Rattle.cursor.specs.declared.Cursor.{Cursor}
-use Rattle.cursor.proofs.Folds.{Relation}
 use Rattle.xml_names.specs.Flags.{sound, both, of_text, of_name, of_attribute_name, of_xml}
 use Rattle.xml_names.specs.Told.{Told}
 use Rattle.xml_names.specs.declared.Faults.{Faults}

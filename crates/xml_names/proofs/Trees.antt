@@ -1,7 +1,7 @@
 -- The faults of rows, tree by tree.
 use mathlib.Core.Path.{◌≡◌, refl, sym, ap, ◌∙◌}
 use mathlib.Core.Bool.{Bool, true, false, not, ◌||◌}
-use mathlib.Core.List.{List, [], ◌∷◌, ◌++◌}
+use mathlib.Core.List.{[], ◌∷◌, ◌++◌}
 use Prim.Native.Nat.{ℕ, ◌+◌}
 use Rattle.text.specs.Lists.{Text, chars, same}
 use Rattle.text.proofs.Lists.{any_append, or-false}

@@ -6,13 +6,13 @@ use Prim.Native.Nat.{ℕ, ◌+◌, ◌≤◌, ◌<◌}
 use native.Mathlib.Omega.{arith}
 use lib.Dec.{eqb}
 use lib.ListN.{length, set}
-use Rattle.text.specs.Lists.{Text, any, same, repeats, pick}
+use Rattle.text.specs.Lists.{Text, repeats, pick}
 use Rattle.text.proofs.Lists.{or_assoc, or-false}
 use Rattle.xml.specs.Document.{Xml, none, char, attr, elem, join, text, attribute_names, not_one}
 use Rattle.xml.proofs.Rows.{names-join}
 use Rattle.left_parse.specs.Steps.{Named}
 use Rattle.cursor.specs.Rest.{Rest, row, within, before}
-use Rattle.cursor.specs.Ahead.{Ahead, AtRow, SomeRow}
+use Rattle.cursor.specs.Ahead.{Ahead, SomeRow}
 use Rattle.cursor.specs.declared.Cursor.{Cursor}
 use Rattle.xml_shape.specs.Judges.{Judges}
 use Rattle.xml_shape.specs.Names.{repeated, clashes, Listed, Seen, Fresh, name_tokens}

@@ -3,10 +3,10 @@ use mathlib.Core.Path.{◌≡◌, refl, sym, ap, ap₂, ◌∙◌}
 use mathlib.Core.Bool.{Bool, true, false, not, ◌&&◌, ◌||◌}
 use mathlib.Core.List.{List, [], ◌∷◌}
 use mathlib.Core.Logic.{⊎_elim}
-use Prim.Native.Nat.{ℕ, suc, ◌+◌, ◌-◌, ◌≤◌, ◌<◌}
+use Prim.Native.Nat.{ℕ, ◌-◌, ◌≤◌, ◌<◌}
 use native.Mathlib.Omega.{arith}
 use lib.Dec.{eqb}
-use lib.ListN.{length, get_or, set, drop}
+use lib.ListN.{length, get_or, set}
 use lib.Seq.{get_or-set_same, get_or-set_other}
 use borrow.Author.Tests.{eq-eqb, ne_eqb, eqb-true, eqb-false}
 use Rattle.text.specs.Lists.{Text, any, same, repeats}
@@ -14,7 +14,7 @@ use Rattle.text.proofs.Tests.{look}
 use Rattle.xml.specs.Document.{Xml, none, char, attr, elem, not_one}
 use Rattle.left_parse.specs.Steps.{Named}
 use Rattle.xml_shape.specs.Names.{clashes, Listed}
-use Rattle.xml_shape.specs.One.{more, shape}
+use Rattle.xml_shape.specs.One.{shape}
 
 -- equality either way round
 eqb-sym : (a b : ℕ) → eqb a b ≡ eqb b a

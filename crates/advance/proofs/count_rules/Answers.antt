@@ -1,8 +1,7 @@
-use mathlib.Core.Path.{◌≡◌, refl}
-use Prim.Native.Nat.{ℕ, ◌+◌, ◌-◌, ◌≤◌}
-use Rattle.numbering.specs.Names.{is_name, name_count}
+use mathlib.Core.Path.{refl}
+use Prim.Native.Nat.{◌-◌}
+use Rattle.numbering.specs.Names.{is_name}
 use Rattle.advance.proofs.Turns.{flag-most, count_next, count-all}
-use borrow.Author.Rules.{rules}
 use native.Mathlib.Omega.{arith}
 use Rattle.advance.proofs.count_rules.Goals as goal
 
@@ -22,17 +21,15 @@ loop-e-smaller c =
     omega (arith, c.loop-e-test.true)
 
 pub loop-e-preserved : goal.loop-e-preserved
-loop-e-preserved c =
-    (
-      omega (arith, c.loop-e-test.true),
-      omega (arith, c.one_name-count.ensures, flag-most (is_name c.args.code.now c.loop-e.e), c.loop-e.invariant.1),
-      count_next c.args.code.now c.loop-e.e c.loop-e.count c.one_name-count.result c.loop-e.invariant.2 c.one_name-count.ensures,
-    )
+loop-e-preserved c = (
+  omega (arith, c.loop-e-test.true),
+  omega (arith, c.one_name-count.ensures, flag-most (is_name c.args.code.now c.loop-e.e), c.loop-e.invariant.1),
+  count_next c.args.code.now c.loop-e.e c.loop-e.count c.one_name-count.result c.loop-e.invariant.2 c.one_name-count.ensures,
+)
 
 pub returns : goal.returns
-returns c =
-    (
-      count-all c.args.code.now c.loop-e.count c.loop-e.e c.args.size c.loop-e.invariant.0 (omega (arith, c.loop-e-test.false))
-          c.loop-e.invariant.2,
-      omega (arith, c.loop-e.invariant.0, c.loop-e.invariant.1),
-    )
+returns c = (
+  count-all c.args.code.now c.loop-e.count c.loop-e.e c.args.size c.loop-e.invariant.0 (omega (arith, c.loop-e-test.false))
+      c.loop-e.invariant.2,
+  omega (arith, c.loop-e.invariant.0, c.loop-e.invariant.1),
+)

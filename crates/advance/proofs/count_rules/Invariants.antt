@@ -1,9 +1,6 @@
-use mathlib.Core.Path.{◌≡◌, refl}
-use Prim.Native.Nat.{ℕ, ◌+◌, ◌-◌, ◌≤◌}
-use Rattle.numbering.specs.Names.{is_name, name_count}
-use Rattle.advance.proofs.Turns.{flag-most, count_next, count-all}
-use borrow.Author.Rules.{rules}
-use native.Mathlib.Omega.{arith}
+use mathlib.Core.Path.{◌≡◌}
+use Prim.Native.Nat.{◌-◌, ◌≤◌}
+use Rattle.numbering.specs.Names.{name_count}
 use Rattle.advance.proofs.count_rules.Given as goal
 
 abbrev pub invariant-loop-e : goal.invariant-loop-e

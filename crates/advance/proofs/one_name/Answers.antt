@@ -1,5 +1,4 @@
 use Rattle.advance.proofs.Turns.{no_end, no_last, last_end}
-use borrow.Author.Rules.{rules}
 use Rattle.advance.proofs.one_name.Goals as goal
 
 pub returns-then-code-e-ne-AT_END : goal.returns-then-code-e-ne-AT_END

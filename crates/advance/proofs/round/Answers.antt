@@ -1,11 +1,9 @@
-use mathlib.Core.Path.{refl, ◌∙◌}
-use Prim.Native.Nat.{ℕ, ◌+◌, ◌*◌}
+use Prim.Native.Nat.{◌+◌}
 use lib.ListN.{length}
 use Rattle.heights.proofs.Exact.{safe}
 use Rattle.full.proofs.Whole.{coded}
 use Rattle.fixpoint.proofs.Tests.{most-by}
 use Rattle.advance.proofs.Readies.{few-rounds, round-late, round_by}
-use borrow.Author.Rules.{rules}
 use native.Mathlib.Omega.{arith}
 use Rattle.advance.proofs.round.Goals as goal
 

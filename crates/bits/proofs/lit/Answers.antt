@@ -1,10 +1,4 @@
-use borrow.Author.Rules.{rules}
-use native.Mathlib.Omega.{arith}
-use mathlib.Core.Path.{◌≡◌, refl, sym, ap, subst, ◌∙◌}
-use mathlib.Core.Logic.{◌⊎◌, inl, inr, ⊎_elim}
-use Prim.Native.Nat.{ℕ, ◌+◌, ◌*◌, ◌-◌, ◌/◌, ◌%◌, ◌^◌, ◌<◌, ◌≤◌}
-use lib.ListN.{length, get_or}
-use Rattle.bits.specs.Bits.{bit_of, Lit, Has}
+use Prim.Native.Nat.{◌-◌}
 use Rattle.bits.proofs.Laws.{lit-shifted, shifted-lit}
 use borrow.Author.Tests.{eqb-true, eq-eqb}
 use Rattle.bits.proofs.lit.Goals as goal

@@ -1,12 +1,5 @@
-use borrow.Author.Rules.{rules}
-use native.Mathlib.Omega.{arith}
-use borrow.Author.Tests.{eqb-true}
-use mathlib.Core.Path.{◌≡◌, refl, sym, ap, subst, ◌∙◌}
-use mathlib.Core.Logic.{◌⊎◌, inl, inr, ⊎_elim}
-use Prim.Native.Nat.{ℕ, ◌+◌, ◌*◌, ◌-◌, ◌/◌, ◌%◌, ◌^◌, ◌<◌, ◌≤◌}
-use lib.ListN.{length, get_or}
-use Rattle.bits.specs.Bits.{bit_of, Lit, Has}
-use Rattle.bits.proofs.Laws.{none-next, lit-zero}
+use Prim.Native.Nat.{ℕ, ◌-◌, ◌/◌, ◌%◌, ◌<◌}
+use Rattle.bits.specs.Bits.{Lit, Has}
 use Rattle.bits.proofs.none.Given as goal
 
 abbrev pub invariant-loop-v : goal.invariant-loop-v

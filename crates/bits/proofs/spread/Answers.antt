@@ -1,10 +1,7 @@
-use borrow.Author.Rules.{rules}
 use native.Mathlib.Omega.{arith}
-use mathlib.Core.Path.{◌≡◌, refl, sym, ap, subst, ◌∙◌}
-use mathlib.Core.Logic.{◌⊎◌, inl, inr, ⊎_elim}
-use Prim.Native.Nat.{ℕ, ◌+◌, ◌*◌, ◌-◌, ◌/◌, ◌%◌, ◌^◌, ◌<◌, ◌≤◌}
-use lib.ListN.{length, get_or, length-set}
-use Rattle.bits.specs.Bits.{bit_of, Lit, Has}
+use mathlib.Core.Path.{refl, ◌∙◌}
+use Prim.Native.Nat.{◌-◌}
+use lib.ListN.{length-set}
 use Rattle.bits.proofs.Laws.{masked-next, spread-next}
 use Rattle.bits.proofs.spread.Goals as goal
 
@@ -12,13 +9,12 @@ pub loop-b-init : goal.loop-b-init
 loop-b-init c = (omega arith, λ x h. absurd (omega (arith, h)), refl, λ l x h. absurd (omega (arith, h)))
 
 pub loop-b-preserved : goal.loop-b-preserved
-loop-b-preserved c =
-    (
-      omega (arith, c.loop-b-test.true),
-      masked-next c.loop-b.on _ c.loop-b-test.true c.loop-b.invariant.1 c.mask.ensures.0,
-      length-set c.loop-b.on _ _ ∙ c.loop-b.invariant.2,
-      λ l. spread-next c.loop-b.on _ (omega (arith, c.loop-b-test.true, c.loop-b.invariant.2, l)) (c.loop-b.invariant.3 l) c.mask.ensures.1,
-    )
+loop-b-preserved c = (
+  omega (arith, c.loop-b-test.true),
+  masked-next c.loop-b.on _ c.loop-b-test.true c.loop-b.invariant.1 c.mask.ensures.0,
+  length-set c.loop-b.on _ _ ∙ c.loop-b.invariant.2,
+  λ l. spread-next c.loop-b.on _ (omega (arith, c.loop-b-test.true, c.loop-b.invariant.2, l)) (c.loop-b.invariant.3 l) c.mask.ensures.1,
+)
 
 pub returns : goal.returns
 returns c = record {

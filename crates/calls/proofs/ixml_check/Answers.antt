@@ -1,5 +1,4 @@
 use Rattle.calls.proofs.Checks.{refuses, accepts}
-use borrow.Author.Rules.{rules}
 use Rattle.calls.proofs.ixml_check.Goals as goal
 
 pub returns-in_default : goal.returns-in_default

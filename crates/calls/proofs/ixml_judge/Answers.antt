@@ -1,7 +1,7 @@
 use mathlib.Core.List.{[]}
 use lib.ListN.{length}
 use native.Mathlib.Omega.{arith}
-use mathlib.Core.Path.{◌≡◌, refl}
+use mathlib.Core.Path.{refl}
 use Rattle.opening.proofs.Texts.{got_in, got-part}
 use Rattle.answer.specs.Answer.{job}
 use Rattle.calls.proofs.JudgesAs.{judge-ended, started, judgeable, judge-concluded}

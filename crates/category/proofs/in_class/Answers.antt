@@ -1,6 +1,5 @@
-use mathlib.Core.Path.{sym, ◌∙◌, ap}
+use mathlib.Core.Path.{sym, ◌∙◌}
 use borrow.Author.Rules.{rules}
-use native.Mathlib.Omega.{arith}
 use Rattle.category.proofs.Agree.{spans, class-spans}
 use Rattle.category.proofs.in_class.Goals as goal
 

@@ -1,7 +1,6 @@
 use Prim.Native.Nat.{◌+◌}
 use native.Mathlib.Omega.{arith}
 use Rattle.chart.proofs.Cells.{square-fits, rows-small, rows_fit, before_small}
-use borrow.Author.Rules.{rules}
 use Rattle.chart.proofs.cell.Goals as goal
 
 pub overflow_mul-result : goal.overflow_mul-result

@@ -1,9 +1,7 @@
-use mathlib.Core.Path.{◌≡◌, refl, ◌∙◌}
+use mathlib.Core.Path.{◌≡◌}
 use Prim.Native.Nat.{ℕ, ◌-◌, ◌<◌, ◌≤◌}
-use native.Mathlib.Omega.{arith}
-use lib.ListN.{length, get_or, length-set}
+use lib.ListN.{length, get_or}
 use Rattle.chart.specs.Heights.{none}
-use Rattle.chart.proofs.Cells.{clear_next}
 use Rattle.chart.proofs.clear.Given as goal
 
 abbrev pub invariant-loop-x : goal.invariant-loop-x

@@ -1,4 +1,3 @@
-use borrow.Author.Rules.{rules}
 use native.Mathlib.Omega.{arith}
 use Prim.Native.Nat.{ℕ}
 use lib.ListN.{length-replicate}
@@ -17,18 +16,17 @@ fill-requires c =
     (ground-for c.requires c.list_firsts.ensures, c.requires.notes-long)
 
 pub stand-requires : goal.stand-requires
-stand-requires c =
-    (
-      record {
-        ground = ground-as c.fill.ensures.long (ground-for c.requires c.list_firsts.ensures);
-        sound = c.fill.ensures.sound;
-        complete = c.fill.ensures.complete;
-        root = c.requires.root;
-        inside = c.requires.inside;
-      },
-      no_member,
-      length-replicate {A = ℕ} 8192 0,
-    )
+stand-requires c = (
+  record {
+    ground = ground-as c.fill.ensures.long (ground-for c.requires c.list_firsts.ensures);
+    sound = c.fill.ensures.sound;
+    complete = c.fill.ensures.complete;
+    root = c.requires.root;
+    inside = c.requires.inside;
+  },
+  no_member,
+  length-replicate {A = ℕ} 8192 0,
+)
 
 pub sure-requires : goal.sure-requires
 sure-requires c =

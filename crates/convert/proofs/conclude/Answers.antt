@@ -1,7 +1,6 @@
 use mathlib.Core.Path.{refl, sym, ap, ◌∙◌}
 use Rattle.dynamic_errors.specs.Judgment.{verdict_number}
 use Rattle.convert.proofs.Conclusions.{some-verdict, some-job, some-later, room-later, forbidden, concluded, too_long}
-use borrow.Author.Rules.{rules}
 use borrow.Enum.Refused.{opened}
 use Rattle.convert.proofs.conclude.Goals as goal
 

@@ -1,6 +1,5 @@
 use native.Mathlib.Omega.{arith}
 use Rattle.convert.proofs.Conclusions.{room, annotated, parsed-some}
-use borrow.Author.Rules.{rules}
 use Rattle.convert.proofs.convert_with.Goals as goal
 
 pub note-requires : goal.note-requires

@@ -1,5 +1,4 @@
 use Rattle.cursor.proofs.Laws.{closes-value, closes-nothing, closes-element}
-use borrow.Author.Rules.{rules}
 use Rattle.cursor.proofs.closes.Goals as goal
 
 pub returns-then-value-inner : goal.returns-then-value-inner

@@ -1,8 +1,7 @@
-use mathlib.Core.Path.{refl, sym, ◌∙◌}
+use mathlib.Core.Path.{refl, ◌∙◌}
 use Rattle.cursor.proofs.Nodes.{node-enters}
 use Rattle.cursor.proofs.Turns.{entered}
 use Rattle.cursor.proofs.Laws.{not-two}
-use borrow.Author.Rules.{rules}
 use Rattle.cursor.proofs.enter.Goals as goal
 
 pub enter-n-requires : goal.enter-n-requires

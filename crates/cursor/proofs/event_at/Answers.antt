@@ -1,13 +1,8 @@
-use mathlib.Core.Path.{◌≡◌, refl, sym, ◌∙◌}
+use mathlib.Core.Path.{sym, ◌∙◌}
 use native.Mathlib.Omega.{arith}
 use Rattle.cursor.proofs.Laws.{decide-zero}
 use Rattle.cursor.proofs.Steps.{ahead-leaves, ahead-over}
 use Rattle.cursor.proofs.Turns.{turn-text, turn-close, turn-open, turn-attribute, shown-text, shown-node, shown-end, shown-close}
-use borrow.Author.Rules.{rules}
-use Rattle.cursor.proofs.event_at.Reads as reads
-use Rattle.items.proofs.kind_at.Reads as kind-at-reads
-use Rattle.left_parse.proofs.leave.Reads as leave-reads
-use Rattle.items.proofs.token_at.Reads as token-at-reads
 use Rattle.cursor.proofs.event_at.Goals as goal
 
 -- src/lib.rt:132:9

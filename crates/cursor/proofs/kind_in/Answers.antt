@@ -1,6 +1,5 @@
 use native.Mathlib.Omega.{arith}
 use Rattle.cursor.proofs.Laws.{kind-free, kind-deleted, kind-other}
-use borrow.Author.Rules.{rules}
 use Rattle.cursor.proofs.kind_in.Goals as goal
 
 pub returns-then-value-eq0 : goal.returns-then-value-eq0

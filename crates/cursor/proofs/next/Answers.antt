@@ -1,8 +1,4 @@
 use Rattle.cursor.proofs.Turns.{settled-came, settled-some, came-next}
-use borrow.Author.Rules.{rules}
-use Rattle.cursor.proofs.next.Reads as reads
-use Rattle.cursor.proofs.event_at.Reads as event-at-reads
-use Rattle.cursor.proofs.settle.Reads as settle-reads
 use Rattle.cursor.proofs.next.Goals as goal
 
 -- src/lib.rt:154:5

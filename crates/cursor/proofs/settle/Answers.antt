@@ -1,13 +1,7 @@
-use mathlib.Core.Path.{◌≡◌, refl, sym, ◌∙◌}
 use native.Mathlib.Omega.{arith}
 use Rattle.cursor.specs.Events.{s-node, s-close, s-end}
 use Rattle.cursor.proofs.Laws.{decide-zero}
 use Rattle.cursor.proofs.Turns.{came-begin, came-settled}
-use borrow.Author.Rules.{rules}
-use Rattle.cursor.proofs.settle.Reads as reads
-use Rattle.cursor.proofs.closes.Reads as closes-reads
-use Rattle.cursor.proofs.pass.Reads as pass-reads
-use Rattle.items.proofs.kind_at.Reads as kind-at-reads
 use Rattle.cursor.proofs.settle.Goals as goal
 
 -- src/lib.rt:106:17

@@ -1,7 +1,5 @@
 use Rattle.cursor.proofs.Steps.{ahead_small}
 use Rattle.cursor.proofs.Turns.{over-text}
-use Rattle.cursor.proofs.skip.Reads as reads
-use Rattle.left_parse.proofs.skip.Reads as skip-reads
 use Rattle.cursor.proofs.skip.Goals as goal
 
 -- src/lib.rt:171:9

@@ -1,5 +1,4 @@
 use borrow.Author.Tests.{lt-leb, le-leb}
-use borrow.Author.Rules.{rules}
 use Rattle.decimal.proofs.is_fraction.Goals as goal
 
 pub returns-then-text-lt1 : goal.returns-then-text-lt1

@@ -1,12 +1,7 @@
-use borrow.Author.Tests.{not-true, not-false}
-use mathlib.Core.Path.{◌≡◌, sym, ap, ◌∙◌}
-use Prim.Native.Nat.{ℕ, ◌+◌, ◌-◌, ◌≤◌}
-use native.Mathlib.Nat.{add-zero, zero-add}
-use native.Mathlib.Omega.{arith}
-use borrow.Author.Rules.{rules}
-use lib.ListN.{length, drop, drop_of_length-le}
+use mathlib.Core.Path.{◌≡◌}
+use Prim.Native.Nat.{◌+◌, ◌-◌, ◌≤◌}
+use lib.ListN.{length, drop}
 use Rattle.decimal.specs.Compute.{leading}
-use Rattle.decimal.proofs.Leading.{one_more, no_more, leading-nil}
 use Rattle.decimal.proofs.leading_digits.Given as goal
 
 abbrev pub invariant-loop-n : goal.invariant-loop-n

@@ -1,7 +1,6 @@
 use mathlib.Core.Path.{ap, ◌∙◌}
 use Prim.Native.Nat.{ℕ}
 use lib.Ieee.{Float, binary64, add, mul}
-use borrow.Author.Rules.{rules}
 use Rattle.decimal.specs.Value.{num, next_digit}
 use Rattle.decimal.proofs.Constants.{ten}
 use Rattle.decimal.proofs.next_digit.Goals as goal

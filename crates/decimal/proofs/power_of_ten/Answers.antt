@@ -1,4 +1,3 @@
-use borrow.Author.Rules.{rules}
 use Rattle.decimal.proofs.Constants.{powers, power_at}
 use Rattle.decimal.proofs.power_of_ten.Goals as goal
 

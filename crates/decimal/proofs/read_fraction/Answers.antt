@@ -1,13 +1,11 @@
 use mathlib.Core.Path.{ap, sym, ◌∙◌}
 use Prim.Native.Nat.{◌-◌}
 use lib.ListN.{length, take, drop}
-use borrow.Author.Tests.{not-true, not-false}
 use Rattle.text.specs.Lists.{Text}
 use Rattle.decimal.specs.Value.{decimal, value_of}
 use Rattle.decimal.specs.Compute.{is_fraction}
 use Rattle.decimal.specs.declared.Number.TheVariants.{Value}
 use Rattle.decimal.proofs.Steps.{from_place, short-fraction, no_fraction, no-point, bad-fraction, good-fraction}
-use borrow.Author.Rules.{rules}
 use Rattle.decimal.proofs.read_fraction.Goals as goal
 
 pub returns-then-rest-lt1 : goal.returns-then-rest-lt1

@@ -3,7 +3,6 @@ use mathlib.Core.Path.{ap, ◌∙◌}
 use Rattle.text.specs.Lists.{Text}
 use Rattle.decimal.specs.Compute.{unsigned, number_of}
 use Rattle.decimal.proofs.Steps.{from_place, empty, with-minus, no_minus}
-use borrow.Author.Rules.{rules}
 use Rattle.decimal.proofs.read_number.Goals as goal
 
 pub returns-then-text-lt1 : goal.returns-then-text-lt1

@@ -7,7 +7,6 @@ use Rattle.text.specs.Lists.{Text}
 use Rattle.decimal.specs.Compute.{leading, after_whole, number_of}
 use Rattle.decimal.proofs.Leading.{leading-within}
 use Rattle.decimal.proofs.Steps.{from_place, too_few, too_many, whole-digits}
-use borrow.Author.Rules.{rules}
 use Rattle.decimal.proofs.read_unsigned.Goals as goal
 
 pub returns-then-n-lt1 : goal.returns-then-n-lt1

@@ -2,7 +2,6 @@ use mathlib.Core.Path.{ap}
 use lib.Ieee.{binary64, div}
 use Prim.Native.Nat.{ℕ}
 use Rattle.decimal.specs.Value.{num}
-use borrow.Author.Rules.{rules}
 use Rattle.decimal.proofs.scaled.Goals as goal
 
 pub returns : goal.returns

@@ -1,4 +1,3 @@
-use borrow.Author.Rules.{rules}
 use Rattle.decimal.proofs.signed.Goals as goal
 
 pub returns-then-minus : goal.returns-then-minus

@@ -5,7 +5,6 @@ use lib.ListN.{length}
 use Rattle.decimal.specs.Value.{num, digits_from, signed, size_of}
 use Rattle.decimal.proofs.Constants.{nought}
 use Rattle.decimal.proofs.Leading.{digits_append}
-use borrow.Author.Rules.{rules}
 use Rattle.decimal.proofs.value.Goals as goal
 
 pub returns : goal.returns

@@ -1,5 +1,4 @@
 use mathlib.Core.Path.{sym, ◌∙◌}
-use borrow.Author.Rules.{rules}
 use Rattle.decode.proofs.after_mark.Goals as goal
 
 pub returns-then-marked : goal.returns-then-marked

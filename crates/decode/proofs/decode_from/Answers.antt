@@ -1,5 +1,4 @@
 use Rattle.decode.proofs.Whole as law
-use borrow.Author.Rules.{rules}
 use Rattle.decode.proofs.decode_from.Goals as goal
 
 pub returns-in_default : goal.returns-in_default

@@ -1,6 +1,5 @@
 use native.Mathlib.Omega.{arith}
 use Rattle.text.proofs.Marks.{mark-within}
-use borrow.Author.Rules.{rules}
 use Rattle.decode.proofs.decode_grammar.Goals as goal
 
 pub decode_from-requires : goal.decode_from-requires

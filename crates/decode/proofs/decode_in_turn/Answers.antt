@@ -1,5 +1,4 @@
 use Rattle.decode.proofs.Whole as law
-use borrow.Author.Rules.{rules}
 use borrow.Enum.Refused.{opened}
 use Rattle.decode.proofs.decode_in_turn.Goals as goal
 

@@ -1,5 +1,4 @@
 use mathlib.Core.Path.{◌∙◌}
-use borrow.Author.Rules.{rules}
 use Rattle.decode.proofs.fits.Goals as goal
 
 pub returns-in-Alphabet : goal.returns-in-Alphabet

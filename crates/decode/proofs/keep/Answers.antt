@@ -1,6 +1,5 @@
 use mathlib.Core.Path.{sym}
 use lib.Seq.{set_out}
-use borrow.Author.Rules.{rules}
 use Rattle.decode.proofs.keep.Goals as goal
 
 pub returns-else-n-out : goal.returns-else-n-out

@@ -1,5 +1,4 @@
 use Rattle.text.proofs.Marks as law
-use borrow.Author.Rules.{rules}
 use Rattle.decode.proofs.marked.Goals as goal
 
 pub returns-then-bytes-lt3 : goal.returns-then-bytes-lt3

@@ -1,14 +1,11 @@
-use mathlib.Core.Path.{◌≡◌, refl, ap, ◌∙◌}
+use mathlib.Core.Path.{refl, ap, ◌∙◌}
 use native.Mathlib.Omega.{arith}
-use lib.ListN.{length}
-use Rattle.cursor.specs.Events.{weight}
 use Rattle.cursor.proofs.Turns.{text-is, open_is, attribute-is, close-is}
-use Rattle.cursor.proofs.Folds.{Reached, reached-begin, reached-some, row-some, text-stands, on-text, on-close, on-end, open-node, open-enter, attribute-node, attribute-enter}
+use Rattle.cursor.proofs.Folds.{reached-begin, reached-some, row-some, text-stands, on-text, on-close, on-end, open-node, open-enter, attribute-node, attribute-enter}
 use Rattle.xml_names.specs.Flags.{both}
 use Rattle.xml_names.proofs.Folds.{text-law, open-law, attribute-law, close-law, begin-law}
 use Rattle.extent.proofs.Folds.{spans-begin, spans-text, spans-element, spans-attribute, spans-close}
 use Rattle.dynamic_errors.proofs.Folds.{Search, found}
-use borrow.Author.Rules.{rules}
 use Rattle.dynamic_errors.proofs.found_in.Goals as goal
 
 pub loop-n-init : goal.loop-n-init

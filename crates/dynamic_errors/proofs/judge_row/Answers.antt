@@ -1,7 +1,5 @@
 use mathlib.Core.Path.{refl, ◌∙◌}
-use native.Mathlib.Omega.{arith}
 use Rattle.dynamic_errors.proofs.Roots.{standing-again, attributed-later, row-judged}
-use borrow.Author.Rules.{rules}
 use Rattle.dynamic_errors.proofs.judge_row.Goals as goal
 
 pub twice_in-twice-requires : goal.twice_in-twice-requires

@@ -1,7 +1,6 @@
 use mathlib.Core.Path.{sym, ap, ◌∙◌}
 use mathlib.Core.Bool.{Bool, ◌||◌}
 use Rattle.dynamic_errors.specs.Judgment.{misnamed_in}
-use borrow.Author.Rules.{rules}
 use Rattle.dynamic_errors.proofs.misnamed_in.Goals as goal
 
 pub returns-then-deleted : goal.returns-then-deleted

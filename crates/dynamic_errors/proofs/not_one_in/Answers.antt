@@ -1,5 +1,4 @@
 use Rattle.dynamic_errors.proofs.Roots.{not-one-deleted, not-one-element}
-use borrow.Author.Rules.{rules}
 use Rattle.dynamic_errors.proofs.not_one_in.Goals as goal
 
 pub returns-then-deleted : goal.returns-then-deleted

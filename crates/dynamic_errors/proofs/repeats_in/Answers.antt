@@ -1,5 +1,3 @@
-use native.Mathlib.Omega.{arith}
-use borrow.Author.Rules.{rules}
 use Rattle.dynamic_errors.proofs.repeats_in.Goals as goal
 
 pub inside-first-requires : goal.inside-first-requires

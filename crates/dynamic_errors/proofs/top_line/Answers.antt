@@ -1,5 +1,4 @@
 use Rattle.dynamic_errors.proofs.Roots.{top-number}
-use borrow.Author.Rules.{rules}
 use Rattle.dynamic_errors.proofs.top_line.Goals as goal
 
 pub returns : goal.returns

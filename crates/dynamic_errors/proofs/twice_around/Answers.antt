@@ -1,4 +1,3 @@
-use mathlib.Core.Path.{refl}
 use Rattle.dynamic_errors.proofs.Roots.{standing-again, twice-deleted, twice-element}
 use borrow.Author.Rules.{rules}
 use Rattle.dynamic_errors.proofs.twice_around.Goals as goal

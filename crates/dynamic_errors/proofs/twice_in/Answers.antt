@@ -1,5 +1,4 @@
 use Rattle.dynamic_errors.proofs.Roots.{twice-bare}
-use borrow.Author.Rules.{rules}
 use Rattle.dynamic_errors.proofs.twice_in.Goals as goal
 
 pub returns : goal.returns

@@ -1,6 +1,6 @@
 use Prim.Native.Nat.{◌-◌}
 use native.Mathlib.Omega.{arith}
-use Rattle.empties.proofs.Moves.{ClearTo, clear-start, clear_next, clear-end}
+use Rattle.empties.proofs.Moves.{clear-start, clear_next, clear-end}
 use Rattle.empties.proofs.clear_empties.Goals as goal
 
 pub loop-p-init : goal.loop-p-init

@@ -1,6 +1,5 @@
 use Prim.Native.Nat.{◌-◌}
-use native.Mathlib.Omega.{arith}
-use Rattle.empties.proofs.Moves.{ClearTo, clear-start, clear_next, clear-end}
+use Rattle.empties.proofs.Moves.{ClearTo}
 use Rattle.empties.proofs.clear_empties.Given as goal
 
 abbrev pub invariant-loop-p : goal.invariant-loop-p

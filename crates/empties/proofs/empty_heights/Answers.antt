@@ -1,6 +1,5 @@
 use mathlib.Core.Path.{◌∙◌}
-use Rattle.heights.specs.Filling.{total}
-use Rattle.empties.proofs.Moves.{Swept, swept-start, swept-next, swept-end}
+use Rattle.empties.proofs.Moves.{swept-start, swept-next, swept-end}
 use Rattle.empties.proofs.empty_heights.Goals as goal
 
 pub clear_empties-requires : goal.clear_empties-requires

@@ -1,6 +1,5 @@
-use mathlib.Core.Path.{◌∙◌}
 use Rattle.heights.specs.Filling.{total}
-use Rattle.empties.proofs.Moves.{Swept, swept-start, swept-next, swept-end}
+use Rattle.empties.proofs.Moves.{Swept}
 use Rattle.empties.proofs.empty_heights.Given as goal
 
 abbrev pub invariant-loop : goal.invariant-loop

@@ -1,9 +1,5 @@
 use mathlib.Core.Path.{◌∙◌}
-use Prim.Native.Nat.{◌≤◌}
 use native.Mathlib.Omega.{arith}
-use borrow.Author.Tests.{not-false}
-use Rattle.heights.specs.Filling.{total}
-use Rattle.empties.specs.Empty.{Eased}
 use Rattle.empties.proofs.Moves.{eased-none, eased-next}
 use Rattle.empties.proofs.follow.Goals as goal
 

@@ -1,10 +1,6 @@
-use mathlib.Core.Path.{◌∙◌}
 use Prim.Native.Nat.{◌≤◌}
-use native.Mathlib.Omega.{arith}
-use borrow.Author.Tests.{not-false}
 use Rattle.heights.specs.Filling.{total}
 use Rattle.empties.specs.Empty.{Eased}
-use Rattle.empties.proofs.Moves.{eased-none, eased-next}
 use Rattle.empties.proofs.follow.Given as goal
 
 abbrev pub invariant-loop-x : goal.invariant-loop-x

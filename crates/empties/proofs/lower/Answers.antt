@@ -1,9 +1,7 @@
-use mathlib.Core.Logic.{⊎_elim}
 use mathlib.Core.Path.{ap}
 use Prim.Native.Nat.{ℕ, ◌+◌}
 use native.Mathlib.Omega.{arith}
-use Rattle.empties.proofs.Moves.{stay, lower-row, keep_row}
-use borrow.Author.Rules.{rules}
+use Rattle.empties.proofs.Moves.{stay, lower-row}
 use Rattle.empties.proofs.lower.Goals as goal
 use Rattle.empties.proofs.lower.Goals.{then-code-p-eq-AT_END+else-code-p-eq0, else-code-p-eq-AT_END}
 

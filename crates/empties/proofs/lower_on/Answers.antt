@@ -1,6 +1,4 @@
-use borrow.Author.Tests.{not-true, not-false}
 use Rattle.empties.proofs.Moves.{moved-not, moved_on}
-use borrow.Author.Rules.{rules}
 use Rattle.empties.proofs.lower_on.Goals as goal
 
 pub returns-then-not-lower : goal.returns-then-not-lower

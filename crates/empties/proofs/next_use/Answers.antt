@@ -1,6 +1,5 @@
 use native.Mathlib.Omega.{arith}
 use Rattle.sparse.proofs.Rows.{owner-size}
-use borrow.Author.Rules.{rules}
 use Rattle.empties.proofs.next_use.Goals as goal
 
 pub overflow_mul-owner : goal.overflow_mul-owner

@@ -1,5 +1,4 @@
 use native.Mathlib.Omega.{arith}
-use borrow.Author.Rules.{rules}
 use Rattle.empties.proofs.Noted.{noted_of}
 use Rattle.empties.proofs.note_rules.Goals as goal
 

@@ -4,7 +4,6 @@ use native.Mathlib.Omega.{arith}
 use Rattle.heights.specs.Table.{up_of}
 use Rattle.sparse.specs.Cells.{empty_in}
 use Rattle.empties.proofs.Offers.{offer-end, offer-terminal, offer-taking, offer-symbol, offer-other}
-use borrow.Author.Rules.{rules}
 use Rattle.empties.proofs.offer.Goals as goal
 
 pub returns-then-kind-eq-AT_END : goal.returns-then-kind-eq-AT_END

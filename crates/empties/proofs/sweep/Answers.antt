@@ -1,8 +1,6 @@
 use mathlib.Core.Path.{◌∙◌}
-use Prim.Native.Nat.{◌-◌, ◌≤◌}
+use Prim.Native.Nat.{◌-◌}
 use native.Mathlib.Omega.{arith}
-use borrow.Author.Rules.{rules}
-use Rattle.empties.specs.Empty.{Moved}
 use Rattle.empties.proofs.Moves.{stay, after, From, from_end, from_next, from_all}
 use Rattle.empties.proofs.sweep.Goals as goal
 

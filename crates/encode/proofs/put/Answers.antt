@@ -1,10 +1,8 @@
-use mathlib.Core.Path.{◌≡◌, refl}
 use native.Mathlib.Omega.{arith}
 use Prim.Native.Nat.{◌≤◌}
 use lib.ListN.{length}
 use borrow.Author.Tests.{lt-ltb, le-ltb, le-leb, lt-leb}
 use Rattle.encode.specs.Out.{puts}
-use borrow.Author.Rules.{rules}
 use Rattle.encode.proofs.put.Goals as goal
 
 pub returns-then-at-limit : goal.returns-then-at-limit

@@ -1,9 +1,8 @@
-use mathlib.Core.Path.{◌≡◌, refl, sym, ◌∙◌}
-use mathlib.Core.List.{List, [], ◌∷◌}
-use Prim.Native.Nat.{ℕ, ◌+◌, ◌-◌, ◌≤◌, ◌<◌}
+use mathlib.Core.Path.{refl, sym, ◌∙◌}
+use Prim.Native.Nat.{◌-◌}
 use native.Mathlib.Omega.{arith}
-use lib.ListN.{length, drop, drop_of_length-le}
-use Rattle.encode.specs.Out.{State, state, puts}
+use lib.ListN.{drop_of_length-le}
+use Rattle.encode.specs.Out.{state}
 use Rattle.encode.proofs.Puts.{puts_none, turn}
 use Rattle.encode.proofs.put_all.Goals as goal
 
@@ -23,14 +22,13 @@ pub loop-i-smaller : goal.loop-i-smaller
 loop-i-smaller c = omega arith
 
 pub loop-i-preserved : goal.loop-i-preserved
-loop-i-preserved c =
-    (
-      omega arith,
-      omega arith,
-      turn c.args.limit.0 c.args.s.now c.loop-i.i
-          (state c.loop-i.at.0 c.loop-i.out) (state c.put-at.result.0 c.put-at.new.out)
-          c.loop-i-test.true c.put-at.ensures ∙ c.loop-i.invariant.2,
-    )
+loop-i-preserved c = (
+  omega arith,
+  omega arith,
+  turn c.args.limit.0 c.args.s.now c.loop-i.i
+      (state c.loop-i.at.0 c.loop-i.out) (state c.put-at.result.0 c.put-at.new.out)
+      c.loop-i-test.true c.put-at.ensures ∙ c.loop-i.invariant.2,
+)
 
 pub shape_of-out : goal.shape_of-out
 shape_of-out c = omega arith

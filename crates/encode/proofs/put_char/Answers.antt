@@ -1,13 +1,12 @@
-use mathlib.Core.Path.{◌≡◌, refl, sym, ap, ◌∙◌}
-use mathlib.Core.List.{List, [], ◌∷◌}
+use mathlib.Core.Path.{◌≡◌, ap, ◌∙◌}
+use mathlib.Core.List.{[], ◌∷◌}
 use Prim.Native.Nat.{ℕ, ◌+◌, ◌/◌, ◌%◌, ◌<◌, ◌≤◌}
 use native.Mathlib.Omega.{arith}
 use Rattle.text.specs.Utf8.{utf8}
 use Rattle.text.proofs.Step.{utf8-1, utf8-2}
 use Rattle.tree.specs.Tokens.{capped}
-use Rattle.encode.specs.Out.{State, state, puts, enc}
+use Rattle.encode.specs.Out.{enc}
 use Rattle.encode.proofs.Puts.{then, wrote-bytes, enc-one}
-use borrow.Author.Rules.{rules}
 use Rattle.encode.proofs.put_char.Goals as goal
 
 small : (c : ℕ) → c < 0x110000 → enc (c ∷ []) ≡ utf8 c

@@ -1,9 +1,8 @@
-use mathlib.Core.Path.{◌≡◌, refl}
+use mathlib.Core.Path.{refl}
 use Rattle.text.specs.Utf8.{utf8}
 use Rattle.encode.specs.Out.{enc}
 use Rattle.encode.proofs.Puts.{wrote-bytes, wrote-text}
 use Rattle.encode.proofs.Texts.{spelt-name, spelt-amp, spelt-lt, spelt-gt, spelt-cr, spelt-value, spelt-text}
-use borrow.Author.Rules.{rules}
 use Rattle.encode.proofs.put_escaped.Goals as goal
 
 pub returns-then-mode-eq-PLAIN : goal.returns-then-mode-eq-PLAIN

@@ -1,9 +1,8 @@
-use mathlib.Core.List.{List, [], ◌∷◌}
-use Prim.Native.Nat.{ℕ, ◌+◌, ◌/◌, ◌%◌}
+use mathlib.Core.List.{[], ◌∷◌}
+use Prim.Native.Nat.{◌+◌, ◌/◌, ◌%◌}
 use Rattle.text.proofs.Step.{utf8-4}
 use Rattle.encode.specs.Out.{last_two}
 use Rattle.encode.proofs.Puts.{then}
-use borrow.Author.Rules.{rules}
 use Rattle.encode.proofs.put_four.Goals as goal
 
 pub returns : goal.returns

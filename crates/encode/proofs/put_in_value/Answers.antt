@@ -1,9 +1,8 @@
-use mathlib.Core.Path.{◌≡◌, refl}
+use mathlib.Core.Path.{refl}
 use Rattle.text.specs.Utf8.{utf8}
 use Rattle.encode.specs.Out.{enc}
 use Rattle.encode.proofs.Puts.{wrote-bytes, wrote-text}
 use Rattle.encode.proofs.Texts.{value-apos, value-lf, value-tab, value-other}
-use borrow.Author.Rules.{rules}
 use Rattle.encode.proofs.put_in_value.Goals as goal
 
 pub returns-then-c-eq39 : goal.returns-then-c-eq39

@@ -1,8 +1,6 @@
-use mathlib.Core.List.{List, [], ◌∷◌}
-use Prim.Native.Nat.{ℕ, ◌+◌, ◌/◌, ◌%◌}
-use Rattle.encode.specs.Out.{last_two}
+use mathlib.Core.List.{[], ◌∷◌}
+use Prim.Native.Nat.{◌+◌, ◌/◌, ◌%◌}
 use Rattle.encode.proofs.Puts.{then}
-use borrow.Author.Rules.{rules}
 use Rattle.encode.proofs.put_last.Goals as goal
 
 pub returns : goal.returns

@@ -1,10 +1,9 @@
-use mathlib.Core.Path.{◌≡◌, refl, sym, ap, ◌∙◌}
-use mathlib.Core.List.{List, [], ◌∷◌}
-use Prim.Native.Nat.{ℕ, ◌+◌, ◌-◌, ◌≤◌, ◌<◌}
+use mathlib.Core.Path.{◌≡◌, refl, ap}
+use Prim.Native.Nat.{ℕ, ◌-◌, ◌≤◌}
 use native.Mathlib.Omega.{arith}
-use lib.ListN.{length, take, drop}
-use Rattle.text.specs.Lists.{Text, concat_map}
-use Rattle.encode.specs.Out.{State, state, puts, enc, spelt}
+use lib.ListN.{take, drop}
+use Rattle.text.specs.Lists.{concat_map}
+use Rattle.encode.specs.Out.{state, puts, enc, spelt}
 use Rattle.encode.proofs.Texts.{text-on, text-end, stretch-none}
 use Rattle.encode.proofs.put_text.Goals as goal
 

@@ -1,11 +1,8 @@
-use mathlib.Core.Path.{◌≡◌, refl, sym, ap, ◌∙◌}
-use mathlib.Core.List.{List, [], ◌∷◌}
-use Prim.Native.Nat.{ℕ, ◌+◌, ◌-◌, ◌≤◌, ◌<◌}
-use native.Mathlib.Omega.{arith}
+use mathlib.Core.Path.{◌≡◌}
+use Prim.Native.Nat.{◌-◌}
 use lib.ListN.{length, take, drop}
-use Rattle.text.specs.Lists.{Text, concat_map}
-use Rattle.encode.specs.Out.{State, state, puts, enc, spelt}
-use Rattle.encode.proofs.Texts.{text-on, text-end, stretch-none}
+use Rattle.text.specs.Lists.{concat_map}
+use Rattle.encode.specs.Out.{state, puts, enc, spelt}
 use Rattle.encode.proofs.put_text.Given as goal
 
 abbrev pub invariant-loop-n : goal.invariant-loop-n

@@ -1,12 +1,10 @@
 use mathlib.Core.Path.{◌∙◌}
-use borrow.Author.Tests.{not-true, not-false}
 use Rattle.opening.proofs.Texts.{got-part}
 use Rattle.job.proofs.Readings.{choosable}
 use Rattle.job.proofs.Parsed.{readable}
 use Rattle.tells.proofs.Tells.{not_so}
 use Rattle.resume.proofs.Lines.{resumed-at}
 use Rattle.ending.proofs.Ended.{not-resumed, not_yet, other-table, parsed}
-use borrow.Author.Rules.{rules}
 use Rattle.ending.proofs.end_read.Goals as goal
 
 pub returns-in_default : goal.returns-in_default

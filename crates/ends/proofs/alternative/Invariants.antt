@@ -1,17 +1,10 @@
-use borrow.Author.Rules.{rules}
-use native.Mathlib.Omega.{arith}
-use mathlib.Core.Path.{◌≡◌, refl, sym, subst}
 use mathlib.Core.List.{List}
-use mathlib.Core.Logic.{⊎_elim}
 use Prim.Native.Nat.{ℕ, ◌-◌, ◌<◌}
-use lib.ListN.{length, length-replicate}
+use lib.ListN.{length}
 use Rattle.bits.specs.Bits.{Has}
 use Rattle.ends.specs.Spans.{OnList, Steps}
 use Rattle.ends.specs.Table.{Ground, Sound}
-use Rattle.ends.proofs.Reach.{list_inside}
-use Rattle.moves.proofs.Cells.{row_of, none_has}
-use Rattle.ends.proofs.Laws.{moved-steps}
-use Rattle.ends.proofs.Rounds.{Leads, leads-start, leads-step, tried-nowhere, tried-none, tried-end}
+use Rattle.ends.proofs.Rounds.{Leads}
 use Rattle.ends.proofs.alternative.Given as goal
 
 abbrev pub invariant-loop-p : goal.invariant-loop-p

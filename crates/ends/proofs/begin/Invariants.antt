@@ -1,14 +1,5 @@
-use borrow.Author.Rules.{rules}
-use native.Mathlib.Omega.{arith}
-use mathlib.Core.Bool.{Bool, true, false}
-use mathlib.Core.Path.{◌≡◌, refl, sym, subst}
-use mathlib.Core.List.{List}
-use Prim.Native.Nat.{ℕ, ◌+◌, ◌*◌, ◌-◌, ◌<◌, ◌≤◌}
-use lib.ListN.{length}
-use Rattle.chart.specs.Heights.{stretches}
+use Prim.Native.Nat.{◌-◌, ◌≤◌}
 use Rattle.ends.specs.Table.{Opened}
-use Rattle.moves.proofs.Cells.{row_of}
-use Rattle.ends.proofs.Laws.{opened-start, opened-join}
 use Rattle.ends.proofs.begin.Given as goal
 
 abbrev pub invariant-loop-rule : goal.invariant-loop-rule

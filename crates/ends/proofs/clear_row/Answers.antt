@@ -1,15 +1,8 @@
-use borrow.Author.Rules.{rules}
 use native.Mathlib.Omega.{arith}
-use mathlib.Core.Bool.{Bool, true, false}
-use mathlib.Core.Path.{◌≡◌, refl, sym, ap, subst, ◌∙◌}
-use mathlib.Core.List.{List}
-use mathlib.Core.Logic.{◌⊎◌, inl, inr, ⊎_elim}
-use Prim.Native.Nat.{ℕ, ◌+◌, ◌*◌, ◌-◌, ◌/◌, ◌%◌, ◌^◌, ◌<◌, ◌≤◌}
-use lib.ListN.{length, get_or}
-use Rattle.bits.specs.Bits.{Lit, Has}
-use Rattle.moves.specs.Moves.{Row}
+use mathlib.Core.Bool.{true, false}
+use Prim.Native.Nat.{◌-◌}
 use Rattle.moves.proofs.Cells.{column-on, cell-inside}
-use Rattle.ends.proofs.Cells.{Clearing, clear-start, clear_step, clear-end}
+use Rattle.ends.proofs.Cells.{clear-start, clear_step, clear-end}
 use Rattle.ends.proofs.clear_row.Goals as goal
 
 pub loop-w-init : goal.loop-w-init
@@ -34,12 +27,11 @@ bounds-main-x c =
     (arith, z, c.loop-w.invariant.1.long)
 
 pub loop-w-preserved : goal.loop-w-preserved
-loop-w-preserved c =
-    (
-      omega (arith, c.loop-w.invariant.0),
-      clear_step c.requires.1 c.loop-w-test.true c.loop-w.invariant.0
-          (rw c.column.ensures at c.cell-x.ensures) c.loop-w.invariant.1,
-    )
+loop-w-preserved c = (
+  omega (arith, c.loop-w.invariant.0),
+  clear_step c.requires.1 c.loop-w-test.true c.loop-w.invariant.0
+      (rw c.column.ensures at c.cell-x.ensures) c.loop-w.invariant.1,
+)
 
 pub shape_of-main : goal.shape_of-main
 shape_of-main c = c.loop-w.invariant.1.long

@@ -1,15 +1,5 @@
-use borrow.Author.Rules.{rules}
-use native.Mathlib.Omega.{arith}
-use mathlib.Core.Bool.{Bool, true, false}
-use mathlib.Core.Path.{◌≡◌, refl, sym, ap, subst, ◌∙◌}
-use mathlib.Core.List.{List}
-use mathlib.Core.Logic.{◌⊎◌, inl, inr, ⊎_elim}
-use Prim.Native.Nat.{ℕ, ◌+◌, ◌*◌, ◌-◌, ◌/◌, ◌%◌, ◌^◌, ◌<◌, ◌≤◌}
-use lib.ListN.{length, get_or}
-use Rattle.bits.specs.Bits.{Lit, Has}
-use Rattle.moves.specs.Moves.{Row}
-use Rattle.moves.proofs.Cells.{column-on, cell-inside}
-use Rattle.ends.proofs.Cells.{Clearing, clear-start, clear_step, clear-end}
+use Prim.Native.Nat.{◌+◌, ◌-◌, ◌/◌, ◌≤◌}
+use Rattle.ends.proofs.Cells.{Clearing}
 use Rattle.ends.proofs.clear_row.Given as goal
 
 abbrev pub invariant-loop-w : goal.invariant-loop-w

@@ -1,8 +1,3 @@
-use borrow.Author.Rules.{rules}
-use native.Mathlib.Omega.{arith}
-use Prim.Native.Nat.{ℕ}
-use Rattle.bits.specs.Bits.{lacking}
-use Rattle.ends.specs.Table.{Settled}
 use mathlib.Core.Path.{◌∙◌}
 use Rattle.ends.proofs.Laws.{settled-start, settled-join, settling-as}
 use Rattle.ends.proofs.Rounds.{closing_end}

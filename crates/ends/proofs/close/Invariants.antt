@@ -1,11 +1,5 @@
-use borrow.Author.Rules.{rules}
-use native.Mathlib.Omega.{arith}
-use Prim.Native.Nat.{ℕ}
 use Rattle.bits.specs.Bits.{lacking}
 use Rattle.ends.specs.Table.{Settled}
-use mathlib.Core.Path.{◌∙◌}
-use Rattle.ends.proofs.Laws.{settled-start, settled-join, settling-as}
-use Rattle.ends.proofs.Rounds.{closing_end}
 use Rattle.ends.proofs.close.Given as goal
 
 abbrev pub invariant-loop-s : goal.invariant-loop-s

@@ -1,17 +1,10 @@
-use borrow.Author.Rules.{rules}
 use native.Mathlib.Omega.{arith}
-use mathlib.Core.Bool.{Bool, true, false}
-use mathlib.Core.Path.{◌≡◌, refl, sym, ap, subst, ◌∙◌}
-use mathlib.Core.List.{List}
-use mathlib.Core.Logic.{◌⊎◌, inl, inr, ⊎_elim}
-use Prim.Native.Nat.{ℕ, ◌+◌, ◌*◌, ◌-◌, ◌/◌, ◌%◌, ◌^◌, ◌<◌, ◌≤◌}
-use lib.ListN.{length, get_or}
-use Rattle.bits.specs.Bits.{Lit, Has}
-use Rattle.reach.specs.Work.{Listed}
-use Rattle.ends.specs.Spans.{OnList}
+use mathlib.Core.Bool.{true, false}
+use mathlib.Core.Path.{refl}
+use Prim.Native.Nat.{◌-◌}
 use Rattle.ends.proofs.Reach.{link_here, link-less, link-next}
 use Rattle.ends.proofs.Laws.{ground-as}
-use Rattle.ends.proofs.Rounds.{Trials, trials-start, trials-next, trials-end}
+use Rattle.ends.proofs.Rounds.{trials-start, trials-next, trials-end}
 use Rattle.ends.proofs.derive.Goals as goal
 
 pub overflow_mul-rule : goal.overflow_mul-rule

@@ -1,12 +1,7 @@
-use borrow.Author.Rules.{rules}
-use native.Mathlib.Omega.{arith}
-use mathlib.Core.Path.{◌≡◌, refl, sym, subst, ◌∙◌}
-use mathlib.Core.List.{List}
-use Prim.Native.Nat.{ℕ, ◌+◌, ◌*◌, ◌-◌, ◌<◌, ◌≤◌}
+use mathlib.Core.Path.{◌≡◌}
+use Prim.Native.Nat.{◌+◌, ◌-◌, ◌≤◌}
 use lib.ListN.{length}
-use Rattle.chart.specs.Heights.{stretches}
-use Rattle.ends.proofs.Laws.{ground-as, settling-as}
-use Rattle.ends.proofs.Rounds.{Exact, exact_none, opened-sound, exact-closed, exact-empty, exact-filled}
+use Rattle.ends.proofs.Rounds.{Exact}
 use Rattle.ends.proofs.fill.Given as goal
 
 abbrev pub invariant-loop-m : goal.invariant-loop-m

@@ -1,7 +1,5 @@
-use borrow.Author.Rules.{rules}
 use native.Mathlib.Omega.{arith}
-use Prim.Native.Nat.{◌-◌, ◌≤◌}
-use Rattle.ends.specs.Table.{Led}
+use Prim.Native.Nat.{◌-◌}
 use Rattle.ends.proofs.Terminals.{led-start, led-next, led-nowhere}
 use Rattle.ends.proofs.lead.Goals as goal
 
@@ -58,12 +56,11 @@ loop-p-smaller c =
     omega (arith, c.loop-p.invariant.1.inside)
 
 pub loop-p-preserved : goal.loop-p-preserved
-loop-p-preserved c =
-    (
-      omega (arith, c.loop-p.invariant.0, c.if-s-x.false),
-      led-next c.requires.shape c.loop-p.invariant.0 c.loop-p.invariant.1 c.loop-p-test.true c.if-marks-x-lt-FITS.false
-          (omega (arith, c.wide-width.ensures)) (omega (arith, c.loop-p.invariant.0, c.if-s-x.false)),
-    )
+loop-p-preserved c = (
+  omega (arith, c.loop-p.invariant.0, c.if-s-x.false),
+  led-next c.requires.shape c.loop-p.invariant.0 c.loop-p.invariant.1 c.loop-p-test.true c.if-marks-x-lt-FITS.false
+      (omega (arith, c.wide-width.ensures)) (omega (arith, c.loop-p.invariant.0, c.if-s-x.false)),
+)
 
 pub returns : goal.returns
 returns c = c.loop-p.invariant.1

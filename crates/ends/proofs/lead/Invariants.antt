@@ -1,8 +1,5 @@
-use borrow.Author.Rules.{rules}
-use native.Mathlib.Omega.{arith}
 use Prim.Native.Nat.{◌-◌, ◌≤◌}
 use Rattle.ends.specs.Table.{Led}
-use Rattle.ends.proofs.Terminals.{led-start, led-next, led-nowhere}
 use Rattle.ends.proofs.lead.Given as goal
 
 abbrev pub invariant-loop-p : goal.invariant-loop-p

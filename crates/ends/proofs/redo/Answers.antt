@@ -1,4 +1,3 @@
-use borrow.Author.Rules.{rules}
 use native.Mathlib.Omega.{arith}
 use Rattle.ends.proofs.Rounds.{redone-none}
 use Rattle.ends.proofs.redo.Goals as goal

@@ -1,7 +1,6 @@
-use borrow.Author.Rules.{rules}
 use native.Mathlib.Omega.{arith}
-use mathlib.Core.Path.{◌≡◌, refl, sym, subst}
-use Prim.Native.Nat.{ℕ, ◌+◌, ◌*◌, ◌-◌, ◌<◌, ◌≤◌}
+use mathlib.Core.Path.{subst}
+use Prim.Native.Nat.{ℕ, ◌-◌}
 use Rattle.ends.specs.Table.{Rounded}
 use Rattle.ends.proofs.Laws.{settling-as}
 use Rattle.ends.proofs.Rounds.{rounded-start, rounded-next}
@@ -23,11 +22,10 @@ loop-rule-smaller c =
     omega (arith, c.loop-rule-test.true)
 
 pub loop-rule-preserved : goal.loop-rule-preserved
-loop-rule-preserved c =
-    (
-      omega (arith, c.loop-rule.invariant.0),
-      rounded-next c.loop-rule.grew c.redo-more.result c.loop-rule.invariant.1 c.redo-more.ensures (omega (arith, c.loop-rule-test.true)) c.either-grew.ensures,
-    )
+loop-rule-preserved c = (
+  omega (arith, c.loop-rule.invariant.0),
+  rounded-next c.loop-rule.grew c.redo-more.result c.loop-rule.invariant.1 c.redo-more.ensures (omega (arith, c.loop-rule-test.true)) c.either-grew.ensures,
+)
 
 pub shape_of-main : goal.shape_of-main
 shape_of-main c = c.loop-rule.invariant.1.settled.long

@@ -1,10 +1,5 @@
-use borrow.Author.Rules.{rules}
-use native.Mathlib.Omega.{arith}
-use mathlib.Core.Path.{◌≡◌, refl, sym, subst}
-use Prim.Native.Nat.{ℕ, ◌+◌, ◌*◌, ◌-◌, ◌<◌, ◌≤◌}
+use Prim.Native.Nat.{◌-◌, ◌≤◌}
 use Rattle.ends.specs.Table.{Rounded}
-use Rattle.ends.proofs.Laws.{settling-as}
-use Rattle.ends.proofs.Rounds.{rounded-start, rounded-next}
 use Rattle.ends.proofs.round.Given as goal
 
 abbrev pub invariant-loop-rule : goal.invariant-loop-rule

@@ -1,12 +1,6 @@
-use borrow.Author.Rules.{rules}
 use native.Mathlib.Omega.{arith}
-use mathlib.Core.Bool.{Bool, true, false}
-use mathlib.Core.Path.{◌≡◌, refl, sym, ap, subst, ◌∙◌}
-use mathlib.Core.List.{List}
-use mathlib.Core.Logic.{◌⊎◌, inl, inr, ⊎_elim}
-use Prim.Native.Nat.{ℕ, ◌+◌, ◌*◌, ◌-◌, ◌/◌, ◌%◌, ◌^◌, ◌<◌, ◌≤◌}
-use lib.ListN.{length, get_or}
-use Rattle.bits.specs.Bits.{Lit, Has}
+use mathlib.Core.Bool.{false}
+use Prim.Native.Nat.{◌-◌}
 use Rattle.ends.proofs.Laws.{settled-start}
 use Rattle.ends.proofs.turn.Goals as goal
 
@@ -32,13 +26,12 @@ derive-requires c =
     (c.requires.0, c.requires.1, omega (arith, c.if-marks-m-eq0.false))
 
 pub wake-requires : goal.wake-requires
-wake-requires c =
-    (
-      c.requires.2,
-      omega (arith, c.requires.0.ground.marks-long, c.requires.0.on),
-      omega (arith, c.requires.0.on, c.requires.0.ground.short),
-      omega (arith, c.requires.1, c.requires.0.ground.shape.small),
-    )
+wake-requires c = (
+  c.requires.2,
+  omega (arith, c.requires.0.ground.marks-long, c.requires.0.on),
+  omega (arith, c.requires.0.on, c.requires.0.ground.short),
+  omega (arith, c.requires.1, c.requires.0.ground.shape.small),
+)
 
 pub shape_of-main-then-derive : goal.shape_of-main-then-derive
 shape_of-main-then-derive c = c.derive.ensures.settled.long

@@ -1,7 +1,7 @@
 use Prim.Native.Nat.{◌-◌}
 use native.Mathlib.Omega.{arith}
 use borrow.Author.Rules.{rules}
-use Rattle.exported.proofs.Copies.{Copied, copied_none, copied_more, copied_all}
+use Rattle.exported.proofs.Copies.{copied_none, copied_more, copied_all}
 use Rattle.exported.proofs.copy.Goals as goal
 
 pub loop-i-init : goal.loop-i-init

@@ -1,7 +1,5 @@
 use Prim.Native.Nat.{◌-◌}
-use native.Mathlib.Omega.{arith}
-use borrow.Author.Rules.{rules}
-use Rattle.exported.proofs.Copies.{Copied, copied_none, copied_more, copied_all}
+use Rattle.exported.proofs.Copies.{Copied}
 use Rattle.exported.proofs.copy.Given as goal
 
 abbrev pub invariant-loop-i : goal.invariant-loop-i

@@ -2,7 +2,6 @@ use native.Mathlib.Omega.{arith}
 use mathlib.Core.Path.{◌≡◌}
 use Prim.Native.Nat.{ℕ}
 use borrow.Author.Tests.{leb-true}
-use borrow.Author.Rules.{rules}
 use Rattle.extent.proofs.fits.Goals as goal
 
 pub returns-then-e-lt-UNKNOWN : goal.returns-then-e-lt-UNKNOWN

@@ -2,7 +2,6 @@ use native.Mathlib.Omega.{arith}
 use mathlib.Core.Path.{ap, ◌∙◌}
 use Prim.Native.Nat.{ℕ, ◌+◌, ◌*◌}
 use Rattle.markup.proofs.Pieces.{named_count}
-use borrow.Author.Rules.{rules}
 use Rattle.extent.proofs.tag_room.Goals as goal
 
 pub returns : goal.returns

@@ -1,6 +1,5 @@
 use native.Mathlib.Omega.{arith}
 use Rattle.fault.proofs.Alike.{agrees-end, agrees-over, agrees-by}
-use borrow.Author.Rules.{rules}
 use Rattle.fault.proofs.agrees.Goals as goal
 
 pub returns-then-count-k : goal.returns-then-count-k

@@ -1,14 +1,9 @@
-use borrow.Author.Rules.{rules}
 use native.Mathlib.Omega.{arith}
-use mathlib.Core.Path.{◌≡◌, sym, ◌∙◌, ap}
-use Prim.Native.Nat.{ℕ, ◌+◌, ◌*◌}
-use lib.ListN.{length, take, drop, get_or}
-use Rattle.viable.specs.Stands.{alike}
+use mathlib.Core.Path.{◌∙◌}
+use Prim.Native.Nat.{◌+◌, ◌*◌}
+use lib.ListN.{take, drop, get_or}
 use Rattle.terminals.proofs.Places.{term-two, term-counted}
 use Rattle.fault.proofs.Alike.{begun-quoted, begun-coded, begun-none, alike-within, begun-terminal, begun-other}
-use Rattle.fault.proofs.begun.Reads as reads
-use Rattle.fault.proofs.common.Reads as common-reads
-use Rattle.text.proofs.wide.Reads as wide-reads
 use Rattle.fault.proofs.begun.Goals as goal
 
 pub overflow_mul-p : goal.overflow_mul-p

@@ -1,8 +1,6 @@
 use native.Mathlib.Omega.{arith}
 use Prim.Native.Nat.{◌-◌}
-use Rattle.fault.proofs.Alike.{Agreeing, agreeing-start, agreeing-next, agreeing-end}
-use Rattle.fault.proofs.common.Reads as reads
-use Rattle.fault.proofs.agrees.Reads as agrees-reads
+use Rattle.fault.proofs.Alike.{agreeing-start, agreeing-next, agreeing-end}
 use Rattle.fault.proofs.common.Goals as goal
 
 pub loop-k-init : goal.loop-k-init

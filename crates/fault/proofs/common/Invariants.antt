@@ -1,8 +1,5 @@
-use native.Mathlib.Omega.{arith}
 use Prim.Native.Nat.{◌-◌}
-use Rattle.fault.proofs.Alike.{Agreeing, agreeing-start, agreeing-next, agreeing-end}
-use Rattle.fault.proofs.common.Reads as reads
-use Rattle.fault.proofs.agrees.Reads as agrees-reads
+use Rattle.fault.proofs.Alike.{Agreeing}
 use Rattle.fault.proofs.common.Given as goal
 
 abbrev pub invariant-loop-k : goal.invariant-loop-k

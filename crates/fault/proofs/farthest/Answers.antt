@@ -1,6 +1,5 @@
 use native.Mathlib.Omega.{arith}
-use Prim.Native.Nat.{◌+◌, ◌-◌, ◌≤◌}
-use Rattle.fault.specs.Far.{Reach}
+use Prim.Native.Nat.{◌-◌}
 use Rattle.fault.proofs.Ranges.{reach-none, reach-join, reach-end, ranging-at}
 use Rattle.fault.proofs.farthest.Goals as goal
 

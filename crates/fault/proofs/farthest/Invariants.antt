@@ -1,7 +1,5 @@
-use native.Mathlib.Omega.{arith}
 use Prim.Native.Nat.{◌+◌, ◌-◌, ◌≤◌}
 use Rattle.fault.specs.Far.{Reach}
-use Rattle.fault.proofs.Ranges.{reach-none, reach-join, reach-end, ranging-at}
 use Rattle.fault.proofs.farthest.Given as goal
 
 abbrev pub invariant-loop-i : goal.invariant-loop-i

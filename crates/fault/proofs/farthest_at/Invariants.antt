@@ -1,7 +1,5 @@
-use native.Mathlib.Omega.{arith}
 use Prim.Native.Nat.{◌-◌, ◌≤◌}
 use Rattle.fault.specs.Far.{Ranged}
-use Rattle.fault.proofs.Ranges.{ranged-none, ranged-join, ranged-end}
 use Rattle.fault.proofs.farthest_at.Given as goal
 
 abbrev pub invariant-loop-p : goal.invariant-loop-p

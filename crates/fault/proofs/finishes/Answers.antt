@@ -1,4 +1,3 @@
-use borrow.Author.Rules.{rules}
 use native.Mathlib.Omega.{arith}
 use Rattle.fault.proofs.Keys.{tells-end, tells-other, tells-terminal}
 use Rattle.fault.proofs.finishes.Goals as goal

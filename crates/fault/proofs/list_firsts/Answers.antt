@@ -1,12 +1,8 @@
-use borrow.Author.Rules.{rules}
 use native.Mathlib.Omega.{arith}
 use Prim.Native.Nat.{ℕ}
 use lib.ListN.{length-replicate}
 use Rattle.chart.proofs.Users.{all-zero}
 use Rattle.fault.proofs.Keys.{key_below, firsts-of}
-use Rattle.fault.proofs.list_firsts.Reads as reads
-use Rattle.chart.proofs.list_uses.Reads as list-uses-reads
-use Rattle.fault.proofs.put_keys.Reads as put-keys-reads
 use Rattle.fault.proofs.list_firsts.Goals as goal
 
 pub put_keys-requires : goal.put_keys-requires

@@ -1,9 +1,6 @@
 use native.Mathlib.Omega.{arith}
 use mathlib.Core.Path.{refl}
-use Rattle.fault.proofs.Keys.{Keying, keying-start, keying-tells, keying-next, keying-end}
-use Rattle.fault.proofs.put_keys.Reads as reads
-use Rattle.fault.proofs.finishes.Reads as finishes-reads
-use Rattle.fault.proofs.put_key.Reads as put-key-reads
+use Rattle.fault.proofs.Keys.{keying-start, keying-tells, keying-next, keying-end}
 use Rattle.fault.proofs.put_keys.Goals as goal
 
 pub loop-p-init : goal.loop-p-init
@@ -17,12 +14,11 @@ finishes-alive-requires c =
     (c.requires.0, omega (arith, c.loop-p.invariant.low, c.loop-p-test.true), keying-tells c.requires.0.shape c.loop-p.invariant c.loop-p-test.true)
 
 pub put_key-requires : goal.put_key-requires
-put_key-requires c =
-    (
-      omega (arith, c.loop-p.invariant.low, c.loop-p-test.true, c.requires.0.shape.room),
-      omega (arith, c.loop-p.invariant.low, c.loop-p-test.true, c.loop-p.invariant.long, c.requires.1),
-      omega (arith, c.loop-p.invariant.low, c.loop-p-test.true, c.requires.0.shape.small),
-    )
+put_key-requires c = (
+  omega (arith, c.loop-p.invariant.low, c.loop-p-test.true, c.requires.0.shape.room),
+  omega (arith, c.loop-p.invariant.low, c.loop-p-test.true, c.loop-p.invariant.long, c.requires.1),
+  omega (arith, c.loop-p.invariant.low, c.loop-p-test.true, c.requires.0.shape.small),
+)
 
 pub loop-p-smaller : goal.loop-p-smaller
 loop-p-smaller c = omega (arith, c.loop-p-test.true)

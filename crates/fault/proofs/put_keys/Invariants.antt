@@ -1,9 +1,4 @@
-use native.Mathlib.Omega.{arith}
-use mathlib.Core.Path.{refl}
-use Rattle.fault.proofs.Keys.{Keying, keying-start, keying-tells, keying-next, keying-end}
-use Rattle.fault.proofs.put_keys.Reads as reads
-use Rattle.fault.proofs.finishes.Reads as finishes-reads
-use Rattle.fault.proofs.put_key.Reads as put-key-reads
+use Rattle.fault.proofs.Keys.{Keying}
 use Rattle.fault.proofs.put_keys.Given as goal
 
 abbrev pub invariant-loop-p : goal.invariant-loop-p

@@ -1,5 +1,3 @@
-use mathlib.Core.Path.{◌≡◌, refl, sym, subst}
-use borrow.Author.Tests.{not-true, not-false}
 use Rattle.rules.proofs.Whole.{here}
 use Rattle.heights.proofs.Exact.{safe}
 use Rattle.prepare.proofs.Rows.{fitted}
@@ -7,7 +5,6 @@ use Rattle.full.proofs.Whole.{coded}
 use Rattle.tells.proofs.Tells.{not_so}
 use Rattle.fixpoint.proofs.Tests.{most-by}
 use Rattle.finish.proofs.Off.{not-finished}
-use borrow.Author.Rules.{rules}
 use native.Mathlib.Omega.{arith}
 use Rattle.finish.proofs.finish.Goals as goal
 

@@ -4,7 +4,6 @@ use Rattle.chart.proofs.Users.{all-zero}
 use Rattle.plain_reading.proofs.Plain.{finished-plain}
 use Rattle.parser.proofs.Located.{as-walked, fails}
 use Rattle.finish.proofs.Off.{settled-walkable, settled-finished, settled-placing, settled-fault}
-use borrow.Author.Rules.{rules}
 use borrow.Enum.Refused.{opened}
 use Rattle.finish.proofs.read_off.Goals as goal
 

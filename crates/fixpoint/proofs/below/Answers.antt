@@ -1,5 +1,4 @@
 use Rattle.fixpoint.proofs.Tests.{below-zero, below_by}
-use borrow.Author.Rules.{rules}
 use native.Mathlib.Omega.{arith}
 use Rattle.fixpoint.proofs.below.Goals as goal
 

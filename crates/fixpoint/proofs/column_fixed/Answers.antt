@@ -1,6 +1,5 @@
-use Prim.Native.Nat.{ℕ, ◌+◌, ◌-◌, ◌≤◌, ◌<◌}
-use borrow.Author.Tests.{not-true, not-false}
-use Rattle.fixpoint.specs.Fixed.{DotsFixed, StartsFixed}
+use Prim.Native.Nat.{ℕ, ◌+◌, ◌-◌}
+use Rattle.fixpoint.specs.Fixed.{DotsFixed}
 use Rattle.tells.proofs.Tells.{not_so}
 use Rattle.fixpoint.proofs.Tests.{and-here, none-missed, all-hit}
 use native.Mathlib.Omega.{arith}
@@ -28,12 +27,11 @@ loop-i-smaller c =
     omega (arith, c.loop-i-test.true)
 
 pub loop-i-preserved : goal.loop-i-preserved
-loop-i-preserved c =
-    (
-      omega (arith, c.loop-i-test.true),
-      and-here (λ (i : ℕ). DotsFixed c.args.code.now c.args.fits.now c.args.size c.args.n c.args.main.now i c.args.j c.args.size)
-          c.loop-i.i c.loop-i.invariant.1 (c.stretch_fixed.ensures.yes c.if-not-stretch_fixed.false),
-    )
+loop-i-preserved c = (
+  omega (arith, c.loop-i-test.true),
+  and-here (λ (i : ℕ). DotsFixed c.args.code.now c.args.fits.now c.args.size c.args.n c.args.main.now i c.args.j c.args.size)
+      c.loop-i.i c.loop-i.invariant.1 (c.stretch_fixed.ensures.yes c.if-not-stretch_fixed.false),
+)
 
 pub returns : goal.returns
 returns c =

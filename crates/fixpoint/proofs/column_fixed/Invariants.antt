@@ -1,9 +1,5 @@
-use Prim.Native.Nat.{ℕ, ◌+◌, ◌-◌, ◌≤◌, ◌<◌}
-use borrow.Author.Tests.{not-true, not-false}
-use Rattle.fixpoint.specs.Fixed.{DotsFixed, StartsFixed}
-use Rattle.tells.proofs.Tells.{not_so}
-use Rattle.fixpoint.proofs.Tests.{and-here, none-missed, all-hit}
-use native.Mathlib.Omega.{arith}
+use Prim.Native.Nat.{◌+◌, ◌-◌, ◌≤◌}
+use Rattle.fixpoint.specs.Fixed.{StartsFixed}
 use Rattle.fixpoint.proofs.column_fixed.Given as goal
 
 abbrev pub invariant-loop-i : goal.invariant-loop-i

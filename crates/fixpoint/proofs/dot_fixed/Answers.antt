@@ -2,10 +2,8 @@ use mathlib.Core.Path.{ap}
 use Prim.Native.Nat.{ℕ}
 use lib.ListN.{get_or}
 use Rattle.heights.proofs.Cells.{at_room}
-use borrow.Author.Tests.{not-true, not-false}
 use Rattle.tells.proofs.Tells.{not_so}
 use Rattle.fixpoint.proofs.Tests.{dot-greatest, dot-lower, dot-none, dot-given, most-by}
-use borrow.Author.Rules.{rules}
 use native.Mathlib.Omega.{arith}
 use Rattle.fixpoint.proofs.dot_fixed.Goals as goal
 

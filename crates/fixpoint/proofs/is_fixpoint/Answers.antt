@@ -1,6 +1,5 @@
-use Prim.Native.Nat.{ℕ, ◌+◌, ◌-◌, ◌≤◌, ◌<◌}
-use borrow.Author.Tests.{not-true, not-false}
-use Rattle.fixpoint.specs.Fixed.{StartsFixed, EndsFixed}
+use Prim.Native.Nat.{ℕ, ◌+◌, ◌-◌}
+use Rattle.fixpoint.specs.Fixed.{StartsFixed}
 use Rattle.tells.proofs.Tells.{not_so, hit, miss}
 use Rattle.fixpoint.proofs.Tests.{and-here, ends-fixed, fixed-ends}
 use native.Mathlib.Omega.{arith}
@@ -27,12 +26,11 @@ loop-j-smaller c =
     omega (arith, c.loop-j-test.true)
 
 pub loop-j-preserved : goal.loop-j-preserved
-loop-j-preserved c =
-    (
-      omega (arith, c.loop-j-test.true),
-      and-here (λ (j : ℕ). StartsFixed c.args.code.now c.args.fits.now c.args.size c.args.n c.args.main.now j (j + 1))
-          c.loop-j.j c.loop-j.invariant.1 (c.column_fixed.ensures.yes c.if-not-column_fixed.false),
-    )
+loop-j-preserved c = (
+  omega (arith, c.loop-j-test.true),
+  and-here (λ (j : ℕ). StartsFixed c.args.code.now c.args.fits.now c.args.size c.args.n c.args.main.now j (j + 1))
+      c.loop-j.j c.loop-j.invariant.1 (c.column_fixed.ensures.yes c.if-not-column_fixed.false),
+)
 
 pub returns : goal.returns
 returns c =

@@ -1,9 +1,5 @@
-use Prim.Native.Nat.{ℕ, ◌+◌, ◌-◌, ◌≤◌, ◌<◌}
-use borrow.Author.Tests.{not-true, not-false}
-use Rattle.fixpoint.specs.Fixed.{StartsFixed, EndsFixed}
-use Rattle.tells.proofs.Tells.{not_so, hit, miss}
-use Rattle.fixpoint.proofs.Tests.{and-here, ends-fixed, fixed-ends}
-use native.Mathlib.Omega.{arith}
+use Prim.Native.Nat.{◌+◌, ◌-◌, ◌≤◌}
+use Rattle.fixpoint.specs.Fixed.{EndsFixed}
 use Rattle.fixpoint.proofs.is_fixpoint.Given as goal
 
 abbrev pub invariant-loop-j : goal.invariant-loop-j

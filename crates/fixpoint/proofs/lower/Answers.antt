@@ -1,7 +1,6 @@
 use Prim.Native.Nat.{◌+◌, ◌*◌}
 use lib.ListN.{length-set}
 use Rattle.fixpoint.proofs.Tests.{owner-inside, lower-none, lower-keep, lower-set}
-use borrow.Author.Rules.{rules}
 use native.Mathlib.Omega.{arith}
 use Rattle.fixpoint.proofs.lower.Goals as goal
 

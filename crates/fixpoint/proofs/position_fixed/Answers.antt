@@ -1,6 +1,5 @@
 use Rattle.heights.proofs.Cells.{in-room}
 use Rattle.fixpoint.proofs.Tests.{end_by}
-use borrow.Author.Rules.{rules}
 use Rattle.fixpoint.proofs.position_fixed.Goals as goal
 
 pub end_fixed-requires : goal.end_fixed-requires

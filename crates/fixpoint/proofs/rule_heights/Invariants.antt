@@ -1,10 +1,7 @@
-use mathlib.Core.Path.{◌≡◌, refl, ◌∙◌}
-use Prim.Native.Nat.{◌+◌, ◌-◌, ◌≤◌}
+use mathlib.Core.Path.{◌≡◌}
+use Prim.Native.Nat.{◌-◌, ◌≤◌}
 use lib.ListN.{length}
 use Rattle.fixpoint.specs.Fixed.{Leasts}
-use Rattle.fixpoint.proofs.Tests.{leasts-next, leasts-all}
-use borrow.Author.Rules.{rules}
-use native.Mathlib.Omega.{arith}
 use Rattle.fixpoint.proofs.rule_heights.Given as goal
 
 abbrev pub invariant-loop-p : goal.invariant-loop-p

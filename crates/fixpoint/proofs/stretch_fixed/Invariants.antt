@@ -1,11 +1,5 @@
-use Prim.Native.Nat.{ℕ, ◌+◌, ◌-◌, ◌≤◌, ◌<◌}
-use lib.ListN.{length-replicate}
-use borrow.Author.Tests.{not-true, not-false}
-use Rattle.fixpoint.specs.Fixed.{Fixed, DotsFixed}
-use Rattle.tells.proofs.Tells.{not_so}
-use Rattle.fixpoint.proofs.Tests.{leasts-start, and-here, none-missed, all-hit}
-use borrow.Author.Rules.{rules}
-use native.Mathlib.Omega.{arith}
+use Prim.Native.Nat.{◌-◌, ◌≤◌}
+use Rattle.fixpoint.specs.Fixed.{DotsFixed}
 use Rattle.fixpoint.proofs.stretch_fixed.Given as goal
 
 abbrev pub invariant-loop-p : goal.invariant-loop-p

@@ -1,6 +1,5 @@
 use mathlib.Core.Path.{sym}
 use Rattle.full.proofs.Marks.{flag-other, flag-fits, flag-misfits}
-use borrow.Author.Rules.{rules}
 use Rattle.full.proofs.dot_flag.Goals as goal
 
 pub returns-then-code-p-ne-AT_TERMINAL : goal.returns-then-code-p-ne-AT_TERMINAL

@@ -1,6 +1,5 @@
 use native.Mathlib.Omega.{arith}
-use Prim.Native.Nat.{◌+◌, ◌-◌, ◌≤◌}
-use Rattle.full.specs.Whole.{Marked}
+use Prim.Native.Nat.{◌-◌}
 use Rattle.full.proofs.Marks.{marked_start, marked_next, marked-end}
 use Rattle.full.proofs.mark_all.Goals as goal
 

@@ -1,7 +1,5 @@
-use native.Mathlib.Omega.{arith}
 use Prim.Native.Nat.{◌+◌, ◌-◌, ◌≤◌}
 use Rattle.full.specs.Whole.{Marked}
-use Rattle.full.proofs.Marks.{marked_start, marked_next, marked-end}
 use Rattle.full.proofs.mark_all.Given as goal
 
 abbrev pub invariant-loop-i : goal.invariant-loop-i

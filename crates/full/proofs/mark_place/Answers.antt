@@ -1,9 +1,8 @@
 use native.Mathlib.Omega.{arith}
-use mathlib.Core.Path.{◌≡◌, refl}
-use Prim.Native.Nat.{◌*◌, ◌-◌, ◌≤◌}
+use mathlib.Core.Path.{refl}
+use Prim.Native.Nat.{◌-◌}
 use lib.ListN.{set}
 use borrow.Author.Rules.{Below-set}
-use Rattle.full.specs.Whole.{PlaceMarked}
 use Rattle.full.proofs.Marks.{place-start, place-next, place_end}
 use Rattle.full.proofs.mark_place.Goals as goal
 

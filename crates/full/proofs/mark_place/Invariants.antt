@@ -1,10 +1,6 @@
-use native.Mathlib.Omega.{arith}
-use mathlib.Core.Path.{◌≡◌, refl}
+use mathlib.Core.Path.{◌≡◌}
 use Prim.Native.Nat.{◌*◌, ◌-◌, ◌≤◌}
-use lib.ListN.{set}
-use borrow.Author.Rules.{Below-set}
 use Rattle.full.specs.Whole.{PlaceMarked}
-use Rattle.full.proofs.Marks.{place-start, place-next, place_end}
 use Rattle.full.proofs.mark_place.Given as goal
 
 abbrev pub invariant-loop-p : goal.invariant-loop-p

@@ -1,6 +1,4 @@
 use mathlib.Core.Path.{sym, ◌∙◌}
-use borrow.Author.Tests.{not-true, not-false}
-use borrow.Author.Rules.{rules}
 use Rattle.gate.proofs.are_limits.Goals as goal
 
 pub returns-then-not-finite : goal.returns-then-not-finite

@@ -1,4 +1,3 @@
-
 use Rattle.gate.proofs.between.Goals as goal
 
 pub returns-then-low-x : goal.returns-then-low-x

@@ -1,4 +1,3 @@
-use borrow.Author.Rules.{rules}
 use Rattle.gate.proofs.inside.Goals as goal
 
 pub returns-then-between : goal.returns-then-between

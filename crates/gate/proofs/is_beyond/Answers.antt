@@ -1,4 +1,3 @@
-
 use Rattle.gate.proofs.is_beyond.Goals as goal
 
 pub returns-then-x-most : goal.returns-then-x-most

@@ -2,7 +2,6 @@ use mathlib.Core.Path.{sym, ap, ◌∙◌}
 use lib.Ieee.{Float}
 use Rattle.gate.specs.Gate.{beyond}
 use Rattle.gate.proofs.Constants.{ninety, half-turn}
-use borrow.Author.Rules.{rules}
 use Rattle.gate.proofs.is_out_of_range.Goals as goal
 
 pub returns-then-is_beyond : goal.returns-then-is_beyond

@@ -1,6 +1,4 @@
 use mathlib.Core.Path.{sym, ◌∙◌}
-use borrow.Author.Tests.{not-true, not-false}
-use borrow.Author.Rules.{rules}
 use Rattle.gate.proofs.is_sound.Goals as goal
 
 pub returns-then-not-are_limits : goal.returns-then-not-are_limits

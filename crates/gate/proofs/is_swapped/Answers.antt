@@ -1,8 +1,6 @@
 use mathlib.Core.Path.{sym, ap, ◌∙◌}
-use borrow.Author.Tests.{not-true, not-false}
 use Rattle.gate.specs.Gate.{inside}
 use Rattle.gate.proofs.Constants.{latitude-beyond}
-use borrow.Author.Rules.{rules}
 use Rattle.gate.proofs.is_swapped.Goals as goal
 
 pub returns-then-not-is_box : goal.returns-then-not-is_box

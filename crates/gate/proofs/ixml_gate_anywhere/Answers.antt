@@ -1,7 +1,6 @@
 use mathlib.Core.Path.{ap, ◌∙◌}
 use Rattle.gate.specs.Calls.{shown}
 use Rattle.gate.proofs.Answers.{ruled}
-use borrow.Author.Rules.{rules}
 use Rattle.gate.proofs.ixml_gate_anywhere.Goals as goal
 
 pub returns : goal.returns

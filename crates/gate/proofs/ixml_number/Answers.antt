@@ -2,7 +2,6 @@ use mathlib.Core.Path.{sym, ap, ◌∙◌}
 use Rattle.gate.specs.Calls.{number_shown}
 use Rattle.decimal.proofs.Constants.{nought}
 use Rattle.gate.proofs.Answers.{read_as}
-use borrow.Author.Rules.{rules}
 use Rattle.gate.proofs.ixml_number.Goals as goal
 
 pub returns-in_default : goal.returns-in_default

@@ -1,5 +1,4 @@
 use mathlib.Core.Path.{sym, ◌∙◌}
-use borrow.Author.Rules.{rules}
 use Rattle.gate.proofs.judge.Goals as goal
 
 pub returns-then-inside : goal.returns-then-inside

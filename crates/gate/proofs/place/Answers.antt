@@ -1,5 +1,4 @@
 use mathlib.Core.Path.{sym, ◌∙◌}
-use borrow.Author.Rules.{rules}
 use Rattle.gate.proofs.place.Goals as goal
 
 pub returns-then-is_out_of_range : goal.returns-then-is_out_of_range

@@ -1,7 +1,5 @@
 use mathlib.Core.Path.{sym, ◌∙◌}
-use borrow.Author.Tests.{not-true, not-false}
 use Rattle.gate.proofs.Rulings.{unsound-is, no-latitude, no-longitude, placed-is}
-use borrow.Author.Rules.{rules}
 use Rattle.gate.proofs.rule.Goals as goal
 
 pub returns-then-not-is_sound : goal.returns-then-not-is_sound

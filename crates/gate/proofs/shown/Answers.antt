@@ -1,4 +1,3 @@
-use borrow.Author.Rules.{rules}
 use Rattle.gate.proofs.shown.Goals as goal
 
 pub returns-in-Judged : goal.returns-in-Judged

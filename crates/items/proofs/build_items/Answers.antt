@@ -1,9 +1,7 @@
 use native.Mathlib.Omega.{arith}
-use mathlib.Core.Path.{◌≡◌, refl, sym, ap, ◌∙◌}
-use Prim.Native.Nat.{ℕ, ◌+◌, ◌*◌, ◌-◌, ◌<◌, ◌≤◌}
-use lib.ListN.{length, get_or}
+use mathlib.Core.Path.{refl}
+use Prim.Native.Nat.{◌-◌}
 use Rattle.items.proofs.Finals.{scanned-linkable, scanned-built, scanned-tokens}
-use borrow.Author.Rules.{rules}
 use Rattle.items.proofs.build_items.Goals as goal
 
 pub link-requires : goal.link-requires

@@ -1,5 +1,4 @@
 use Rattle.job.proofs.Parsed.{parsed-refused, parsed-chosen}
-use borrow.Author.Rules.{rules}
 use borrow.Enum.Refused.{opened}
 use Rattle.job.proofs.parse_of.Goals as goal
 

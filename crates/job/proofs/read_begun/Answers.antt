@@ -4,7 +4,6 @@ use Rattle.opening.proofs.Texts.{got-part}
 use Rattle.job.specs.Parses.{Parses}
 use Rattle.job.proofs.Readings.{choosable, parses-of}
 use Rattle.job.proofs.Parsed.{ended, readable}
-use borrow.Author.Rules.{rules}
 use Rattle.job.proofs.read_begun.Goals as goal
 
 pub returns-in_default : goal.returns-in_default

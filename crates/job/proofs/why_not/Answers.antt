@@ -1,6 +1,5 @@
 use mathlib.Core.Path.{sym, ap, ◌∙◌}
 use Rattle.job.specs.Found.{why_not}
-use borrow.Author.Rules.{rules}
 use Rattle.job.proofs.why_not.Goals as goal
 
 pub returns-in-Reading : goal.returns-in-Reading

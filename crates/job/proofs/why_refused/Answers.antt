@@ -1,8 +1,6 @@
 use mathlib.Core.Bool.{false}
-use mathlib.Core.Path.{◌≡◌, sym, ap, ◌∙◌}
-use borrow.Author.Rules.{rules}
+use mathlib.Core.Path.{sym, ap, ◌∙◌}
 use Rattle.text.specs.declared.Diagnostic.{Diagnostic}
-use Rattle.exported.specs.declared.Refusal.{Refusal}
 use Rattle.job.specs.Parses.{why_refused}
 use Rattle.job.proofs.why_refused.Goals as goal
 

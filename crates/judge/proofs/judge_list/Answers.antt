@@ -1,7 +1,6 @@
 use native.Mathlib.Omega.{arith}
-use mathlib.Core.Path.{◌≡◌, refl}
+use mathlib.Core.Path.{refl}
 use Rattle.judge.proofs.Ends.{none-empty, none-there, some-begun, judged, refused}
-use borrow.Author.Rules.{rules}
 use Rattle.judge.proofs.judge_list.Goals as goal
 
 pub returns-then-list-eq0 : goal.returns-then-list-eq0

@@ -1,6 +1,5 @@
 use Rattle.judge.proofs.Tracks.{enters}
 use Rattle.judge.proofs.Moves.{moved-node, refuted-number, refuted-end}
-use borrow.Author.Rules.{rules}
 use Rattle.judge.proofs.on_node.Goals as goal
 
 pub enter-requires : goal.enter-requires

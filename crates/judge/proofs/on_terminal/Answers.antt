@@ -1,7 +1,6 @@
 use native.Mathlib.Omega.{arith}
 use Rattle.judge.proofs.Tracks.{small}
 use Rattle.judge.proofs.Moves.{terminal-there, moved-leaf, refuted-leaf}
-use borrow.Author.Rules.{rules}
 use Rattle.judge.proofs.on_terminal.Goals as goal
 
 pub terminal_fits-requires : goal.terminal_fits-requires

@@ -5,7 +5,6 @@ use Rattle.left_parse.proofs.Items.{spells-kind}
 use Rattle.left_parse.proofs.Walks.{positive}
 use Rattle.judge.proofs.Tracks.{leaves}
 use Rattle.judge.proofs.Moves.{moved-leave}
-use borrow.Author.Rules.{rules}
 use Rattle.judge.proofs.step.Goals as goal
 
 two : (k n : ℕ) → k ≡ n → (k ≡ 1 → ⊥) → k < 5 → (n ≡ 0 → ⊥) → (2 ≤ n) × (n ≤ 4)

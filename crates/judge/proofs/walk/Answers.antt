@@ -1,10 +1,6 @@
 use native.Mathlib.Omega.{arith}
-use mathlib.Core.Path.{◌≡◌, refl, sym, ◌∙◌}
-use lib.ListN.{length, length-set}
-use borrow.Author.Rules.{rules}
+use lib.ListN.{length-set}
 use Rattle.judge.proofs.Turns.{turn-begin, turn_on, turn-falls, walked-stuck, walked-list, walked-record, walked_whole}
-use Rattle.left_parse.specs.Walk.{weight}
-use Rattle.judge.proofs.Turns.{Turned}
 use Rattle.judge.proofs.walk.Goals as goal
 
 pub loop-scratch-init : goal.loop-scratch-init

@@ -1,6 +1,4 @@
-use mathlib.Core.Path.{◌≡◌, refl, sym, ◌∙◌}
-use Rattle.left_parse.specs.Steps.{Found}
-use borrow.Author.Rules.{rules}
+use mathlib.Core.Path.{refl}
 use Rattle.left_parse.proofs.enter.Goals as goal
 
 pub returns : goal.returns

@@ -1,11 +1,7 @@
 use native.Mathlib.Omega.{arith}
 use mathlib.Core.Path.{◌≡◌, refl, sym, ◌∙◌}
-use mathlib.Core.List.{List, []}
-use Prim.Native.Nat.{ℕ, ◌+◌, ◌-◌, ◌<◌, ◌≤◌}
-use lib.ListN.{length, get_or}
-use Rattle.tree.specs.Tree.{Symbol, Grammar}
-use Rattle.items.specs.Items.{Starts, Alternatives}
-use Rattle.left_parse.proofs.Items.{in_table, Rest, rest-on, rest_end, Counting, counting-on, counting-end}
+use Prim.Native.Nat.{ℕ, ◌-◌, ◌≤◌}
+use Rattle.left_parse.proofs.Items.{in_table, rest-on, rest_end, counting-on, counting-end}
 use Rattle.left_parse.proofs.find_alternative.Goals as goal
 
 none : (n : ℕ) → n ≤ 0 → n ≡ 0
@@ -21,21 +17,20 @@ pub kind_at-requires : goal.kind_at-requires
 kind_at-requires c = tt
 
 pub returns-then-kind_at-ne-ALTERNATIVE_END : goal.returns-then-kind_at-ne-ALTERNATIVE_END
-returns-then-kind_at-ne-ALTERNATIVE_END c =
-    (
-      record {
-        spells = λ g starts ts al l.
-            absurd (c.if-kind_at-ne-ALTERNATIVE_END.true (c.kind_at.ensures
-            ∙ (rest-on ((c.loop-a.invariant g starts ts al).0 l) c.loop-a-test.true c.pass-e.result
-            (λ us sp. c.pass-e.ensures.ends g starts us sp)).0));
-      },
-      record {
-        some = λ e. absurd (let z : ◌≡◌ {A = ℕ} 0 1 = cc in omega arith);
-        none = λ e g starts ts al.
-            (counting-on (c.loop-a.invariant g starts ts al).1 c.loop-a-test.true c.pass-e.result
-            (λ us sp. c.pass-e.ensures.ends g starts us sp)).1 (λ k. c.if-kind_at-ne-ALTERNATIVE_END.true (c.kind_at.ensures ∙ k));
-      },
-    )
+returns-then-kind_at-ne-ALTERNATIVE_END c = (
+  record {
+    spells = λ g starts ts al l.
+        absurd (c.if-kind_at-ne-ALTERNATIVE_END.true (c.kind_at.ensures
+        ∙ (rest-on ((c.loop-a.invariant g starts ts al).0 l) c.loop-a-test.true c.pass-e.result
+        (λ us sp. c.pass-e.ensures.ends g starts us sp)).0));
+  },
+  record {
+    some = λ e. absurd (let z : ◌≡◌ {A = ℕ} 0 1 = cc in omega arith);
+    none = λ e g starts ts al.
+        (counting-on (c.loop-a.invariant g starts ts al).1 c.loop-a-test.true c.pass-e.result
+        (λ us sp. c.pass-e.ensures.ends g starts us sp)).1 (λ k. c.if-kind_at-ne-ALTERNATIVE_END.true (c.kind_at.ensures ∙ k));
+  },
+)
 
 pub overflow_add-x : goal.overflow_add-x
 overflow_add-x c =

@@ -1,11 +1,9 @@
-use native.Mathlib.Omega.{arith}
-use mathlib.Core.Path.{◌≡◌, refl, sym, ◌∙◌}
 use mathlib.Core.List.{List, []}
-use Prim.Native.Nat.{ℕ, ◌+◌, ◌-◌, ◌<◌, ◌≤◌}
+use Prim.Native.Nat.{◌-◌, ◌<◌}
 use lib.ListN.{length, get_or}
 use Rattle.tree.specs.Tree.{Symbol, Grammar}
 use Rattle.items.specs.Items.{Starts, Alternatives}
-use Rattle.left_parse.proofs.Items.{in_table, Rest, rest-on, rest_end, Counting, counting-on, counting-end}
+use Rattle.left_parse.proofs.Items.{Rest, Counting}
 use Rattle.left_parse.proofs.find_alternative.Given as goal
 
 abbrev pub invariant-loop-a : goal.invariant-loop-a

@@ -1,5 +1,3 @@
-use mathlib.Core.Path.{◌≡◌, refl}
-use borrow.Author.Rules.{rules}
 use Rattle.left_parse.proofs.jump.Goals as goal
 
 pub returns : goal.returns

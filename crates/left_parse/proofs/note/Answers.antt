@@ -1,15 +1,9 @@
-use mathlib.Core.Path.{◌≡◌, refl, sym, ap, ◌∙◌}
-use mathlib.Core.List.{List}
-use Prim.Native.Nat.{ℕ, ◌+◌, ◌≤◌, ◌<◌}
+use mathlib.Core.Path.{refl}
+use Prim.Native.Nat.{◌+◌}
 use native.Mathlib.Omega.{arith}
-use lib.ListN.{length, get_or, set, length-set}
-use Rattle.text.specs.Lists.{Text}
-use Rattle.tree.specs.Tree.{Grammar}
-use Rattle.derive.specs.Derive.{Row, left_parse}
-use Rattle.left_parse.specs.Noted.{Parsed, Noted}
-use Rattle.left_parse.specs.Walk.{weight}
-use Rattle.left_parse.specs.Steps.{Found, Going}
-use Rattle.left_parse.proofs.Walks.{place_inside}
+use lib.ListN.{length, get_or, length-set}
+use Rattle.derive.specs.Derive.{left_parse}
+use Rattle.left_parse.specs.Steps.{Found}
 use Rattle.left_parse.proofs.Scratch.{notes-of}
 use Rattle.left_parse.proofs.Notes.{some-entry, begins, going-begin, going_end}
 use Rattle.left_parse.proofs.note.Goals as goal

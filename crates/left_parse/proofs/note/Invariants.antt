@@ -1,17 +1,9 @@
-use mathlib.Core.Path.{◌≡◌, refl, sym, ap, ◌∙◌}
+use mathlib.Core.Path.{◌≡◌}
 use mathlib.Core.List.{List}
-use Prim.Native.Nat.{ℕ, ◌+◌, ◌≤◌, ◌<◌}
-use native.Mathlib.Omega.{arith}
-use lib.ListN.{length, get_or, set, length-set}
-use Rattle.text.specs.Lists.{Text}
-use Rattle.tree.specs.Tree.{Grammar}
-use Rattle.derive.specs.Derive.{Row, left_parse}
-use Rattle.left_parse.specs.Noted.{Parsed, Noted}
+use Prim.Native.Nat.{ℕ}
+use lib.ListN.{length}
 use Rattle.left_parse.specs.Walk.{weight}
-use Rattle.left_parse.specs.Steps.{Found, Going}
-use Rattle.left_parse.proofs.Walks.{place_inside}
-use Rattle.left_parse.proofs.Scratch.{notes-of}
-use Rattle.left_parse.proofs.Notes.{some-entry, begins, going-begin, going_end}
+use Rattle.left_parse.specs.Steps.{Going}
 use Rattle.left_parse.proofs.note.Given as goal
 
 abbrev pub invariant-loop-scratch : goal.invariant-loop-scratch

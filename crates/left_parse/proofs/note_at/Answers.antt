@@ -1,6 +1,5 @@
-use mathlib.Core.Path.{◌≡◌, refl, sym}
+use mathlib.Core.Path.{refl, sym}
 use lib.ListN.{get_or-eq_default}
-use borrow.Author.Rules.{rules}
 use Rattle.left_parse.proofs.note_at.Goals as goal
 
 pub returns-then-i-scratch : goal.returns-then-i-scratch

@@ -1,11 +1,7 @@
 use native.Mathlib.Omega.{arith}
-use mathlib.Core.Path.{◌≡◌, refl, sym}
-use mathlib.Core.List.{List}
-use Prim.Native.Nat.{ℕ, ◌+◌, ◌-◌, ◌<◌}
-use lib.ListN.{length}
-use Rattle.tree.specs.Tree.{Symbol, Grammar}
-use Rattle.items.specs.Items.{Starts, Spells, kind_at}
-use Rattle.left_parse.proofs.Items.{in_table, Ahead, ahead-on, ahead-end, ahead-kind}
+use mathlib.Core.Path.{refl}
+use Prim.Native.Nat.{◌-◌}
+use Rattle.left_parse.proofs.Items.{in_table, ahead-on, ahead-end, ahead-kind}
 use Rattle.left_parse.proofs.pass.Goals as goal
 
 pub loop-p-init : goal.loop-p-init

@@ -1,11 +1,9 @@
-use native.Mathlib.Omega.{arith}
-use mathlib.Core.Path.{◌≡◌, refl, sym}
 use mathlib.Core.List.{List}
-use Prim.Native.Nat.{ℕ, ◌+◌, ◌-◌, ◌<◌}
+use Prim.Native.Nat.{◌-◌}
 use lib.ListN.{length}
 use Rattle.tree.specs.Tree.{Symbol, Grammar}
-use Rattle.items.specs.Items.{Starts, Spells, kind_at}
-use Rattle.left_parse.proofs.Items.{in_table, Ahead, ahead-on, ahead-end, ahead-kind}
+use Rattle.items.specs.Items.{Starts, Spells}
+use Rattle.left_parse.proofs.Items.{Ahead}
 use Rattle.left_parse.proofs.pass.Given as goal
 
 abbrev pub invariant-loop-p : goal.invariant-loop-p

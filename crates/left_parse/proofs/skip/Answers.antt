@@ -1,5 +1,4 @@
-use mathlib.Core.Path.{◌≡◌, refl}
-use borrow.Author.Rules.{rules}
+use mathlib.Core.Path.{refl}
 use Rattle.left_parse.proofs.Items.{wide_of}
 use Rattle.left_parse.proofs.skip.Goals as goal
 

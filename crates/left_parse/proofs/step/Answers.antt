@@ -1,11 +1,10 @@
-use mathlib.Core.Path.{◌≡◌, refl, sym, ap, ◌∙◌}
+use mathlib.Core.Path.{◌≡◌, sym, ◌∙◌}
 use Prim.Native.Nat.{ℕ, ◌≤◌, ◌<◌}
 use native.Mathlib.Omega.{arith}
 use Rattle.left_parse.specs.Steps.{Wide}
 use Rattle.left_parse.proofs.Items.{spells-kind, wide_of}
 use Rattle.left_parse.proofs.Walks.{item-inside, positive}
 use Rattle.left_parse.proofs.Notes.{stepped-leaf, leaf-inside, enters-fit, stepped-enter, leaves-fit, stepped-leave}
-use borrow.Author.Rules.{rules}
 use Rattle.left_parse.proofs.step.Goals as goal
 
 two : (k n : ℕ) → k ≡ n → (k ≡ 1 → ⊥) → k < 5 → (n ≡ 0 → ⊥) → (2 ≤ n) × (n ≤ 4)

@@ -1,8 +1,7 @@
 use native.Mathlib.Omega.{arith}
-use mathlib.Core.Path.{◌≡◌, refl, sym}
+use mathlib.Core.Path.{◌≡◌}
 use Prim.Native.Nat.{ℕ, ◌<◌, ◌≤◌}
 use borrow.Author.Tests.{ltb-true, ltb-false}
-use borrow.Author.Rules.{rules}
 use Rattle.left_parse.proofs.symbolic.Goals as goal
 
 numbers : (k : ℕ) {n : ℕ} → k ≡ n → (k ≡ 0 → ⊥) → k < 5 → (1 ≤ n) × (n ≤ 4)

@@ -1,5 +1,3 @@
-use native.Mathlib.Omega.{arith}
-use borrow.Author.Rules.{rules}
 use Rattle.left_pass.proofs.Steps.{stepped-none, empty-after, empty-kept, empty-stepped, empty-done}
 use Rattle.left_pass.proofs.at_empty.Goals as goal
 

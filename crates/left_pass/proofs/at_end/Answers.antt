@@ -1,5 +1,3 @@
-use native.Mathlib.Omega.{arith}
-use borrow.Author.Rules.{rules}
 use mathlib.Core.Path.{◌∙◌}
 use Rattle.left_pass.proofs.Steps.{stepped-none, end-home, end-waking, end-stepped, end-done}
 use Rattle.left_pass.proofs.at_end.Goals as goal

@@ -1,6 +1,5 @@
 use native.Mathlib.Omega.{arith}
 use mathlib.Core.Path.{◌∙◌, sym}
-use borrow.Author.Rules.{rules}
 use Rattle.left_pass.proofs.Steps.{stepped-none, symbol-rule, symbol-after, symbol-waking, symbol-kept, symbol-done, symbol-none, symbol-over, symbol-over-done}
 use Rattle.left_pass.proofs.at_symbol.Goals as goal
 

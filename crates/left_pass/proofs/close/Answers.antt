@@ -1,8 +1,7 @@
 use native.Mathlib.Omega.{arith}
 use Prim.Native.Nat.{◌-◌}
 use mathlib.Core.Path.{◌∙◌, sym}
-use borrow.Author.Rules.{rules}
-use Rattle.left_pass.proofs.Drains.{Draining, drain-start, drain-at, drain-tail, drain-next, drain-end, at_next}
+use Rattle.left_pass.proofs.Drains.{drain-start, drain-at, drain-tail, drain-next, drain-end, at_next}
 use Rattle.left_pass.proofs.close.Goals as goal
 
 pub loop-head-init : goal.loop-head-init

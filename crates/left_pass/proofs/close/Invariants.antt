@@ -1,8 +1,5 @@
-use native.Mathlib.Omega.{arith}
 use Prim.Native.Nat.{◌-◌}
-use mathlib.Core.Path.{◌∙◌, sym}
-use borrow.Author.Rules.{rules}
-use Rattle.left_pass.proofs.Drains.{Draining, drain-start, drain-at, drain-tail, drain-next, drain-end, at_next}
+use Rattle.left_pass.proofs.Drains.{Draining}
 use Rattle.left_pass.proofs.close.Given as goal
 
 abbrev pub invariant-loop-head : goal.invariant-loop-head

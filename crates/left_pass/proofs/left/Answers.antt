@@ -1,10 +1,9 @@
 use native.Mathlib.Omega.{arith}
-use Prim.Native.Nat.{ℕ, ◌+◌, ◌-◌, ◌≤◌}
-use mathlib.Core.Path.{◌≡◌, refl, ◌∙◌, sym}
+use Prim.Native.Nat.{ℕ, ◌-◌, ◌≤◌}
+use mathlib.Core.Path.{refl, ◌∙◌}
 use lib.ListN.{length, length-replicate}
-use borrow.Author.Rules.{rules}
 use Rattle.chart.proofs.Users.{all-zero}
-use Rattle.left_pass.proofs.Places.{Passing, keying-next, root-waking, place-start, place-collects, place-closing, place-given, place-next, place_end}
+use Rattle.left_pass.proofs.Places.{keying-next, root-waking, place-start, place-collects, place-closing, place-given, place-next, place_end}
 use Rattle.left_pass.proofs.left.Goals as goal
 
 pub homes-requires : goal.homes-requires

@@ -1,10 +1,7 @@
-use native.Mathlib.Omega.{arith}
-use Prim.Native.Nat.{ℕ, ◌+◌, ◌-◌, ◌≤◌}
-use mathlib.Core.Path.{◌≡◌, refl, ◌∙◌, sym}
-use lib.ListN.{length, length-replicate}
-use borrow.Author.Rules.{rules}
-use Rattle.chart.proofs.Users.{all-zero}
-use Rattle.left_pass.proofs.Places.{Passing, keying-next, root-waking, place-start, place-collects, place-closing, place-given, place-next, place_end}
+use Prim.Native.Nat.{◌+◌, ◌-◌, ◌≤◌}
+use mathlib.Core.Path.{◌≡◌}
+use lib.ListN.{length}
+use Rattle.left_pass.proofs.Places.{Passing}
 use Rattle.left_pass.proofs.left.Given as goal
 
 abbrev pub invariant-loop-i : goal.invariant-loop-i

@@ -1,8 +1,5 @@
 use native.Mathlib.Omega.{arith}
-use Prim.Native.Nat.{◌-◌, ◌≤◌}
-use mathlib.Core.Path.{◌∙◌, sym}
-use borrow.Author.Rules.{rules}
-use Rattle.left_pass.specs.Left.{Shifted}
+use Prim.Native.Nat.{◌-◌}
 use Rattle.left_pass.proofs.Shifts.{given-next, shift-start, shift-join, shift-all}
 use Rattle.left_pass.proofs.shift.Goals as goal
 

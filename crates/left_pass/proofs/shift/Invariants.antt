@@ -1,9 +1,5 @@
-use native.Mathlib.Omega.{arith}
 use Prim.Native.Nat.{◌-◌, ◌≤◌}
-use mathlib.Core.Path.{◌∙◌, sym}
-use borrow.Author.Rules.{rules}
 use Rattle.left_pass.specs.Left.{Shifted}
-use Rattle.left_pass.proofs.Shifts.{given-next, shift-start, shift-join, shift-all}
 use Rattle.left_pass.proofs.shift.Given as goal
 
 abbrev pub invariant-loop-p : goal.invariant-loop-p

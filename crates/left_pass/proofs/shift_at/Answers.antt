@@ -1,6 +1,5 @@
 use native.Mathlib.Omega.{arith}
-use mathlib.Core.Path.{◌≡◌, ◌∙◌, sym}
-use borrow.Author.Rules.{rules}
+use mathlib.Core.Path.{◌∙◌, sym}
 use Rattle.left_pass.proofs.Shifts.{all_fit, none-fits, not_none, some-reached, shift_none, shift-after, shift-within, shift-some}
 use Rattle.left_pass.proofs.shift_at.Goals as goal
 

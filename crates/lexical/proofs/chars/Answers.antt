@@ -6,7 +6,6 @@ use lib.ListN.{drop}
 use Rattle.spacing.proofs.Places.{is-ch, not-ch}
 use Rattle.lexical.proofs.Copies.{recopy}
 use Rattle.lexical.proofs.Words.{chars-string, chars-no-hex, chars-no-string, coding}
-use borrow.Author.Rules.{rules}
 use Rattle.lexical.proofs.chars.Goals as goal
 
 pub hex-requires : goal.hex-requires

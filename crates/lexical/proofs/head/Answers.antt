@@ -1,6 +1,5 @@
 use native.Mathlib.Omega.{arith}
 use lib.ListN.{length-set}
-use borrow.Author.Rules.{rules}
 use Rattle.lexical.proofs.head.Goals as goal
 
 pub bounds-out-j-2 : goal.bounds-out-j-2

@@ -1,8 +1,6 @@
 use mathlib.Core.Path.{sym, ◌∙◌}
 use native.Mathlib.Omega.{arith}
-use borrow.Author.Tests.{not-true, not-false}
 use Rattle.lexical.proofs.Words.{no-mark, mark-in, mark-bad, mark-read}
-use borrow.Author.Rules.{rules}
 use Rattle.lexical.proofs.mark.Goals as goal
 
 pub returns-then-not-is_mark : goal.returns-then-not-is_mark

@@ -1,5 +1,4 @@
 use Rattle.lexical.proofs.Words.{tokenable, chars-tokened}
-use borrow.Author.Rules.{rules}
 use Rattle.lexical.proofs.read_chars.Goals as goal
 
 pub chars_token-requires : goal.chars_token-requires

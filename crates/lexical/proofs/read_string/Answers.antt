@@ -1,6 +1,5 @@
 use Rattle.lexical.specs.Answers.{Copied}
 use Rattle.lexical.proofs.Words.{headable, counted-token, quoted-on}
-use borrow.Author.Rules.{rules}
 use Rattle.lexical.proofs.read_string.Goals as goal
 
 pub returns-in_default : goal.returns-in_default

@@ -2,11 +2,9 @@ use mathlib.Core.Path.{sym, ap, ◌∙◌}
 use Prim.Native.Nat.{ℕ}
 use native.Mathlib.Omega.{arith}
 use lib.Dec.{leb}
-use borrow.Author.Tests.{not-true, not-false}
 use Rattle.reach.specs.Flags.{end_at}
 use Rattle.sparse.proofs.Rows.{last-is, flagged, unflagged}
 use Rattle.listing.proofs.Dots.{keep-end, keep-first, keep-unwanted, hand-own, hand-last}
-use borrow.Author.Rules.{rules}
 use Rattle.listing.proofs.hand_row.Goals as goal
 
 pub returns-then-code-x-eq-AT_END : goal.returns-then-code-x-eq-AT_END

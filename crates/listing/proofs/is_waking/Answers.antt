@@ -6,7 +6,6 @@ use Rattle.chart.specs.Code.{owner_at}
 use Rattle.sparse.specs.Cells.{is_last}
 use Rattle.sparse.specs.Column.{Vanishes}
 use Rattle.listing.proofs.Dots.{idle-end, idle-dot}
-use borrow.Author.Rules.{rules}
 use Rattle.listing.proofs.is_waking.Goals as goal
 
 pub returns-then-column-x-eq0 : goal.returns-then-column-x-eq0

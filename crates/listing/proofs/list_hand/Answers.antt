@@ -4,7 +4,6 @@ use Prim.Native.Nat.{ℕ, ◌+◌, ◌-◌}
 use native.Mathlib.Omega.{arith}
 use Rattle.listing.specs.Listing.{Sorted}
 use Rattle.listing.proofs.Sorting.{hand-skipped, hand-added}
-use borrow.Author.Rules.{rules}
 use Rattle.listing.proofs.list_hand.Goals as goal
 
 pub add_hand-requires : goal.add_hand-requires

@@ -1,10 +1,8 @@
 use mathlib.Core.Path.{sym, ◌∙◌}
 use Prim.Native.Nat.{◌-◌, ◌<◌}
 use native.Mathlib.Omega.{arith}
-use lib.ListN.{length, get_or, set, length-set}
-use Rattle.listing.specs.Listing.{Sorted}
+use lib.ListN.{get_or, length-set}
 use Rattle.listing.proofs.Sorting.{sorted_none, sorted_all}
-use borrow.Author.Rules.{rules}
 use Rattle.listing.proofs.list_rows.Goals as goal
 
 pub bounds-column-2049 : goal.bounds-column-2049

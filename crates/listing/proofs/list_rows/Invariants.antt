@@ -1,10 +1,5 @@
-use mathlib.Core.Path.{sym, ◌∙◌}
-use Prim.Native.Nat.{◌-◌, ◌<◌}
-use native.Mathlib.Omega.{arith}
-use lib.ListN.{length, get_or, set, length-set}
+use Prim.Native.Nat.{◌-◌}
 use Rattle.listing.specs.Listing.{Sorted}
-use Rattle.listing.proofs.Sorting.{sorted_none, sorted_all}
-use borrow.Author.Rules.{rules}
 use Rattle.listing.proofs.list_rows.Given as goal
 
 abbrev pub invariant-loop-k : goal.invariant-loop-k

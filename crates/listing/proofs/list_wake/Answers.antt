@@ -6,7 +6,6 @@ use lib.ListN.{get_or, set}
 use lib.Seq.{get_or-set_other}
 use Rattle.listing.specs.Listing.{Sorted}
 use Rattle.listing.proofs.Sorting.{wake-skipped, wake-added}
-use borrow.Author.Rules.{rules}
 use Rattle.listing.proofs.list_wake.Goals as goal
 
 pub returns-then-is_waking : goal.returns-then-is_waking

@@ -1,6 +1,5 @@
 use native.Mathlib.Omega.{arith}
 use Rattle.listing.proofs.Dots.{units-skip, units-add}
-use borrow.Author.Rules.{rules}
 use Rattle.listing.proofs.note_unit.Goals as goal
 
 pub returns-then-code-p-ne-AT_SYMBOL : goal.returns-then-code-p-ne-AT_SYMBOL

@@ -1,9 +1,7 @@
-use mathlib.Core.Path.{◌≡◌, subst, ◌∙◌}
-use Prim.Native.Nat.{ℕ, ◌-◌, ◌≤◌}
+use mathlib.Core.Path.{subst, ◌∙◌}
+use Prim.Native.Nat.{ℕ, ◌-◌}
 use native.Mathlib.Omega.{arith}
-use lib.ListN.{length}
 use Rattle.sparse.specs.Column.{UnitsTo}
-use borrow.Author.Rules.{rules}
 use Rattle.listing.proofs.note_units.Goals as goal
 
 pub loop-p-init : goal.loop-p-init

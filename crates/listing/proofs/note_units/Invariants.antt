@@ -1,9 +1,7 @@
-use mathlib.Core.Path.{◌≡◌, subst, ◌∙◌}
-use Prim.Native.Nat.{ℕ, ◌-◌, ◌≤◌}
-use native.Mathlib.Omega.{arith}
+use mathlib.Core.Path.{◌≡◌}
+use Prim.Native.Nat.{◌-◌, ◌≤◌}
 use lib.ListN.{length}
 use Rattle.sparse.specs.Column.{UnitsTo}
-use borrow.Author.Rules.{rules}
 use Rattle.listing.proofs.note_units.Given as goal
 
 abbrev pub invariant-loop-p : goal.invariant-loop-p

@@ -5,7 +5,6 @@ use native.Mathlib.Omega.{arith}
 use borrow.Author.Tests.{eq-eqb}
 use Rattle.text.proofs.Tests.{clash}
 use Rattle.listing.proofs.Dots.{stands-terminal, stands-symbol, stands-other}
-use borrow.Author.Rules.{rules}
 use Rattle.listing.proofs.vanishes.Goals as goal
 
 pub returns-then-kind-eq-AT_TERMINAL : goal.returns-then-kind-eq-AT_TERMINAL

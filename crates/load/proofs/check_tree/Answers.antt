@@ -3,14 +3,6 @@ use borrow.Author.Rules.{rules}
 use Rattle.load.proofs.Stages.{broken, kept, size-refuses, passes, to-static, to-size, static-asks, size-asks, place-asks, at-most-10}
 use Rattle.load.proofs.Loads.{placed-is, plain-is, place-for}
 use Rattle.load.specs.Checked.{Refuses}
-use Rattle.load.proofs.check_tree.Reads as reads
-use Rattle.load.proofs.at_character.Reads as at-character-reads
-use Rattle.load.proofs.why_broken.Reads as why-broken-reads
-use Rattle.locate.proofs.fault_place.Reads as fault-place-reads
-use Rattle.measure.proofs.grammar_size.Reads as grammar-size-reads
-use Rattle.static_errors.proofs.static_refusal.Reads as static-refusal-reads
-use Rattle.static_errors.proofs.version_mismatch.Reads as version-mismatch-reads
-use Rattle.text.proofs.plain.Reads as plain-reads
 use borrow.Enum.Refused.{opened}
 use Rattle.load.proofs.check_tree.Goals as goal
 

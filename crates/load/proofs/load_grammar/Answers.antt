@@ -1,5 +1,4 @@
 use mathlib.Core.Path.{sym, subst}
-use Prim.Native.Nat.{ℕ}
 use native.Mathlib.Omega.{arith}
 use Rattle.load.specs.Loaded.{Turned}
 use Rattle.load.proofs.Bytes.{got, turned, too_long, loaded, roomy, whole_part}

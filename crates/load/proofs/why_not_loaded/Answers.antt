@@ -1,5 +1,4 @@
-use mathlib.Core.Path.{◌≡◌, sym, ap, ◌∙◌}
-use borrow.Author.Rules.{rules}
+use mathlib.Core.Path.{sym, ap, ◌∙◌}
 use Rattle.text.specs.Stages.{diagnostic_of}
 use Rattle.load.specs.declared.Loaded.{Loaded}
 use Rattle.load.specs.Checked.{stage_of}

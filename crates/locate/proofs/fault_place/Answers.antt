@@ -1,5 +1,4 @@
 use Rattle.locate.proofs.Found as law
-use borrow.Author.Rules.{rules}
 use Rattle.locate.proofs.fault_place.Goals as goal
 
 pub returns : goal.returns

@@ -1,7 +1,6 @@
-use mathlib.Core.Path.{◌≡◌, refl, sym, ◌∙◌}
+use mathlib.Core.Path.{sym, ◌∙◌}
 use native.Mathlib.Omega.{arith}
 use Rattle.markup.proofs.Pieces.{head_plain, head-version}
-use borrow.Author.Rules.{rules}
 use Rattle.markup.proofs.head_at.Goals as goal
 
 pub returns-then-look-eq-VERSION : goal.returns-then-look-eq-VERSION

@@ -1,9 +1,7 @@
-use mathlib.Core.Path.{◌≡◌, refl, sym, ap, ◌∙◌}
-use native.Mathlib.Omega.{arith}
+use mathlib.Core.Path.{refl, sym, ap, ◌∙◌}
 use Prim.Native.Nat.{ℕ, ◌%◌}
 use Rattle.left_parse.proofs.Items.{wide_of}
 use Rattle.markup.proofs.Pieces.{pieced-quoted, pieced-coded, pieced-deleted, pieced-read}
-use borrow.Author.Rules.{rules}
 use Rattle.markup.proofs.piece_of.Goals as goal
 
 pub returns-then-c-eq-INSERT_QUOTED : goal.returns-then-c-eq-INSERT_QUOTED

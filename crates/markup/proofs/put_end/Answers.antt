@@ -1,11 +1,9 @@
-use mathlib.Core.Path.{◌≡◌, refl}
-use mathlib.Core.List.{◌++◌}
+use mathlib.Core.Path.{refl}
 use Rattle.text.specs.Lists.{chars}
 use Rattle.text.specs.Utf8.{utf8}
 use Rattle.encode.specs.Out.{enc, Wrote}
 use Rattle.markup.specs.Tags.{closing}
 use Rattle.encode.proofs.Puts.{wrote-bytes, wrote-text, and_then}
-use borrow.Author.Rules.{rules}
 use Rattle.markup.proofs.put_end.Goals as goal
 
 pub returns-then-unclosed : goal.returns-then-unclosed

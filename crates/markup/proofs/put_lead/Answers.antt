@@ -1,10 +1,7 @@
-use mathlib.Core.Path.{◌≡◌, refl}
-use mathlib.Core.List.{List, [], ◌∷◌}
+use mathlib.Core.List.{[], ◌∷◌}
 use Rattle.text.specs.Utf8.{utf8}
 use Rattle.encode.specs.Out.{enc}
-use Rattle.markup.specs.Tags.{lead_of}
 use Rattle.encode.proofs.Puts.{wrote-bytes, wrote_none, wrote-text}
-use borrow.Author.Rules.{rules}
 use Rattle.markup.proofs.put_lead.Goals as goal
 
 pub returns-then-unclosed : goal.returns-then-unclosed

@@ -1,12 +1,11 @@
-use mathlib.Core.Path.{◌≡◌, refl, sym, ap, ◌∙◌}
+use mathlib.Core.Path.{◌≡◌, sym, ap, ◌∙◌}
 use Prim.Native.Nat.{ℕ, ◌+◌}
-use lib.ListN.{length, take, drop}
-use Rattle.text.specs.Lists.{Text, concat_map}
+use lib.ListN.{take, drop}
+use Rattle.text.specs.Lists.{concat_map}
 use Rattle.encode.specs.Out.{spelt}
 use Rattle.encode.proofs.Puts.{wrote-text}
 use Rattle.encode.proofs.Texts.{spelt-plain}
 use Rattle.markup.proofs.Pieces.{named_count, named-text}
-use borrow.Author.Rules.{rules}
 use Rattle.markup.proofs.put_name.Goals as goal
 
 pub returns : goal.returns

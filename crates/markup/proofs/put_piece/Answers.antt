@@ -1,6 +1,4 @@
-use mathlib.Core.Path.{◌≡◌, refl}
 use Rattle.encode.proofs.Puts.{wrote-text}
-use borrow.Author.Rules.{rules}
 use Rattle.markup.proofs.put_piece.Goals as goal
 
 pub returns-in-Table : goal.returns-in-Table

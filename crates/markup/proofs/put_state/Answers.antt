@@ -1,9 +1,8 @@
-use mathlib.Core.Path.{◌≡◌, refl}
+use mathlib.Core.Path.{refl}
 use Rattle.text.specs.Lists.{chars}
 use Rattle.text.specs.Utf8.{utf8}
 use Rattle.encode.specs.Out.{enc}
 use Rattle.encode.proofs.Puts.{wrote-text, wrote_none}
-use borrow.Author.Rules.{rules}
 use Rattle.markup.proofs.put_state.Goals as goal
 
 pub returns-then-due-2 : goal.returns-then-due-2

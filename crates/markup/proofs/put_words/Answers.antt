@@ -1,9 +1,8 @@
-use mathlib.Core.Path.{◌≡◌, refl, sym}
+use mathlib.Core.Path.{refl}
 use Rattle.text.specs.Lists.{chars}
 use Rattle.text.specs.Utf8.{utf8}
 use Rattle.encode.specs.Out.{enc, Wrote}
 use Rattle.encode.proofs.Puts.{wrote-bytes, and_then}
-use borrow.Author.Rules.{rules}
 use Rattle.markup.proofs.put_words.Goals as goal
 
 pub returns : goal.returns

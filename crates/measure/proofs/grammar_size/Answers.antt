@@ -1,10 +1,6 @@
 use native.Mathlib.Omega.{arith}
-use borrow.Author.Rules.{rules}
-use Prim.Native.Nat.{◌*◌, ◌≤◌, ◌-◌, ◌<◌, ◌+◌}
-use mathlib.Core.Path.{sym, ap, ◌∙◌}
-use Rattle.tree.specs.Tree.{Grammar}
-use Rattle.tokens.specs.Lengths.{Holds}
-use Rattle.measure.proofs.Sizes.{Summing, sum-start, sum-steps, sum-next, sum_done}
+use Prim.Native.Nat.{◌-◌}
+use Rattle.measure.proofs.Sizes.{sum-start, sum-steps, sum-next, sum_done}
 use Rattle.measure.proofs.grammar_size.Goals as goal
 
 pub loop-at-init : goal.loop-at-init

@@ -1,10 +1,7 @@
-use native.Mathlib.Omega.{arith}
-use borrow.Author.Rules.{rules}
-use Prim.Native.Nat.{◌*◌, ◌≤◌, ◌-◌, ◌<◌, ◌+◌}
-use mathlib.Core.Path.{sym, ap, ◌∙◌}
+use Prim.Native.Nat.{◌*◌, ◌≤◌, ◌-◌}
 use Rattle.tree.specs.Tree.{Grammar}
 use Rattle.tokens.specs.Lengths.{Holds}
-use Rattle.measure.proofs.Sizes.{Summing, sum-start, sum-steps, sum-next, sum_done}
+use Rattle.measure.proofs.Sizes.{Summing}
 use Rattle.measure.proofs.grammar_size.Given as goal
 
 abbrev pub invariant-loop-at : goal.invariant-loop-at

@@ -1,5 +1,5 @@
 use native.Mathlib.Omega.{arith}
-use borrow.Author.Tests.{lt-ltb, le-ltb, eq-eqb, ne_eqb}
+use borrow.Author.Tests.{eq-eqb, ne_eqb}
 use Rattle.measure.specs.Costs.{repeat_cost_of}
 use Rattle.measure.proofs.repeat_cost.Goals as goal
 

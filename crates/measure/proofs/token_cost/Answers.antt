@@ -1,7 +1,6 @@
 use native.Mathlib.Omega.{arith}
 use borrow.Author.Tests.{lt-ltb, le-ltb, eq-eqb, ne_eqb}
 use Rattle.measure.specs.Costs.{cost_of}
-use borrow.Author.Rules.{rules}
 use Rattle.measure.proofs.token_cost.Goals as goal
 
 pub returns-then-k-lt-MEMBER_QUOTED : goal.returns-then-k-lt-MEMBER_QUOTED
@@ -27,15 +26,14 @@ returns-then-k-eq-NEXT_ALTERNATIVE c =
 
 pub returns : goal.returns
 unfolding cost_of
-returns c =
-    (
-      simp (
-        le-ltb _ _ c.if-k-lt-MEMBER_QUOTED.false,
-        le-ltb _ _ c.if-k-lt-INSERT_QUOTED.false,
-        le-ltb _ _ c.if-k-lt-OPEN_GROUP.false,
-        ne_eqb _ _
-            c.if-k-eq-OPEN_GROUP.false,
-        ne_eqb _ _ c.if-k-eq-NEXT_ALTERNATIVE.false,
-      ) c.repeat_cost.ensures.0,
-      omega arith,
-    )
+returns c = (
+  simp (
+    le-ltb _ _ c.if-k-lt-MEMBER_QUOTED.false,
+    le-ltb _ _ c.if-k-lt-INSERT_QUOTED.false,
+    le-ltb _ _ c.if-k-lt-OPEN_GROUP.false,
+    ne_eqb _ _
+        c.if-k-eq-OPEN_GROUP.false,
+    ne_eqb _ _ c.if-k-eq-NEXT_ALTERNATIVE.false,
+  ) c.repeat_cost.ensures.0,
+  omega arith,
+)

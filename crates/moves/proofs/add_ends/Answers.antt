@@ -1,13 +1,6 @@
-use borrow.Author.Rules.{rules}
 use native.Mathlib.Omega.{arith}
-use mathlib.Core.Bool.{Bool, true, false}
-use mathlib.Core.Path.{◌≡◌, refl, sym, ap, subst, ◌∙◌}
-use mathlib.Core.List.{List}
-use mathlib.Core.Logic.{◌⊎◌, inl, inr, ⊎_elim}
-use Prim.Native.Nat.{ℕ, ◌+◌, ◌*◌, ◌-◌, ◌/◌, ◌%◌, ◌^◌, ◌<◌, ◌≤◌}
-use lib.ListN.{length, get_or}
-use Rattle.bits.specs.Bits.{Lit, Has, Adds}
-use Rattle.moves.specs.Moves.{Masked}
+use mathlib.Core.Bool.{true, false}
+use Prim.Native.Nat.{◌*◌, ◌-◌}
 use Rattle.moves.proofs.Cells.{column-on, lanes-inside, masked-word, masked-next}
 use Rattle.bits.proofs.Laws.{adds_none, adds-as}
 use Rattle.moves.proofs.add_ends.Goals as goal
@@ -27,12 +20,11 @@ cell-at-requires c =
     (c.requires.0.short, c.requires.0.small, omega (arith, c.column.ensures, z.0), omega (arith, c.column.ensures, z.1))
 
 pub gather-requires : goal.gather-requires
-gather-requires c =
-    (
-      c.lanes-count.ensures.0,
-      lanes-inside c.requires.0 c.loop-w-test.true c.loop-w.invariant.0 c.lanes-count.ensures.1 c.lanes-count.ensures.0
-          (rw c.column.ensures at c.cell-at.ensures),
-    )
+gather-requires c = (
+  c.lanes-count.ensures.0,
+  lanes-inside c.requires.0 c.loop-w-test.true c.loop-w.invariant.0 c.lanes-count.ensures.1 c.lanes-count.ensures.0
+      (rw c.column.ensures at c.cell-at.ensures),
+)
 
 pub loop-w-preserved : goal.loop-w-preserved
 loop-w-preserved c =

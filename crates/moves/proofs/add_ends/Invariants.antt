@@ -1,15 +1,6 @@
-use borrow.Author.Rules.{rules}
-use native.Mathlib.Omega.{arith}
-use mathlib.Core.Bool.{Bool, true, false}
-use mathlib.Core.Path.{◌≡◌, refl, sym, ap, subst, ◌∙◌}
-use mathlib.Core.List.{List}
-use mathlib.Core.Logic.{◌⊎◌, inl, inr, ⊎_elim}
-use Prim.Native.Nat.{ℕ, ◌+◌, ◌*◌, ◌-◌, ◌/◌, ◌%◌, ◌^◌, ◌<◌, ◌≤◌}
-use lib.ListN.{length, get_or}
-use Rattle.bits.specs.Bits.{Lit, Has, Adds}
+use Prim.Native.Nat.{◌+◌, ◌-◌, ◌/◌, ◌<◌, ◌≤◌}
+use Rattle.bits.specs.Bits.{Adds}
 use Rattle.moves.specs.Moves.{Masked}
-use Rattle.moves.proofs.Cells.{column-on, lanes-inside, masked-word, masked-next}
-use Rattle.bits.proofs.Laws.{adds_none, adds-as}
 use Rattle.moves.proofs.add_ends.Given as goal
 
 abbrev pub invariant-loop-w : goal.invariant-loop-w

@@ -1,12 +1,6 @@
-use borrow.Author.Rules.{rules}
-use native.Mathlib.Omega.{arith}
-use mathlib.Core.Bool.{Bool, true, false}
-use mathlib.Core.Path.{◌≡◌, refl, sym, ap, subst, ◌∙◌}
-use mathlib.Core.List.{List}
-use mathlib.Core.Logic.{◌⊎◌, inl, inr, ⊎_elim}
-use Prim.Native.Nat.{ℕ, ◌+◌, ◌*◌, ◌-◌, ◌/◌, ◌%◌, ◌^◌, ◌<◌, ◌≤◌}
-use lib.ListN.{length, get_or, length-replicate}
-use Rattle.bits.specs.Bits.{Lit, Has, Adds}
+use mathlib.Core.Bool.{true}
+use Prim.Native.Nat.{ℕ, ◌-◌}
+use lib.ListN.{length-replicate}
 use Rattle.moves.proofs.Cells.{masks-of, word-adds}
 use Rattle.bits.proofs.Laws.{adds_none, lit-zero}
 use Rattle.moves.proofs.add_word.Goals as goal

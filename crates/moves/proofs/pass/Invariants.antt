@@ -1,14 +1,6 @@
-use borrow.Author.Rules.{rules}
-use native.Mathlib.Omega.{arith}
-use mathlib.Core.Bool.{Bool, true, false}
-use mathlib.Core.Path.{◌≡◌, refl, sym, ap, subst, ◌∙◌}
-use mathlib.Core.List.{List}
-use mathlib.Core.Logic.{◌⊎◌, inl, inr, ⊎_elim}
-use Prim.Native.Nat.{ℕ, ◌+◌, ◌*◌, ◌-◌, ◌/◌, ◌%◌, ◌^◌, ◌<◌, ◌≤◌}
-use lib.ListN.{length, get_or}
-use Rattle.bits.specs.Bits.{Lit, Has, Adds}
-use Rattle.moves.specs.Moves.{Passed}
-use Rattle.moves.proofs.Cells.{PassedTo, passed_start, passed-next, passed-end}
+use Prim.Native.Nat.{◌+◌, ◌-◌}
+use Rattle.bits.specs.Bits.{Adds}
+use Rattle.moves.proofs.Cells.{PassedTo}
 use Rattle.moves.proofs.pass.Given as goal
 
 abbrev pub invariant-loop-v : goal.invariant-loop-v

@@ -1,14 +1,7 @@
-use borrow.Author.Rules.{rules}
 use native.Mathlib.Omega.{arith}
-use mathlib.Core.Bool.{Bool, true, false}
-use mathlib.Core.Path.{◌≡◌, refl, sym, ap, subst, ◌∙◌}
-use mathlib.Core.List.{List}
-use mathlib.Core.Logic.{◌⊎◌, inl, inr, ⊎_elim}
-use Prim.Native.Nat.{ℕ, ◌+◌, ◌*◌, ◌-◌, ◌/◌, ◌%◌, ◌^◌, ◌<◌, ◌≤◌}
-use lib.ListN.{length, get_or}
-use Rattle.bits.specs.Bits.{Lit, Has, Adds}
-use Rattle.moves.specs.Moves.{Shifted}
-use Rattle.moves.proofs.Cells.{ShiftedTo, shifted_start, shifted_next, shifted_end}
+use mathlib.Core.Bool.{true, false}
+use Prim.Native.Nat.{◌-◌}
+use Rattle.moves.proofs.Cells.{shifted_start, shifted_next, shifted_end}
 use Rattle.moves.proofs.shift.Goals as goal
 
 pub loop-v-init : goal.loop-v-init

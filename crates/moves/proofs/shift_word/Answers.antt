@@ -1,14 +1,9 @@
-use borrow.Author.Rules.{rules}
 use native.Mathlib.Omega.{arith}
-use mathlib.Core.Bool.{Bool, true, false}
-use mathlib.Core.Path.{◌≡◌, refl, sym, ap, subst, ◌∙◌}
-use mathlib.Core.List.{List}
-use mathlib.Core.Logic.{◌⊎◌, inl, inr, ⊎_elim}
-use Prim.Native.Nat.{ℕ, ◌+◌, ◌*◌, ◌-◌, ◌/◌, ◌%◌, ◌^◌, ◌<◌, ◌≤◌}
-use lib.ListN.{length, get_or}
-use Rattle.bits.specs.Bits.{Lit, Has, Adds}
+use mathlib.Core.Bool.{true, false}
+use mathlib.Core.Path.{◌≡◌}
+use Prim.Native.Nat.{◌+◌, ◌*◌, ◌-◌}
 use Rattle.bits.proofs.Laws.{adds_none, lit-zero}
-use Rattle.moves.proofs.Cells.{LandedTo, landed-start, landed-next, landed-end}
+use Rattle.moves.proofs.Cells.{landed-start, landed-next, landed-end}
 use Rattle.moves.proofs.shift_word.Goals as goal
 
 pub returns-then-word-eq0 : goal.returns-then-word-eq0
@@ -22,13 +17,12 @@ land-requires c =
     (c.requires.0, omega (arith, c.loop-b-test.true, c.requires.1, c.wide.ensures))
 
 pub loop-b-preserved : goal.loop-b-preserved
-loop-b-preserved c =
-    (
-      omega (arith, c.loop-b-test.true),
-      landed-next c.loop-b-test.true (let z : 32 * c.args.v + c.wide.result
-          ≡ 32 * c.args.v + c.loop-b.b = omega (arith, c.wide.ensures) in z)
-          c.lit.ensures.0 c.lit.ensures.1 c.loop-b.invariant.1 c.land.ensures,
-    )
+loop-b-preserved c = (
+  omega (arith, c.loop-b-test.true),
+  landed-next c.loop-b-test.true (let z : 32 * c.args.v + c.wide.result
+      ≡ 32 * c.args.v + c.loop-b.b = omega (arith, c.wide.ensures) in z)
+      c.lit.ensures.0 c.lit.ensures.1 c.loop-b.invariant.1 c.land.ensures,
+)
 
 pub returns : goal.returns
 returns c = landed-end c.loop-b-test.false c.loop-b.invariant.1

@@ -1,6 +1,5 @@
 use Rattle.answer.specs.Answer.{job, main_need}
 use Rattle.opening.proofs.Starts.{small, begins-lent, need-is}
-use borrow.Author.Rules.{rules}
 use Rattle.opening.proofs.begin.Goals as goal
 
 pub need_of-need-requires : goal.need_of-need-requires

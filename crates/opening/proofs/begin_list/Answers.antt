@@ -1,8 +1,7 @@
-use mathlib.Core.Path.{◌≡◌, refl}
+use mathlib.Core.Path.{refl}
 use Prim.Native.Nat.{◌*◌}
 use Rattle.answer.specs.Answer.{job}
 use Rattle.opening.proofs.Starts.{begins-lent}
-use borrow.Author.Rules.{rules}
 use Rattle.opening.proofs.begin_list.Goals as goal
 
 pub returns : goal.returns

@@ -1,7 +1,6 @@
-use mathlib.Core.Path.{◌≡◌, subst}
+use mathlib.Core.Path.{subst}
 use Rattle.opening.specs.declared.Begun.{Begun}
 use Rattle.opening.specs.Stages.{Small}
-use borrow.Author.Rules.{rules}
 use Rattle.opening.proofs.need_of.Goals as goal
 
 pub need-requires : goal.need-requires

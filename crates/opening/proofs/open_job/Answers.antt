@@ -1,6 +1,5 @@
 use mathlib.Core.List.{[]}
 use Rattle.opening.proofs.Starts.{opens-grammar, opens-record, opens_at}
-use borrow.Author.Rules.{rules}
 use Rattle.opening.proofs.open_job.Goals as goal
 
 pub returns-in_default : goal.returns-in_default

@@ -1,6 +1,5 @@
 use native.Mathlib.Omega.{arith}
 use Rattle.opening.proofs.Texts.{not_taken, too_many, taken}
-use borrow.Author.Rules.{rules}
 use borrow.Enum.Refused.{opened}
 use Rattle.opening.proofs.take_record.Goals as goal
 

@@ -1,5 +1,4 @@
-use mathlib.Core.Path.{◌≡◌, sym, ap, ◌∙◌}
-use borrow.Author.Rules.{rules}
+use mathlib.Core.Path.{sym, ap, ◌∙◌}
 use Rattle.text.specs.Stages.{diagnostic_of}
 use Rattle.opening.specs.declared.Begun.{Begun}
 use Rattle.opening.specs.Stages.{begun_of}

@@ -1,5 +1,4 @@
-use mathlib.Core.Path.{◌≡◌, refl, sym, ap, ◌∙◌}
-use borrow.Author.Rules.{rules}
+use mathlib.Core.Path.{refl, ◌∙◌}
 use Rattle.outcome.proofs.answer_to_tidied.Goals as goal
 
 pub returns-in-Text : goal.returns-in-Text

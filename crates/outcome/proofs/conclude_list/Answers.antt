@@ -1,7 +1,7 @@
-use mathlib.Core.Path.{◌≡◌, refl, ap, ◌∙◌}
+use mathlib.Core.Path.{ap, ◌∙◌}
 use Rattle.text.specs.declared.Diagnostic.{Diagnostic}
 use Rattle.exported.specs.Exported.{refusal_of}
-use Rattle.outcome.proofs.Lists.{asked, annotated, concluded-list, declined-list}
+use Rattle.outcome.proofs.Lists.{annotated, concluded-list, declined-list}
 use borrow.Author.Rules.{rules}
 use Rattle.outcome.proofs.conclude_list.Goals as goal
 

@@ -1,7 +1,5 @@
 use mathlib.Core.List.{[]}
-use native.Mathlib.Omega.{arith}
 use Rattle.outcome.proofs.Given.{numbers-refused, counted, numbers-long, numbers_fit}
-use borrow.Author.Rules.{rules}
 use Rattle.outcome.proofs.give_numbers.Goals as goal
 
 pub returns-in_default : goal.returns-in_default

@@ -1,6 +1,5 @@
 use mathlib.Core.List.{[]}
 use Rattle.outcome.proofs.Given.{tidy-refused, tokened, tidy-concluded}
-use borrow.Author.Rules.{rules}
 use Rattle.outcome.proofs.give_tidy.Goals as goal
 
 pub returns-in_default : goal.returns-in_default

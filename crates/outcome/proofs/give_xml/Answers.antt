@@ -1,6 +1,5 @@
 use mathlib.Core.List.{[]}
 use Rattle.outcome.proofs.Given.{xml-refused, writable, xml-concluded}
-use borrow.Author.Rules.{rules}
 use Rattle.outcome.proofs.give_xml.Goals as goal
 
 pub returns-in_default : goal.returns-in_default

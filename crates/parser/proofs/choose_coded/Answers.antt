@@ -3,10 +3,8 @@ use mathlib.Core.Bool.{true}
 use mathlib.Core.Path.{sym, ◌∙◌}
 use Prim.Native.Nat.{ℕ}
 use lib.ListN.{length-replicate}
-use borrow.Author.Tests.{not-true, not-false}
 use Rattle.chart.proofs.Users.{all-zero}
 use Rattle.parser.proofs.Located.{coded_kept, coded-shape, flaggable, staged, refusal, as-answer, as-refused, as-tried}
-use borrow.Author.Rules.{rules}
 use Rattle.parser.proofs.choose_coded.Goals as goal
 
 pub note_rules-requires : goal.note_rules-requires
@@ -53,12 +51,11 @@ returns-then-is_refused c =
     (c.attempt-tried.ensures (staged c.requires.0 c.note_rules.ensures k (c.flag.ensures.both c.if-not-flag.false))) (c.locate-place.ensures g k)
 
 pub attempt-again-requires : goal.attempt-again-requires
-attempt-again-requires c =
-    (
-      (staged c.requires.0 c.note_rules.ensures c.requires.0.code (c.flag.ensures.both c.if-not-flag.false)),
-      omega (arith, c.requires.0.room, c.attempt-tried.auto.main, c.locate-place.auto.main),
-      omega (arith, c.requires.2, c.attempt-tried.auto.parse),
-    )
+attempt-again-requires c = (
+  (staged c.requires.0 c.note_rules.ensures c.requires.0.code (c.flag.ensures.both c.if-not-flag.false)),
+  omega (arith, c.requires.0.room, c.attempt-tried.auto.main, c.locate-place.auto.main),
+  omega (arith, c.requires.2, c.attempt-tried.auto.parse),
+)
 
 pub shape_of-marks : goal.shape_of-marks
 shape_of-marks c =

@@ -1,6 +1,3 @@
-use borrow.Author.Rules.{rules}
-use native.Mathlib.Omega.{arith}
-use mathlib.Core.Path.{◌≡◌, refl, sym, ◌∙◌}
 use Rattle.parser.proofs.Located.{locatable-anew, as-walked, fails}
 use borrow.Enum.Refused.{opened}
 use Rattle.parser.proofs.choose_plain.Goals as goal

@@ -1,6 +1,5 @@
 use native.Mathlib.Omega.{arith}
 use Rattle.parser.proofs.Located.{blank}
-use borrow.Author.Rules.{rules}
 use Rattle.parser.proofs.choose_short.Goals as goal
 
 pub choose_coded-requires : goal.choose_coded-requires

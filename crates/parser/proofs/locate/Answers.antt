@@ -1,5 +1,4 @@
 use Rattle.parser.proofs.Located.{confirming, fault-found}
-use borrow.Author.Rules.{rules}
 use Rattle.parser.proofs.locate.Goals as goal
 
 pub find-requires : goal.find-requires

@@ -6,7 +6,6 @@ use Rattle.right_pass.proofs.Given.{given-of, lefting-of}
 use Rattle.sparse.proofs.Coded.{shape_of}
 use Rattle.quick_reading.proofs.Finished.{left-flagged}
 use Rattle.parser.proofs.Located.{coded}
-use borrow.Author.Rules.{rules}
 use Rattle.parser.proofs.locate_anew.Goals as goal
 
 pub code_rules-top-requires : goal.code_rules-top-requires

@@ -3,7 +3,6 @@ use Rattle.quick_reading.specs.declared.Tried.{Tried}
 use Rattle.quick_reading.specs.declared.Tried.TheVariants as tried
 use Rattle.parser.specs.Chosen.{tried_of}
 use Rattle.parser.proofs.Located.{walked-tried}
-use borrow.Author.Rules.{rules}
 use borrow.Enum.Refused.{opened}
 use Rattle.parser.proofs.of_tried.Goals as goal
 

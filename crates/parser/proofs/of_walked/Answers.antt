@@ -1,4 +1,3 @@
-use borrow.Author.Rules.{rules}
 use mathlib.Core.Path.{sym, ap}
 use Rattle.parser.specs.Chosen.{chosen_of}
 use Rattle.parser.proofs.of_walked.Goals as goal

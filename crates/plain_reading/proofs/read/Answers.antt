@@ -6,7 +6,6 @@ use Rattle.chart.proofs.Users.{all-zero}
 use Rattle.heights.proofs.Exact.{safe}
 use Rattle.full.proofs.Whole.{coded}
 use Rattle.plain_reading.proofs.Plain.{roomy, finished-plain}
-use borrow.Author.Rules.{rules}
 use Rattle.plain_reading.proofs.read.Goals as goal
 
 pub prepare-top-requires : goal.prepare-top-requires

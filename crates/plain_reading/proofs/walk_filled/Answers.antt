@@ -1,7 +1,6 @@
 use native.Mathlib.Omega.{arith}
 use Rattle.sparse.proofs.Coded.{shape_of}
 use Rattle.plain_reading.proofs.Plain.{finished-filled}
-use borrow.Author.Rules.{rules}
 use Rattle.plain_reading.proofs.walk_filled.Goals as goal
 
 pub mark_all-requires : goal.mark_all-requires

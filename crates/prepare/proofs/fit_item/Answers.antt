@@ -1,7 +1,5 @@
 use native.Mathlib.Omega.{arith}
-use mathlib.Core.Path.{◌≡◌, refl, sym, ◌∙◌, ap}
-use Rattle.prepare.proofs.Rows.{item-skip, item-row}
-use borrow.Author.Rules.{rules}
+use Rattle.prepare.proofs.Rows.{item-row}
 use Rattle.prepare.proofs.fit_item.Goals as goal
 
 pub fit_row-requires : goal.fit_row-requires

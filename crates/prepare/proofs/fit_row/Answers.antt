@@ -1,9 +1,7 @@
 use native.Mathlib.Omega.{arith}
-use borrow.Author.Rules.{rules}
-use mathlib.Core.Path.{◌≡◌, refl, sym, ◌∙◌, ap}
-use Prim.Native.Nat.{◌-◌, ◌+◌}
-use lib.ListN.{length, length-set}
-use Rattle.prepare.proofs.Rows.{Rowing, row-start, row_next, row-end}
+use mathlib.Core.Path.{refl}
+use Prim.Native.Nat.{◌-◌}
+use Rattle.prepare.proofs.Rows.{row-start, row_next, row-end}
 use Rattle.prepare.proofs.fit_row.Goals as goal
 
 pub loop-i-init : goal.loop-i-init
@@ -31,12 +29,11 @@ loop-i-smaller c =
     omega (arith, c.requires.small, c.requires.short, c.requires.room, c.loop-i.invariant.0.long, c.loop-i.invariant.1, c.loop-i-test.true)
 
 pub loop-i-preserved : goal.loop-i-preserved
-loop-i-preserved c =
-    (
-      rw c.flag_of.ensures (row_next c.loop-i.invariant.0 (omega (arith, c.loop-i.invariant.1, c.loop-i-test.true))
-          c.requires.room c.terminal_fits.result c.terminal_fits.ensures),
-      c.loop-i.invariant.1,
-    )
+loop-i-preserved c = (
+  rw c.flag_of.ensures (row_next c.loop-i.invariant.0 (omega (arith, c.loop-i.invariant.1, c.loop-i-test.true))
+      c.requires.room c.terminal_fits.result c.terminal_fits.ensures),
+  c.loop-i.invariant.1,
+)
 
 pub shape_of-fits : goal.shape_of-fits
 shape_of-fits c = c.loop-i.invariant.0.long

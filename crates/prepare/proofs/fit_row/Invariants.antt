@@ -1,9 +1,7 @@
-use native.Mathlib.Omega.{arith}
-use borrow.Author.Rules.{rules}
-use mathlib.Core.Path.{◌≡◌, refl, sym, ◌∙◌, ap}
+use mathlib.Core.Path.{◌≡◌}
 use Prim.Native.Nat.{◌-◌, ◌+◌}
-use lib.ListN.{length, length-set}
-use Rattle.prepare.proofs.Rows.{Rowing, row-start, row_next, row-end}
+use lib.ListN.{length}
+use Rattle.prepare.proofs.Rows.{Rowing}
 use Rattle.prepare.proofs.fit_row.Given as goal
 
 abbrev pub invariant-loop-i : goal.invariant-loop-i

@@ -1,7 +1,6 @@
 use native.Mathlib.Omega.{arith}
-use mathlib.Core.Path.{◌≡◌, refl, sym, ◌∙◌, ap}
 use Prim.Native.Nat.{◌-◌}
-use Rattle.prepare.proofs.Rows.{RowsBelow, rows_start, rows_next, rows_end}
+use Rattle.prepare.proofs.Rows.{rows_start, rows_next, rows_end}
 use Rattle.prepare.proofs.fit_rows.Goals as goal
 
 pub loop-p-init : goal.loop-p-init
@@ -9,17 +8,16 @@ loop-p-init c =
     rows_start c.args.table.now c.args.size c.args.text.now c.args.fits.now
 
 pub fit_item-requires : goal.fit_item-requires
-fit_item-requires c =
-    (
-      record {
-        long = c.requires.long;
-        small = c.requires.small;
-        short = c.requires.short;
-        room = omega (arith, c.requires.room, c.loop-p.invariant.long);
-        here = c.requires.here;
-      },
-      c.loop-p-test.true,
-    )
+fit_item-requires c = (
+  record {
+    long = c.requires.long;
+    small = c.requires.small;
+    short = c.requires.short;
+    room = omega (arith, c.requires.room, c.loop-p.invariant.long);
+    here = c.requires.here;
+  },
+  c.loop-p-test.true,
+)
 
 pub overflow_add-p : goal.overflow_add-p
 overflow_add-p c =

@@ -1,7 +1,5 @@
-use native.Mathlib.Omega.{arith}
-use mathlib.Core.Path.{◌≡◌, refl, sym, ◌∙◌, ap}
 use Prim.Native.Nat.{◌-◌}
-use Rattle.prepare.proofs.Rows.{RowsBelow, rows_start, rows_next, rows_end}
+use Rattle.prepare.proofs.Rows.{RowsBelow}
 use Rattle.prepare.proofs.fit_rows.Given as goal
 
 abbrev pub invariant-loop-p : goal.invariant-loop-p

@@ -1,6 +1,5 @@
 use Rattle.rules.proofs.Whole.{here}
 use Rattle.prepare.proofs.Rows.{fitted}
-use borrow.Author.Rules.{rules}
 use Rattle.prepare.proofs.prepare.Goals as goal
 
 pub code_rules-top-requires : goal.code_rules-top-requires

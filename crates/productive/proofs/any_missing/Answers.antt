@@ -1,7 +1,6 @@
 use native.Mathlib.Omega.{arith}
 use Prim.Native.Nat.{◌-◌}
-use borrow.Author.Rules.{rules}
-use Rattle.productive.proofs.Scan.{Scanned, scanned-next, scan-some, scan-every}
+use Rattle.productive.proofs.Scan.{scanned-next, scan-some, scan-every}
 use Rattle.productive.proofs.any_missing.Goals as goal
 
 pub loop-dot-init : goal.loop-dot-init

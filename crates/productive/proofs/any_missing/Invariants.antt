@@ -1,7 +1,5 @@
-use native.Mathlib.Omega.{arith}
 use Prim.Native.Nat.{◌-◌}
-use borrow.Author.Rules.{rules}
-use Rattle.productive.proofs.Scan.{Scanned, scanned-next, scan-some, scan-every}
+use Rattle.productive.proofs.Scan.{Scanned}
 use Rattle.productive.proofs.any_missing.Given as goal
 
 abbrev pub invariant-loop-dot : goal.invariant-loop-dot

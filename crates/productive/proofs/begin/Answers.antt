@@ -1,7 +1,6 @@
 use native.Mathlib.Omega.{arith}
-use Prim.Native.Nat.{◌-◌, ◌≤◌}
+use Prim.Native.Nat.{◌-◌}
 use mathlib.Core.Path.{◌∙◌, sym}
-use Rattle.productive.specs.State.{Begun}
 use Rattle.productive.proofs.Steps.{begun-none, begun-join, begun_all}
 use Rattle.productive.proofs.begin.Goals as goal
 

@@ -1,8 +1,5 @@
-use native.Mathlib.Omega.{arith}
 use Prim.Native.Nat.{◌-◌, ◌≤◌}
-use mathlib.Core.Path.{◌∙◌, sym}
 use Rattle.productive.specs.State.{Begun}
-use Rattle.productive.proofs.Steps.{begun-none, begun-join, begun_all}
 use Rattle.productive.proofs.begin.Given as goal
 
 abbrev pub invariant-loop-p : goal.invariant-loop-p

@@ -1,6 +1,5 @@
 use Prim.Native.Nat.{◌+◌}
 use Rattle.productive.proofs.Steps.{begin-kept, begin-skip, begin-end}
-use borrow.Author.Rules.{rules}
 use Rattle.productive.proofs.begin_at.Goals as goal
 
 pub returns-then-code-p-ne-AT_END : goal.returns-then-code-p-ne-AT_END

@@ -1,8 +1,7 @@
 use native.Mathlib.Omega.{arith}
 use Prim.Native.Nat.{◌-◌}
 use mathlib.Core.Path.{◌∙◌, sym}
-use borrow.Author.Rules.{rules}
-use Rattle.productive.proofs.Visits.{Drains, drains-start, drain-inside, drain-next, drains-end}
+use Rattle.productive.proofs.Visits.{drains-start, drain-inside, drain-next, drains-end}
 use Rattle.productive.proofs.drain.Goals as goal
 
 pub loop-head-init : goal.loop-head-init

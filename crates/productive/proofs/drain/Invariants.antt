@@ -1,8 +1,5 @@
-use native.Mathlib.Omega.{arith}
 use Prim.Native.Nat.{◌-◌}
-use mathlib.Core.Path.{◌∙◌, sym}
-use borrow.Author.Rules.{rules}
-use Rattle.productive.proofs.Visits.{Drains, drains-start, drain-inside, drain-next, drains-end}
+use Rattle.productive.proofs.Visits.{Drains}
 use Rattle.productive.proofs.drain.Given as goal
 
 abbrev pub invariant-loop-head : goal.invariant-loop-head

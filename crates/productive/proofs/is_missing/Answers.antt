@@ -1,7 +1,6 @@
 use Rattle.productive.proofs.Scan.{answer-of}
 use native.Mathlib.Omega.{arith}
 use Rattle.productive.proofs.Scan.{owner-below, answer-none}
-use borrow.Author.Rules.{rules}
 use Rattle.productive.proofs.is_missing.Goals as goal
 
 pub returns-then-begins-eq0 : goal.returns-then-begins-eq0

@@ -6,7 +6,6 @@ use Rattle.chart.specs.Code.{owner_at}
 use Rattle.productive.specs.State.{Done, tail_of}
 use Rattle.productive.proofs.Scan.{owner-below}
 use Rattle.productive.proofs.Steps.{mark-old, mark-new, tail-below}
-use borrow.Author.Rules.{rules}
 use Rattle.productive.proofs.mark.Goals as goal
 
 pub returns-then-owner-eq0 : goal.returns-then-owner-eq0

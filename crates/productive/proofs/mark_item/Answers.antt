@@ -1,6 +1,5 @@
 use native.Mathlib.Omega.{arith}
 use Rattle.productive.proofs.Items.{item-skip, item_room, item-marked}
-use borrow.Author.Rules.{rules}
 use Rattle.productive.proofs.mark_item.Goals as goal
 
 pub returns-then-code-p-ne-AT_TERMINAL : goal.returns-then-code-p-ne-AT_TERMINAL

@@ -1,6 +1,6 @@
 use native.Mathlib.Omega.{arith}
 use Prim.Native.Nat.{◌-◌}
-use Rattle.productive.proofs.Items.{Marking, marking-start, marking-terminals, marking-next, marking-end}
+use Rattle.productive.proofs.Items.{marking-start, marking-terminals, marking-next, marking-end}
 use Rattle.productive.proofs.mark_live.Goals as goal
 
 pub loop-p-init : goal.loop-p-init

@@ -1,6 +1,5 @@
-use native.Mathlib.Omega.{arith}
 use Prim.Native.Nat.{◌-◌}
-use Rattle.productive.proofs.Items.{Marking, marking-start, marking-terminals, marking-next, marking-end}
+use Rattle.productive.proofs.Items.{Marking}
 use Rattle.productive.proofs.mark_live.Given as goal
 
 abbrev pub invariant-loop-p : goal.invariant-loop-p

@@ -1,8 +1,5 @@
 use native.Mathlib.Omega.{arith}
-use Prim.Native.Nat.{◌<◌}
 use mathlib.Core.Path.{◌∙◌, sym}
-use borrow.Author.Rules.{rules}
-use Rattle.productive.specs.State.{Moved, Always}
 use Rattle.productive.proofs.Steps.{moved_none, above_zero, raise-kept, raise-next, raise-end}
 use Rattle.productive.proofs.raise.Goals as goal
 

@@ -1,7 +1,6 @@
 use native.Mathlib.Omega.{arith}
 use Rattle.chart.proofs.Users.{all-zero}
 use Rattle.productive.proofs.Whole.{whole-start, whole-pending, whole-end}
-use borrow.Author.Rules.{rules}
 use Rattle.productive.proofs.some_missing.Goals as goal
 
 pub list_uses-requires : goal.list_uses-requires

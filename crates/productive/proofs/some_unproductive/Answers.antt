@@ -3,7 +3,6 @@ use lib.ListN.{length-replicate}
 use mathlib.Core.Bool.{false}
 use Rattle.productive.proofs.Items.{all-blank}
 use Rattle.productive.proofs.Model.{agrees, shape_of, here_of}
-use borrow.Author.Rules.{rules}
 use Rattle.productive.proofs.some_unproductive.Goals as goal
 
 pub code_rules-requires : goal.code_rules-requires

@@ -1,8 +1,7 @@
 use native.Mathlib.Omega.{arith}
 use Prim.Native.Nat.{◌-◌}
 use mathlib.Core.Path.{◌∙◌, sym}
-use borrow.Author.Rules.{rules}
-use Rattle.productive.proofs.Visits.{Visits, visits-start, visit-inside, visit-kept, use-before, visit-next, visits-end}
+use Rattle.productive.proofs.Visits.{visits-start, visit-inside, visit-kept, use-before, visit-next, visits-end}
 use Rattle.productive.proofs.visit.Goals as goal
 
 pub overflow_mul-e : goal.overflow_mul-e

@@ -1,8 +1,5 @@
-use native.Mathlib.Omega.{arith}
 use Prim.Native.Nat.{◌-◌}
-use mathlib.Core.Path.{◌∙◌, sym}
-use borrow.Author.Rules.{rules}
-use Rattle.productive.proofs.Visits.{Visits, visits-start, visit-inside, visit-kept, use-before, visit-next, visits-end}
+use Rattle.productive.proofs.Visits.{Visits}
 use Rattle.productive.proofs.visit.Given as goal
 
 abbrev pub invariant-loop-x : goal.invariant-loop-x

@@ -1,7 +1,6 @@
 use mathlib.Core.Path.{sym}
 use native.Mathlib.Omega.{arith}
 use Rattle.queue.proofs.Ring.{around-in, around-out}
-use Rattle.queue.proofs.around.Reads as reads
 use Rattle.queue.proofs.around.Goals as goal
 
 pub returns-then-k-lt-RING : goal.returns-then-k-lt-RING

@@ -1,11 +1,9 @@
-use mathlib.Core.List.{List}
-use mathlib.Core.Path.{◌≡◌, refl, ap, ◌∙◌}
-use Prim.Native.Nat.{ℕ, ◌+◌}
+use mathlib.Core.Path.{refl, ap, ◌∙◌}
+use Prim.Native.Nat.{ℕ}
 use native.Mathlib.Omega.{arith}
 use lib.ListN.{get_or}
 use Rattle.queue.specs.Queue.{slot, head_of}
 use Rattle.queue.proofs.Ring.{first-inside, taken}
-use borrow.Author.Rules.{rules}
 use Rattle.queue.proofs.dequeue.Goals as goal
 
 pub overflow_add-queue : goal.overflow_add-queue

@@ -1,11 +1,9 @@
-use mathlib.Core.List.{List}
-use mathlib.Core.Path.{◌≡◌, sym, ap, subst, ◌∙◌}
+use mathlib.Core.Path.{sym, subst, ◌∙◌}
 use Prim.Native.Nat.{ℕ, ◌+◌}
 use native.Mathlib.Omega.{arith}
 use lib.ListN.{set, length-set}
 use Rattle.queue.specs.Queue.{slot, Put}
 use Rattle.queue.proofs.Ring.{put_same, put-new}
-use borrow.Author.Rules.{rules}
 use Rattle.queue.proofs.enqueue.Goals as goal
 
 pub returns-then-queue-rule-ne0 : goal.returns-then-queue-rule-ne0

@@ -3,7 +3,6 @@ use native.Mathlib.Omega.{arith}
 use Rattle.sparse.specs.Cells.{Tables}
 use Rattle.sparse.proofs.Column.{listed_kept}
 use Rattle.quick.proofs.Columns.{from_start}
-use borrow.Author.Rules.{rules}
 use Rattle.quick.proofs.begin_column.Goals as goal
 
 pub spread_empty-requires : goal.spread_empty-requires

@@ -1,10 +1,9 @@
 use mathlib.Core.Path.{◌≡◌, subst}
-use Prim.Native.Nat.{ℕ, ◌+◌, ◌-◌, ◌≤◌}
+use Prim.Native.Nat.{ℕ, ◌+◌, ◌-◌}
 use native.Mathlib.Omega.{arith}
 use Rattle.chart.specs.Heights.{cell_at}
 use Rattle.quick.specs.Quick.{Emptied}
 use Rattle.quick.proofs.Columns.{in_row, emptied-none, emptied-next}
-use borrow.Author.Rules.{rules}
 use Rattle.quick.proofs.clear_row.Goals as goal
 
 pub loop-i-init : goal.loop-i-init

@@ -1,10 +1,5 @@
-use mathlib.Core.Path.{◌≡◌, subst}
-use Prim.Native.Nat.{ℕ, ◌+◌, ◌-◌, ◌≤◌}
-use native.Mathlib.Omega.{arith}
-use Rattle.chart.specs.Heights.{cell_at}
+use Prim.Native.Nat.{◌-◌, ◌≤◌}
 use Rattle.quick.specs.Quick.{Emptied}
-use Rattle.quick.proofs.Columns.{in_row, emptied-none, emptied-next}
-use borrow.Author.Rules.{rules}
 use Rattle.quick.proofs.clear_row.Given as goal
 
 abbrev pub invariant-loop-i : goal.invariant-loop-i

@@ -1,14 +1,11 @@
 use mathlib.Core.Path.{◌≡◌, refl, subst, ◌∙◌}
-use Prim.Native.Nat.{ℕ, ◌+◌, ◌-◌, ◌≤◌}
+use Prim.Native.Nat.{ℕ, ◌+◌, ◌-◌}
 use native.Mathlib.Omega.{arith}
-use lib.ListN.{length, length-replicate}
+use lib.ListN.{length-replicate}
 use Rattle.text.proofs.Tests.{clash}
-use Rattle.queue.specs.Queue.{count_of, Queued}
-use Rattle.sparse.specs.Column.{UnitsTo}
 use Rattle.quick.specs.Quick.{Before}
 use Rattle.quick.proofs.Columns.{before-none, filled}
 use Rattle.quick.proofs.Started.{no-count, no-queue}
-use borrow.Author.Rules.{rules}
 use Rattle.quick.proofs.fill.Goals as goal
 
 pub note_units-requires : goal.note_units-requires

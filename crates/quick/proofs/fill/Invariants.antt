@@ -1,14 +1,9 @@
-use mathlib.Core.Path.{◌≡◌, refl, subst, ◌∙◌}
-use Prim.Native.Nat.{ℕ, ◌+◌, ◌-◌, ◌≤◌}
-use native.Mathlib.Omega.{arith}
-use lib.ListN.{length, length-replicate}
-use Rattle.text.proofs.Tests.{clash}
+use mathlib.Core.Path.{◌≡◌}
+use Prim.Native.Nat.{◌+◌, ◌-◌, ◌≤◌}
+use lib.ListN.{length}
 use Rattle.queue.specs.Queue.{count_of, Queued}
 use Rattle.sparse.specs.Column.{UnitsTo}
 use Rattle.quick.specs.Quick.{Before}
-use Rattle.quick.proofs.Columns.{before-none, filled}
-use Rattle.quick.proofs.Started.{no-count, no-queue}
-use borrow.Author.Rules.{rules}
 use Rattle.quick.proofs.fill.Given as goal
 
 abbrev pub invariant-loop-j : goal.invariant-loop-j

@@ -1,13 +1,8 @@
-use mathlib.Core.Path.{◌≡◌, refl, sym, subst, ◌∙◌}
-use Prim.Native.Nat.{ℕ, ◌+◌, ◌-◌, ◌≤◌}
-use native.Mathlib.Omega.{arith}
+use mathlib.Core.Path.{◌≡◌}
+use Prim.Native.Nat.{◌-◌, ◌≤◌}
 use lib.ListN.{length}
-use Rattle.sparse.proofs.Column.{units-kept}
 use Rattle.queue.specs.Queue.{count_of, Queued}
 use Rattle.quick.specs.Quick.{From}
-use Rattle.quick.proofs.Columns.{before-unwanted, before-next}
-use Rattle.quick.proofs.Passing.{from-passed}
-use borrow.Author.Rules.{rules}
 use Rattle.quick.proofs.fill_column.Given as goal
 
 abbrev pub invariant-loop-i : goal.invariant-loop-i

@@ -2,7 +2,6 @@ use mathlib.Core.Path.{refl}
 use native.Mathlib.Omega.{arith}
 use Rattle.spread.proofs.Handing.{low-kept}
 use Rattle.quick.proofs.Columns.{from-bare, from_next}
-use borrow.Author.Rules.{rules}
 use Rattle.quick.proofs.finish.Goals as goal
 
 pub returns-then-column-s-eq0 : goal.returns-then-column-s-eq0

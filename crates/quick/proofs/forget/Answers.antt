@@ -1,5 +1,5 @@
 use mathlib.Core.Path.{subst}
-use Prim.Native.Nat.{ℕ, ◌-◌, ◌≤◌}
+use Prim.Native.Nat.{ℕ, ◌-◌}
 use native.Mathlib.Omega.{arith}
 use Rattle.quick.specs.Quick.{Unnoted}
 use Rattle.quick.proofs.Flags.{unnoted-none, unnoted-next}
@@ -32,12 +32,11 @@ pub loop-y-smaller : goal.loop-y-smaller
 loop-y-smaller c = omega (arith, c.loop-y-test.true)
 
 pub loop-y-preserved : goal.loop-y-preserved
-loop-y-preserved c =
-    (
-      omega (arith, c.loop-y-test.true),
-      unnoted-next c.args.j c.loop-y.y c.args.column.now c.loop-y.column
-          (omega (arith, c.loop-y-test.true, c.requires.0, c.requires.1, c.loop-y.invariant.1.long)) (omega (arith, c.loop-y-test.true, c.requires.1)) c.loop-y.invariant.1,
-    )
+loop-y-preserved c = (
+  omega (arith, c.loop-y-test.true),
+  unnoted-next c.args.j c.loop-y.y c.args.column.now c.loop-y.column
+      (omega (arith, c.loop-y-test.true, c.requires.0, c.requires.1, c.loop-y.invariant.1.long)) (omega (arith, c.loop-y-test.true, c.requires.1)) c.loop-y.invariant.1,
+)
 
 pub shape_of-column : goal.shape_of-column
 shape_of-column c =

@@ -1,8 +1,5 @@
-use mathlib.Core.Path.{subst}
-use Prim.Native.Nat.{ℕ, ◌-◌, ◌≤◌}
-use native.Mathlib.Omega.{arith}
+use Prim.Native.Nat.{◌-◌, ◌≤◌}
 use Rattle.quick.specs.Quick.{Unnoted}
-use Rattle.quick.proofs.Flags.{unnoted-none, unnoted-next}
 use Rattle.quick.proofs.forget.Given as goal
 
 abbrev pub invariant-loop-y : goal.invariant-loop-y

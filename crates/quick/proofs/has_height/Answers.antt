@@ -1,7 +1,6 @@
-use Prim.Native.Nat.{◌-◌, ◌≤◌}
+use Prim.Native.Nat.{◌-◌}
 use native.Mathlib.Omega.{arith}
 use Rattle.quick.proofs.Columns.{in_row}
-use borrow.Author.Rules.{rules}
 use Rattle.quick.proofs.has_height.Goals as goal
 
 pub loop-i-init : goal.loop-i-init

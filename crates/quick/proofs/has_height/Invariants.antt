@@ -1,7 +1,4 @@
 use Prim.Native.Nat.{◌-◌, ◌≤◌}
-use native.Mathlib.Omega.{arith}
-use Rattle.quick.proofs.Columns.{in_row}
-use borrow.Author.Rules.{rules}
 use Rattle.quick.proofs.has_height.Given as goal
 
 abbrev pub invariant-loop-i : goal.invariant-loop-i

@@ -1,7 +1,6 @@
 use mathlib.Core.Path.{sym, ◌∙◌}
 use borrow.Author.Tests.{not-false}
 use Rattle.quick.proofs.Columns.{no-rule, no-first, no_last}
-use borrow.Author.Rules.{rules}
 use Rattle.quick.proofs.has_row.Goals as goal
 
 pub returns-then-code-x-eq-AT_END : goal.returns-then-code-x-eq-AT_END

@@ -1,5 +1,4 @@
 use native.Mathlib.Omega.{arith}
-use borrow.Author.Rules.{rules}
 use Rattle.quick.proofs.is_doubtful.Goals as goal
 
 pub returns-then-s-lt2 : goal.returns-then-s-lt2

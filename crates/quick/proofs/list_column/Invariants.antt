@@ -1,12 +1,5 @@
-use mathlib.Core.Path.{◌≡◌, refl, sym, subst, ◌∙◌}
-use Prim.Native.Nat.{ℕ, ◌-◌, ◌≤◌}
-use native.Mathlib.Omega.{arith}
-use lib.ListN.{length}
-use lib.Seq.{get_or-set_other}
-use Rattle.sparse.specs.Steps.{Listed}
+use Prim.Native.Nat.{◌-◌, ◌≤◌}
 use Rattle.quick.specs.Quick.{AfterDots, ListedTo, ClearedTo}
-use Rattle.quick.proofs.Columns.{listed-none, cleared-none, cleared-next}
-use borrow.Author.Rules.{rules}
 use Rattle.quick.proofs.list_column.Given as goal
 
 abbrev pub invariant-loop-x : goal.invariant-loop-x

@@ -3,12 +3,10 @@ use Prim.Native.Nat.{ℕ, ◌+◌}
 use native.Mathlib.Omega.{arith}
 use lib.Dec.{leb}
 use lib.ListN.{set}
-use borrow.Author.Tests.{not-true, not-false}
 use Rattle.reach.specs.Flags.{end_at}
 use Rattle.sparse.proofs.Rows.{flagged, unflagged, home-size}
 use Rattle.quick.specs.Quick.{AfterDots, ListedTo}
 use Rattle.quick.proofs.Columns.{listed-skip, listed-add, after-added, dot-same, dot-cleared}
-use borrow.Author.Rules.{rules}
 use Rattle.quick.proofs.list_dot.Goals as goal
 
 pub wanted-requires : goal.wanted-requires

@@ -1,11 +1,10 @@
 use mathlib.Core.Path.{subst, ◌∙◌}
-use Prim.Native.Nat.{ℕ, ◌-◌, ◌≤◌}
+use Prim.Native.Nat.{ℕ, ◌-◌}
 use native.Mathlib.Omega.{arith}
 use lib.ListN.{set, length-set}
 use lib.Seq.{get_or-set_same}
 use Rattle.quick.specs.Quick.{Untouched}
 use Rattle.quick.proofs.Flags.{untouched-none, untouched-from, untouched-next}
-use borrow.Author.Rules.{rules}
 use Rattle.quick.proofs.untouch.Goals as goal
 
 pub bounds-column-3788 : goal.bounds-column-3788

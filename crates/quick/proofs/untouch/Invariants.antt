@@ -1,11 +1,5 @@
-use mathlib.Core.Path.{subst, ◌∙◌}
-use Prim.Native.Nat.{ℕ, ◌-◌, ◌≤◌}
-use native.Mathlib.Omega.{arith}
-use lib.ListN.{set, length-set}
-use lib.Seq.{get_or-set_same}
+use Prim.Native.Nat.{◌-◌, ◌≤◌}
 use Rattle.quick.specs.Quick.{Untouched}
-use Rattle.quick.proofs.Flags.{untouched-none, untouched-from, untouched-next}
-use borrow.Author.Rules.{rules}
 use Rattle.quick.proofs.untouch.Given as goal
 
 abbrev pub invariant-loop-i : goal.invariant-loop-i

@@ -1,5 +1,4 @@
 use native.Mathlib.Omega.{arith}
-use borrow.Author.Rules.{rules}
 use Rattle.quick.proofs.wants_rule.Goals as goal
 
 pub returns-then-code-x-ne-AT_END : goal.returns-then-code-x-ne-AT_END

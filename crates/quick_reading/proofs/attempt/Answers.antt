@@ -1,7 +1,5 @@
 use native.Mathlib.Omega.{arith}
-use borrow.Author.Tests.{not-true, not-false}
 use Rattle.quick_reading.proofs.Finished.{tables-of, finished, stopped}
-use borrow.Author.Rules.{rules}
 use Rattle.quick_reading.proofs.attempt.Goals as goal
 
 pub fill-requires : goal.fill-requires

@@ -1,9 +1,7 @@
-use mathlib.Core.Path.{refl, sym, ◌∙◌}
+use mathlib.Core.Path.{refl}
 use native.Mathlib.Omega.{arith}
-use borrow.Author.Tests.{not-true, not-false}
 use Rattle.right_pass.proofs.Given.{given-of, lefting-of, righting-of}
 use Rattle.quick_reading.proofs.Finished.{passed-left, passed-both}
-use borrow.Author.Rules.{rules}
 use Rattle.quick_reading.proofs.flag.Goals as goal
 
 pub left-requires : goal.left-requires

@@ -2,7 +2,6 @@ use mathlib.Core.Path.{sym, ap, ◌∙◌}
 use Rattle.quick_reading.specs.declared.Tried.TheVariants as tried
 use Rattle.quick_reading.specs.Readable.{is_answer}
 use Rattle.quick_reading.proofs.Finished.{walked-answer}
-use borrow.Author.Rules.{rules}
 use borrow.Enum.Refused.{opened}
 use Rattle.quick_reading.proofs.is_answer.Goals as goal
 

@@ -1,7 +1,6 @@
 use mathlib.Core.Path.{sym, ap}
 use Rattle.quick_reading.specs.declared.Tried.{Tried}
 use Rattle.quick_reading.specs.Readable.{is_refused}
-use borrow.Author.Rules.{rules}
 use Rattle.quick_reading.proofs.is_refused.Goals as goal
 
 pub returns-in_default : goal.returns-in_default

@@ -1,7 +1,5 @@
-use Prim.Native.Nat.{◌-◌, ℕ, ◌+◌}
+use Prim.Native.Nat.{◌-◌, ◌+◌}
 use mathlib.Core.Path.{sym, ◌∙◌}
-use borrow.Author.Rules.{rules}
-use borrow.Author.Tests.{not-true, not-false}
 use native.Mathlib.Omega.{arith}
 use lib.ListN.{length, drop}
 use Rattle.syntax.specs.Syntax.{bar}
@@ -9,7 +7,7 @@ use Rattle.syntax.specs.Parser.{starts, Alts=, Terms=}
 use Rattle.syntax.proofs.Classes.{bar-end}
 use Rattle.spacing.proofs.Places.{tested, in-text, is-ch, not-ch, twice}
 use Rattle.reader.specs.Answers.{body_code, alternative_code}
-use Rattle.reader.proofs.Loops.{Looping, loop-start, loop-fail, loop-read, room-read, room-cell, falls_at, falls-read, seen-in, less_one}
+use Rattle.reader.proofs.Loops.{loop-start, loop-fail, loop-read, room-read, room-cell, falls_at, falls-read, seen-in, less_one}
 use Rattle.reader.proofs.Cycle.{alts-none, alts-stop, alts-no-space, alts-less, alts-again, alt-nothing, alt-of-terms, mark-in, marks-in, sep-room, sep-falls, repeat-alone, repeat-no-space, repeat-no-factor, repeat-cell, repeat-sep, factor-of-plain, factor-deep, factor-no-space, factor-no-alts, factor-open, factor-shut, terms-none, terms-stop, terms-no-space, terms-less, terms-again, term-none, term-stop, term-option, term-star, term-plus}
 use Rattle.reader.proofs.+alternative_alternatives_factor_repeated_term_terms.Goals as goal
 

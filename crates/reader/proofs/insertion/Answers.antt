@@ -1,6 +1,5 @@
 use native.Mathlib.Omega.{arith}
 use Rattle.reader.proofs.Terminals.{chars-step, room-past, insertion-in, insertion-bad, inserted}
-use borrow.Author.Rules.{rules}
 use Rattle.reader.proofs.insertion.Goals as goal
 
 pub skip-requires : goal.skip-requires

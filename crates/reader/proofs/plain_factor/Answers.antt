@@ -2,7 +2,6 @@ use mathlib.Core.Path.{sym, ◌∙◌}
 use Rattle.syntax.specs.Syntax.{namestart}
 use Rattle.spacing.proofs.Places.{is-ch, not-ch, tested}
 use Rattle.reader.proofs.Terminals.{name-step, room-mark, plain-insertion, plain-bad, mark-small, plain-name, plain-attribute, plain-terminal}
-use borrow.Author.Rules.{rules}
 use Rattle.reader.proofs.plain_factor.Goals as goal
 
 pub insertion-requires : goal.insertion-requires

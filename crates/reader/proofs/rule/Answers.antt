@@ -1,11 +1,9 @@
 use mathlib.Core.Path.{◌∙◌}
 use native.Mathlib.Omega.{arith}
-use lib.ListN.{length-set}
 use Rattle.spacing.proofs.Places.{is-ch, not-ch}
 use Rattle.reader.specs.Answers.{head_code}
 use Rattle.reader.proofs.Loops.{got}
 use Rattle.reader.proofs.RulesHead.{room_after, rule-no-head, rule-no-body, rule-no-stop, stop-in, stop-cell, rule-got}
-use borrow.Author.Rules.{rules}
 use Rattle.reader.proofs.rule.Goals as goal
 
 pub returns-in_default : goal.returns-in_default

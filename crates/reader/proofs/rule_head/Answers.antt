@@ -4,7 +4,6 @@ use native.Mathlib.Omega.{arith}
 use Rattle.lexical.specs.Answers.{Mark-read}
 use Rattle.syntax.specs.Lexical.{read_name}
 use Rattle.reader.proofs.RulesHead.{room-on, word_in, mark-few, head-no-mark, head-closed}
-use borrow.Author.Rules.{rules}
 use Rattle.reader.proofs.rule_head.Goals as goal
 
 pub returns-in_default : goal.returns-in_default

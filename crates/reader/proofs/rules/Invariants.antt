@@ -1,10 +1,6 @@
-use Rattle.reader.proofs.Loops.{got, skipped}
-use mathlib.Core.Path.{◌∙◌}
 use Prim.Native.Nat.{◌-◌}
 use lib.ListN.{length}
-use borrow.Author.Rules.{rules}
-use Rattle.reader.proofs.RulesLoop.{Context, context-start, context-room, loop-bad, loop-end, loop-close, loop-none, loop-on}
-use Rattle.reader.proofs.RulesLoop as laws
+use Rattle.reader.proofs.RulesLoop.{Context}
 use Rattle.reader.proofs.rules.Given as goal
 
 abbrev pub invariant-loop-u : goal.invariant-loop-u

@@ -2,7 +2,6 @@ use mathlib.Core.Path.{refl, sym, ◌∙◌}
 use borrow.Author.Tests.{ne_eqb}
 use Rattle.syntax.specs.Parser.{starts}
 use Rattle.reader.proofs.Cycle.{starts-quote, starts-mark, starts_char, starts-name}
-use borrow.Author.Rules.{rules}
 use Rattle.reader.proofs.starts.Goals as goal
 
 pub returns-then-quote : goal.returns-then-quote

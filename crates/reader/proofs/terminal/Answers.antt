@@ -3,7 +3,6 @@ use native.Mathlib.Omega.{arith}
 use Rattle.spacing.proofs.Places.{is-ch, not-ch}
 use Rattle.sets.proofs.Sets.{seen-in}
 use Rattle.reader.proofs.Terminals.{chars-step, room-past, exclude-bad, excluded, included-set, a-literal}
-use borrow.Author.Rules.{rules}
 use Rattle.reader.proofs.terminal.Goals as goal
 
 pub skip-requires : goal.skip-requires

@@ -1,6 +1,5 @@
 use native.Mathlib.Omega.{arith}
 use Rattle.reading.proofs.Steps.{can-enter, stepped}
-use borrow.Author.Rules.{rules}
 use Rattle.reading.proofs.descend.Goals as goal
 
 pub find_end-m-requires : goal.find_end-m-requires

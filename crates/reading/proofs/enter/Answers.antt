@@ -6,7 +6,6 @@ use Rattle.candidates.specs.Candidates.{SomeLow, FirstLow}
 use Rattle.reading.specs.Walk.{full, wrote}
 use Rattle.splits.proofs.Values.{reads}
 use Rattle.candidates.proofs.Lines.{line-few}
-use borrow.Author.Rules.{rules}
 use Rattle.reading.proofs.enter.Goals as goal
 
 pub returns-then-at-ge-READING_NUMBERS : goal.returns-then-at-ge-READING_NUMBERS

@@ -1,6 +1,5 @@
 use native.Mathlib.Omega.{arith}
 use lib.ListN.{length-set}
-use borrow.Author.Rules.{rules}
 use Rattle.reading.proofs.push.Goals as goal
 
 pub bounds-stack-b-2 : goal.bounds-stack-b-2

@@ -2,7 +2,6 @@ use mathlib.Core.Path.{refl, sym, ◌∙◌}
 use Prim.Native.Nat.{◌+◌}
 use native.Mathlib.Omega.{arith}
 use Rattle.reading.specs.Walk.{at-end, at-terminal}
-use borrow.Author.Rules.{rules}
 use Rattle.reading.proofs.step.Goals as goal
 
 pub pop-requires : goal.pop-requires

@@ -1,12 +1,10 @@
-use mathlib.Core.Path.{◌≡◌, refl, sym, ◌∙◌}
+use mathlib.Core.Path.{refl, sym, ◌∙◌}
 use native.Mathlib.Omega.{arith}
-use lib.ListN.{length}
-use Rattle.text.specs.Limits.{most_size}
-use Rattle.reading.specs.Answer.{Finished, no-reading, too_long}
+use Rattle.reading.specs.Answer.{no-reading, too_long}
 use Rattle.splits.proofs.Values.{reads}
 use Rattle.reading.proofs.Tables.{small_of}
-use Rattle.reading.proofs.Course.{weight, unrooted, can-begin}
-use Rattle.reading.proofs.Underway.{with-small, Underway, set_out, place_inside, may-step, falls, go_on, arrive, arrive-long}
+use Rattle.reading.proofs.Course.{unrooted, can-begin}
+use Rattle.reading.proofs.Underway.{with-small, set_out, place_inside, may-step, falls, go_on, arrive, arrive-long}
 use Rattle.reading.proofs.walk.Goals as goal
 
 pub rule_height-requires : goal.rule_height-requires

@@ -1,12 +1,9 @@
-use mathlib.Core.Path.{◌≡◌, refl, sym, ◌∙◌}
-use native.Mathlib.Omega.{arith}
+use mathlib.Core.Path.{◌≡◌}
 use lib.ListN.{length}
 use Rattle.text.specs.Limits.{most_size}
-use Rattle.reading.specs.Answer.{Finished, no-reading, too_long}
-use Rattle.splits.proofs.Values.{reads}
-use Rattle.reading.proofs.Tables.{small_of}
-use Rattle.reading.proofs.Course.{weight, unrooted, can-begin}
-use Rattle.reading.proofs.Underway.{with-small, Underway, set_out, place_inside, may-step, falls, go_on, arrive, arrive-long}
+use Rattle.reading.specs.Answer.{Finished}
+use Rattle.reading.proofs.Course.{weight}
+use Rattle.reading.proofs.Underway.{Underway}
 use Rattle.reading.proofs.walk.Given as goal
 
 abbrev pub invariant-loop-out : goal.invariant-loop-out

@@ -1,10 +1,8 @@
 use native.Mathlib.Omega.{arith}
-use mathlib.Core.List.{[], ◌∷◌, ◌++◌}
-use mathlib.Core.Path.{ap, ◌∙◌}
+use mathlib.Core.List.{◌++◌}
 use Prim.Native.Nat.{◌+◌}
-use Rattle.repetitions.specs.Blocks.{Entry, entry, nums, entry_at, both_ends, star_block, rest_block, once_block, laid}
-use Rattle.repetitions.proofs.Stores.{laid_then, entry_kept}
-use borrow.Author.Rules.{rules}
+use Rattle.repetitions.specs.Blocks.{entry, nums, entry_at}
+use Rattle.repetitions.proofs.Stores.{laid_then}
 use Rattle.repetitions.proofs.once.Goals as goal
 
 pub returns : goal.returns

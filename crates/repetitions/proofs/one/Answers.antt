@@ -1,12 +1,9 @@
 use native.Mathlib.Omega.{arith}
-use borrow.Author.Tests.{eq-eqb, ne_eqb}
-use mathlib.Core.List.{List, [], ◌∷◌, ◌++◌}
-use mathlib.Core.Path.{◌≡◌, sym, ap, ◌∙◌, refl}
-use Prim.Native.Nat.{ℕ, ◌+◌, ◌*◌, ◌-◌, ◌≤◌}
-use Rattle.repetitions.specs.Blocks.{Entry, entry, nums, entry_at, both_ends, star_block, once_block, list_block, laid}
+use mathlib.Core.Path.{sym, ap, ◌∙◌}
+use Prim.Native.Nat.{◌+◌, ◌-◌}
+use Rattle.repetitions.specs.Blocks.{Entry, entry_at, star_block, once_block, laid}
 use Rattle.repetitions.proofs.Stores.{laid_then, entry_kept}
-use Rattle.repetitions.proofs.Operators.{is-option, is-star, is-plus, least-count, is-list, is-maybe, least-two}
-use borrow.Author.Rules.{rules}
+use Rattle.repetitions.proofs.Operators.{is-option, is-star, is-plus, least-count}
 use Rattle.repetitions.proofs.one.Goals as goal
 
 pub option-requires : goal.option-requires
@@ -54,23 +51,22 @@ returns-then-k-eq-TO_REPEAT0 c =
     )
 
 pub once-requires : goal.once-requires
-once-requires c =
-    (
-      record {
-        room = record {
-          size = c.star.auto.table ∙ c.requires.room.size;
-          fits = omega (
-            arith,
-            c.requires.room.fits,
-            (is-plus c.args.k (entry_at c.args.table.now c.args.from)
-                c.args.i c.if-k-eq-TO_OPTION.false c.if-k-eq-TO_REPEAT0.false).count,
-          );
-        };
-        low = c.requires.low;
-        high = c.requires.high;
-      },
-      omega (arith, c.requires.room.fits),
-    )
+once-requires c = (
+  record {
+    room = record {
+      size = c.star.auto.table ∙ c.requires.room.size;
+      fits = omega (
+        arith,
+        c.requires.room.fits,
+        (is-plus c.args.k (entry_at c.args.table.now c.args.from)
+            c.args.i c.if-k-eq-TO_OPTION.false c.if-k-eq-TO_REPEAT0.false).count,
+      );
+    };
+    low = c.requires.low;
+    high = c.requires.high;
+  },
+  omega (arith, c.requires.room.fits),
+)
 
 pub returns : goal.returns
 returns c =

@@ -1,7 +1,6 @@
 use native.Mathlib.Omega.{arith}
 use native.Mathlib.Numerals.{add-one, add-two}
 use lib.ListN.{length-set}
-use borrow.Author.Rules.{rules}
 use Rattle.repetitions.proofs.put.Goals as goal
 
 pub bounds-table-at-2 : goal.bounds-table-at-2

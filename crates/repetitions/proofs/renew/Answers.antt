@@ -1,7 +1,6 @@
 use native.Mathlib.Omega.{arith}
 use lib.ListN.{length-set}
 use Rattle.repetitions.proofs.Stores.{renewed}
-use borrow.Author.Rules.{rules}
 use Rattle.repetitions.proofs.renew.Goals as goal
 
 pub bounds-table-at-2 : goal.bounds-table-at-2

@@ -1,10 +1,9 @@
 use native.Mathlib.Omega.{arith}
-use mathlib.Core.List.{[], ◌∷◌, ◌++◌}
+use mathlib.Core.List.{◌++◌}
 use mathlib.Core.Path.{ap, ◌∙◌}
 use Prim.Native.Nat.{◌+◌}
-use Rattle.repetitions.specs.Blocks.{Entry, entry, nums, entry_at, both_ends, star_block, rest_block, once_block, laid}
+use Rattle.repetitions.specs.Blocks.{Entry, entry, nums, entry_at, both_ends, laid}
 use Rattle.repetitions.proofs.Stores.{laid_then, entry_kept}
-use borrow.Author.Rules.{rules}
 use Rattle.repetitions.proofs.rest.Goals as goal
 
 pub returns : goal.returns

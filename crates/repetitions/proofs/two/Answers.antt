@@ -1,12 +1,10 @@
 use native.Mathlib.Omega.{arith}
-use borrow.Author.Tests.{eq-eqb, ne_eqb}
-use mathlib.Core.List.{List, [], ◌∷◌, ◌++◌}
-use mathlib.Core.Path.{◌≡◌, sym, ap, ◌∙◌, refl}
-use Prim.Native.Nat.{ℕ, ◌+◌, ◌*◌, ◌-◌, ◌≤◌}
-use Rattle.repetitions.specs.Blocks.{Entry, entry, nums, entry_at, both_ends, star_block, once_block, list_block, laid}
+use mathlib.Core.List.{◌++◌}
+use mathlib.Core.Path.{sym, ap, ◌∙◌}
+use Prim.Native.Nat.{◌+◌, ◌-◌}
+use Rattle.repetitions.specs.Blocks.{Entry, entry, nums, entry_at, both_ends, list_block, laid}
 use Rattle.repetitions.proofs.Stores.{laid_then, entry_kept}
-use Rattle.repetitions.proofs.Operators.{is-option, is-star, is-plus, least-count, is-list, is-maybe, least-two}
-use borrow.Author.Rules.{rules}
+use Rattle.repetitions.proofs.Operators.{is-list, is-maybe, least-two}
 use Rattle.repetitions.proofs.two.Goals as goal
 
 pub listed-requires : goal.listed-requires

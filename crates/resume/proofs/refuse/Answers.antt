@@ -1,4 +1,3 @@
-use borrow.Author.Rules.{rules}
 use mathlib.Core.Path.{ap}
 use Rattle.exported.specs.declared.Answer.{Answer}
 use Rattle.resume.specs.declared.Progress.{Progress}

@@ -1,9 +1,7 @@
 use Rattle.answer.specs.Answer.{job}
-use borrow.Author.Tests.{not-true, not-false}
 use Rattle.opening.proofs.Starts.{small}
 use Rattle.tells.proofs.Tells.{not_so}
 use Rattle.resume.proofs.Lines.{not-kept, not_opened, lent-or-not}
-use borrow.Author.Rules.{rules}
 use Rattle.resume.proofs.resume.Goals as goal
 
 pub keeps-requires : goal.keeps-requires

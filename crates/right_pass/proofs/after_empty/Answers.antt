@@ -1,7 +1,6 @@
 use native.Mathlib.Omega.{arith}
 use Prim.Native.Nat.{◌-◌, ◌+◌}
 use mathlib.Core.Path.{◌≡◌}
-use borrow.Author.Rules.{rules}
 use Rattle.right_pass.proofs.Back.{back_none, empty-stepped, empty-done}
 use Rattle.right_pass.proofs.Drains.{start-empty, no-terminal, no-empty}
 use Rattle.right_pass.proofs.after_empty.Goals as goal

@@ -1,7 +1,6 @@
 use native.Mathlib.Omega.{arith}
-use Prim.Native.Nat.{◌-◌, ◌+◌, ◌<◌}
+use Prim.Native.Nat.{◌-◌, ◌+◌}
 use mathlib.Core.Path.{◌≡◌}
-use borrow.Author.Rules.{rules}
 use Rattle.right_pass.proofs.Back.{back_none, symbol-rule, symbol-inside, symbol-waking, symbol-kept, after_none, after-done, after-over, after-over-done}
 use Rattle.right_pass.proofs.Drains.{start-symbol, no_symbol}
 use Rattle.right_pass.proofs.after_symbol.Goals as goal

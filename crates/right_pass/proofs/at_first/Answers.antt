@@ -1,7 +1,6 @@
 use native.Mathlib.Omega.{arith}
 use Prim.Native.Nat.{◌-◌, ◌+◌}
 use mathlib.Core.Path.{◌≡◌}
-use borrow.Author.Rules.{rules}
 use Rattle.chart.specs.Code.{owner_at}
 use Rattle.right_pass.proofs.Back.{back_none, first-waking, first-stepped, first_done}
 use Rattle.right_pass.proofs.Drains.{no-first}

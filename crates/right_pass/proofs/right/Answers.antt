@@ -1,11 +1,10 @@
 use native.Mathlib.Omega.{arith}
-use Prim.Native.Nat.{ℕ, ◌+◌, ◌-◌, ◌≤◌}
-use mathlib.Core.Path.{◌≡◌, refl, ◌∙◌, sym}
+use Prim.Native.Nat.{ℕ, ◌-◌, ◌≤◌}
+use mathlib.Core.Path.{refl, ◌∙◌}
 use lib.ListN.{length, length-replicate}
-use borrow.Author.Rules.{rules}
 use Rattle.chart.proofs.Users.{all-zero}
 use Rattle.left_pass.proofs.Places.{keying-next}
-use Rattle.right_pass.proofs.Rightward.{Passing, want-waking, back_start, back_at, back-collects, back-closing, back-unshifting, back-next, back_done}
+use Rattle.right_pass.proofs.Rightward.{want-waking, back_start, back_at, back-collects, back-closing, back-unshifting, back-next, back_done}
 use Rattle.right_pass.proofs.right.Goals as goal
 
 pub homes-requires : goal.homes-requires

@@ -1,7 +1,5 @@
 use native.Mathlib.Omega.{arith}
-use Prim.Native.Nat.{◌-◌, ◌≤◌}
-use borrow.Author.Rules.{rules}
-use Rattle.right_pass.specs.Right.{Unshifted}
+use Prim.Native.Nat.{◌-◌}
 use Rattle.right_pass.proofs.Rightward.{unshifting-next, unshift-start, unshift-join, unshift-all}
 use Rattle.right_pass.proofs.unshift.Goals as goal
 

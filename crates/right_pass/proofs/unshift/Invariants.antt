@@ -1,8 +1,5 @@
-use native.Mathlib.Omega.{arith}
 use Prim.Native.Nat.{◌-◌, ◌≤◌}
-use borrow.Author.Rules.{rules}
 use Rattle.right_pass.specs.Right.{Unshifted}
-use Rattle.right_pass.proofs.Rightward.{unshifting-next, unshift-start, unshift-join, unshift-all}
 use Rattle.right_pass.proofs.unshift.Given as goal
 
 abbrev pub invariant-loop-p : goal.invariant-loop-p

@@ -1,7 +1,6 @@
 use native.Mathlib.Omega.{arith}
 use Prim.Native.Nat.{ℕ, ◌-◌}
 use mathlib.Core.Path.{◌≡◌, ◌∙◌, sym, ap}
-use borrow.Author.Rules.{rules}
 use Rattle.reach.specs.Flags.{dot_at}
 use Rattle.left_pass.proofs.Shifts.{not_none}
 use Rattle.right_pass.proofs.Rightward.{unshift-none, unshift-some}

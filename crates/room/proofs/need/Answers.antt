@@ -1,6 +1,5 @@
 use native.Mathlib.Omega.{arith}
 use Rattle.room.proofs.Needs.{pairs, whole}
-use borrow.Author.Rules.{rules}
 use Rattle.room.proofs.need.Goals as goal
 
 pub overflow_mul-result : goal.overflow_mul-result

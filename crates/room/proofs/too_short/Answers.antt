@@ -1,5 +1,4 @@
 use borrow.Author.Tests.{lt-ltb, le-ltb}
-use borrow.Author.Rules.{rules}
 use Rattle.room.proofs.too_short.Goals as goal
 
 pub returns-then-first-need : goal.returns-then-first-need

@@ -1,6 +1,5 @@
 use native.Mathlib.Omega.{arith}
-use borrow.Author.Rules.{rules}
-use mathlib.Core.Path.{◌≡◌, refl, sym, ◌∙◌, ap}
+use mathlib.Core.Path.{refl, ◌∙◌, ap}
 use Prim.Native.Nat.{ℕ, ◌-◌}
 use Rattle.chart.specs.Code.{owner_at}
 use Rattle.rules.proofs.Arrays.{item-terminal, item-symbol, item-end, item-last}

@@ -1,7 +1,6 @@
 use native.Mathlib.Omega.{arith}
-use mathlib.Core.Path.{sym, ◌∙◌, ap}
 use Prim.Native.Nat.{◌-◌}
-use Rattle.rules.proofs.Arrays.{Coding, code-start, code-next, code-end}
+use Rattle.rules.proofs.Arrays.{code-start, code-next, code-end}
 use Rattle.rules.proofs.code_items.Goals as goal
 
 pub loop-p-init : goal.loop-p-init

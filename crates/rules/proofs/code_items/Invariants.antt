@@ -1,7 +1,5 @@
-use native.Mathlib.Omega.{arith}
-use mathlib.Core.Path.{sym, ◌∙◌, ap}
 use Prim.Native.Nat.{◌-◌}
-use Rattle.rules.proofs.Arrays.{Coding, code-start, code-next, code-end}
+use Rattle.rules.proofs.Arrays.{Coding}
 use Rattle.rules.proofs.code_items.Given as goal
 
 abbrev pub invariant-loop-p : goal.invariant-loop-p

@@ -1,7 +1,6 @@
 use native.Mathlib.Omega.{arith}
-use mathlib.Core.Path.{◌≡◌, refl, sym, ◌∙◌, ap}
+use mathlib.Core.Path.{◌∙◌}
 use Rattle.rules.proofs.Whole.{reach, first-inside, coded-rules}
-use borrow.Author.Rules.{rules}
 use Rattle.rules.proofs.code_rules.Goals as goal
 
 pub owners-requires : goal.owners-requires

@@ -1,7 +1,5 @@
-use native.Mathlib.Omega.{arith}
 use borrow.Author.Tests.{eq-eqb, ne_eqb}
 use Rattle.rules.specs.Ready.{last_of}
-use borrow.Author.Rules.{rules}
 use Rattle.rules.proofs.last_at.Goals as goal
 
 pub returns-then-table-p-eq-RULE_END : goal.returns-then-table-p-eq-RULE_END

@@ -1,7 +1,5 @@
-use native.Mathlib.Omega.{arith}
 use borrow.Author.Tests.{eq-eqb, ne_eqb, lt-ltb, le-ltb}
 use Rattle.rules.specs.Ready.{owner_of}
-use borrow.Author.Rules.{rules}
 use Rattle.rules.proofs.owner_at.Goals as goal
 
 pub returns-then-p-eq0 : goal.returns-then-p-eq0

@@ -1,8 +1,6 @@
 use native.Mathlib.Omega.{arith}
-use mathlib.Core.Path.{sym, ◌∙◌, ap}
 use Prim.Native.Nat.{◌-◌}
-use lib.ListN.{length-set}
-use Rattle.rules.proofs.Arrays.{Owning, own-start, own-small, own-next, own-end}
+use Rattle.rules.proofs.Arrays.{own-start, own-small, own-next, own-end}
 use Rattle.rules.proofs.owners.Goals as goal
 
 pub loop-p-init : goal.loop-p-init
@@ -16,14 +14,13 @@ pub last_at-last-requires : goal.last_at-last-requires
 last_at-last-requires c = (c.requires.long, omega (arith, c.requires.small, c.loop-p.invariant.low, c.loop-p-test.true))
 
 pub owner_at-requires : goal.owner_at-requires
-owner_at-requires c =
-    (
-      c.requires.long,
-      omega (arith, c.requires.small, c.loop-p.invariant.low, c.loop-p-test.true),
-      rw c.last_at-last.ensures
-          (own-small (c.loop-p.p - 1) c.loop-p.p c.loop-p.invariant (omega (arith, c.loop-p-test.true))
-          c.requires.small c.requires.room),
-    )
+owner_at-requires c = (
+  c.requires.long,
+  omega (arith, c.requires.small, c.loop-p.invariant.low, c.loop-p-test.true),
+  rw c.last_at-last.ensures
+      (own-small (c.loop-p.p - 1) c.loop-p.p c.loop-p.invariant (omega (arith, c.loop-p-test.true))
+      c.requires.small c.requires.room),
+)
 
 pub overflow_mul-code : goal.overflow_mul-code
 overflow_mul-code c =

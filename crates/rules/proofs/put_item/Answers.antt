@@ -1,8 +1,6 @@
 use native.Mathlib.Omega.{arith}
 use lib.ListN.{length-set}
-use Prim.Native.Nat.{◌*◌, ◌+◌}
 use Rattle.rules.proofs.Arrays.{put-law}
-use borrow.Author.Rules.{rules}
 use Rattle.rules.proofs.put_item.Goals as goal
 
 pub bounds-code-at-2 : goal.bounds-code-at-2

@@ -2,7 +2,6 @@ use native.Mathlib.Omega.{arith}
 use Rattle.spacing.proofs.Places.{is-ch, not-ch}
 use Rattle.lexical.proofs.Words.{tokenable}
 use Rattle.sets.proofs.Sets.{seen-in, chars-in, member-unspaced, head-room, no-range, rest-room, range-member, token-there, chars-member}
-use borrow.Author.Rules.{rules}
 use Rattle.sets.proofs.chars_member.Goals as goal
 
 pub past_chars-requires : goal.past_chars-requires

@@ -1,6 +1,5 @@
 use mathlib.Core.Path.{sym, ◌∙◌}
 use Rattle.sets.proofs.Sets.{class-in, class-room, class-one, class-two}
-use borrow.Author.Rules.{rules}
 use native.Mathlib.Omega.{arith}
 use Rattle.spacing.proofs.Places.{twice}
 use Rattle.sets.proofs.class.Goals as goal

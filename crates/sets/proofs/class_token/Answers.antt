@@ -1,6 +1,5 @@
 use native.Mathlib.Omega.{arith}
 use lib.ListN.{length-set}
-use borrow.Author.Rules.{rules}
 use Rattle.sets.proofs.class_token.Goals as goal
 
 pub bounds-out-j-2 : goal.bounds-out-j-2

@@ -2,7 +2,6 @@ use native.Mathlib.Omega.{arith}
 use Rattle.spacing.proofs.Places.{is-ch, not-ch}
 use Rattle.sets.proofs.Sets.{seen-in}
 use Rattle.sets.proofs.Listing.{filled_none, filled-open, filled-cell, filled-shut}
-use borrow.Author.Rules.{rules}
 use Rattle.sets.proofs.filled_set.Goals as goal
 
 pub returns-in_default : goal.returns-in_default

@@ -2,7 +2,6 @@ use mathlib.Core.Path.{sym, ◌∙◌}
 use Rattle.syntax.specs.Syntax.{capital}
 use Rattle.spacing.proofs.Places.{tested}
 use Rattle.sets.proofs.Sets.{class-step, class-member}
-use borrow.Author.Rules.{rules}
 use Rattle.sets.proofs.member.Goals as goal
 
 pub class-requires : goal.class-requires

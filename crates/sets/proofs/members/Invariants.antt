@@ -1,12 +1,6 @@
 use Prim.Native.Nat.{◌-◌}
-use mathlib.Core.Path.{sym, ◌∙◌}
-use native.Mathlib.Omega.{arith}
 use lib.ListN.{length}
-use borrow.Author.Rules.{rules}
-use borrow.Author.Tests.{not-true, not-false}
-use Rattle.syntax.specs.Syntax.{bar}
-use Rattle.spacing.proofs.Places.{tested}
-use Rattle.sets.proofs.Listing.{Listing, listing_start, listing-room, listing_none, listing-last, bar-in, listing-bad, listing-less, listing-on}
+use Rattle.sets.proofs.Listing.{Listing}
 use Rattle.sets.proofs.members.Given as goal
 
 abbrev pub invariant-loop-q : goal.invariant-loop-q

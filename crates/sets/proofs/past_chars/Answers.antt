@@ -1,4 +1,3 @@
-use borrow.Author.Rules.{rules}
 use Rattle.sets.proofs.past_chars.Goals as goal
 
 pub skip-requires : goal.skip-requires

@@ -1,7 +1,6 @@
 use native.Mathlib.Omega.{arith}
 use mathlib.Core.Path.{refl}
 use lib.ListN.{length-set}
-use borrow.Author.Rules.{rules}
 use Rattle.sets.proofs.range_end.Goals as goal
 
 pub returns-then-b-j : goal.returns-then-b-j

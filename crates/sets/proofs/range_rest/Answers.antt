@@ -1,5 +1,4 @@
 use Rattle.sets.proofs.Sets.{rest-bad, rest-space, rest_in, rest_read}
-use borrow.Author.Rules.{rules}
 use native.Mathlib.Omega.{arith}
 use Rattle.sets.proofs.range_rest.Goals as goal
 

@@ -2,7 +2,6 @@ use native.Mathlib.Omega.{arith}
 use Rattle.spacing.proofs.Places.{is-ch, not-ch}
 use Rattle.sets.proofs.Sets.{seen-in}
 use Rattle.sets.proofs.Listing.{no-set, set-bad, set_room, set-cell, set-none, set-some}
-use borrow.Author.Rules.{rules}
 use Rattle.sets.proofs.set.Goals as goal
 
 pub returns-then-peek-ne-OPEN_SQUARE : goal.returns-then-peek-ne-OPEN_SQUARE

@@ -1,10 +1,8 @@
-use mathlib.Core.Path.{◌≡◌, sym, subst, ap, ◌∙◌}
-use Prim.Native.Nat.{ℕ, ◌-◌, ◌<◌}
+use mathlib.Core.Path.{sym, subst, ◌∙◌}
+use Prim.Native.Nat.{ℕ, ◌-◌}
 use native.Mathlib.Omega.{arith}
-use Rattle.chart.specs.Heights.{none}
 use Rattle.sparse.specs.Cells.{Tables}
-use Rattle.settle.proofs.Carrying.{Carrying, carrying-start, carry-end, carry-first, carry-none, carry-next-at}
-use borrow.Author.Rules.{rules}
+use Rattle.settle.proofs.Carrying.{carrying-start, carry-end, carry-first, carry-none, carry-next-at}
 use Rattle.settle.proofs.carry.Goals as goal
 
 -- src/lib.rt:78:5

@@ -1,10 +1,5 @@
-use mathlib.Core.Path.{◌≡◌, sym, subst, ap, ◌∙◌}
-use Prim.Native.Nat.{ℕ, ◌-◌, ◌<◌}
-use native.Mathlib.Omega.{arith}
-use Rattle.chart.specs.Heights.{none}
-use Rattle.sparse.specs.Cells.{Tables}
-use Rattle.settle.proofs.Carrying.{Carrying, carrying-start, carry-end, carry-first, carry-none, carry-next-at}
-use borrow.Author.Rules.{rules}
+use Prim.Native.Nat.{◌-◌}
+use Rattle.settle.proofs.Carrying.{Carrying}
 use Rattle.settle.proofs.carry.Given as goal
 
 abbrev pub invariant-loop-s : goal.invariant-loop-s

@@ -1,8 +1,5 @@
-use mathlib.Core.Path.{◌≡◌, sym, subst, ◌∙◌}
-use Prim.Native.Nat.{ℕ}
-use native.Mathlib.Omega.{arith}
+use mathlib.Core.Path.{sym, ◌∙◌}
 use Rattle.settle.proofs.Carrying.{left-first, left-none, left-offer-at, left-carried}
-use borrow.Author.Rules.{rules}
 use Rattle.settle.proofs.carry_left.Goals as goal
 
 -- src/lib.rt:104:9

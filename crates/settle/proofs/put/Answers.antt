@@ -3,7 +3,6 @@ use Prim.Native.Nat.{◌+◌, ◌-◌}
 use native.Mathlib.Omega.{arith}
 use Rattle.chart.specs.Code.{owner_at}
 use Rattle.settle.proofs.Held.{put-own, put-owner, put-above}
-use borrow.Author.Rules.{rules}
 use Rattle.settle.proofs.put.Goals as goal
 
 -- src/lib.rt:55:9

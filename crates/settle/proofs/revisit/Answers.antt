@@ -1,7 +1,6 @@
-use mathlib.Core.Path.{◌≡◌, sym, ap, subst, ◌∙◌}
-use Prim.Native.Nat.{ℕ, ◌+◌, ◌-◌, ◌*◌}
+use mathlib.Core.Path.{sym, subst, ◌∙◌}
+use Prim.Native.Nat.{ℕ, ◌-◌}
 use native.Mathlib.Omega.{arith}
-use borrow.Author.Rules.{rules}
 use Rattle.chart.specs.Uses.{LastUse}
 use Rattle.sparse.specs.Cells.{Tables}
 use Rattle.settle.proofs.Using.{Revisiting, revisit-start, link, revisit-again, revisit-end}

@@ -1,10 +1,5 @@
-use mathlib.Core.Path.{◌≡◌, sym, ap, subst, ◌∙◌}
-use Prim.Native.Nat.{ℕ, ◌+◌, ◌-◌, ◌*◌}
-use native.Mathlib.Omega.{arith}
-use borrow.Author.Rules.{rules}
-use Rattle.chart.specs.Uses.{LastUse}
-use Rattle.sparse.specs.Cells.{Tables}
-use Rattle.settle.proofs.Using.{Revisiting, revisit-start, link, revisit-again, revisit-end}
+use Prim.Native.Nat.{◌-◌}
+use Rattle.settle.proofs.Using.{Revisiting}
 use Rattle.settle.proofs.revisit.Given as goal
 
 abbrev pub invariant-loop-u : goal.invariant-loop-u

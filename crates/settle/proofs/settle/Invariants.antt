@@ -1,11 +1,7 @@
-use mathlib.Core.Path.{◌≡◌, sym, ap, subst, ◌∙◌}
-use Prim.Native.Nat.{ℕ, ◌<◌, ◌+◌, ◌*◌}
-use native.Mathlib.Omega.{arith}
-use borrow.Author.Rules.{rules}
+use Prim.Native.Nat.{◌+◌, ◌*◌}
 use Rattle.heights.specs.Filling.{total}
 use Rattle.queue.specs.Queue.{count_of}
-use Rattle.sparse.specs.Cells.{Tables}
-use Rattle.settle.proofs.Waking.{Settling, settling-start, settling-from, settling-again, settling-less, settled}
+use Rattle.settle.proofs.Waking.{Settling}
 use Rattle.settle.proofs.settle.Given as goal
 
 abbrev pub invariant-loop-queue : goal.invariant-loop-queue

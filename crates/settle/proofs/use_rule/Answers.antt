@@ -1,14 +1,11 @@
-use mathlib.Core.Path.{◌≡◌, sym, ap, subst, ◌∙◌}
-use Prim.Native.Nat.{ℕ, ◌<◌, ◌+◌, max}
+use mathlib.Core.Path.{sym, ap, subst, ◌∙◌}
+use Prim.Native.Nat.{ℕ, ◌+◌, max}
 use native.Mathlib.Omega.{arith}
-use borrow.Author.Tests.{not-true, not-false}
-use Rattle.chart.specs.Code.{rule_at}
 use Rattle.heights.specs.Table.{up_of}
-use Rattle.reach.specs.Flags.{Wanted, home_of}
+use Rattle.reach.specs.Flags.{Wanted}
 use Rattle.sparse.specs.Cells.{rule_of}
 use Rattle.sparse.proofs.Rows.{flagged, unflagged, home-size}
 use Rattle.settle.proofs.Using.{use-away, use-unwanted, use-some, use-none, use-left, use-offer, used-last, used-carried}
-use borrow.Author.Rules.{rules}
 use Rattle.settle.proofs.use_rule.Goals as goal
 
 -- src/lib.rt:128:9

@@ -1,7 +1,6 @@
 use mathlib.Core.Path.{sym, ◌∙◌}
 use Rattle.sparse.proofs.Rows.{flagged, unflagged}
 use Rattle.settle.proofs.Waking.{wake-rest, wake-rule, wake-carried, wake-away}
-use borrow.Author.Rules.{rules}
 use Rattle.settle.proofs.wake.Goals as goal
 
 pub returns-then-code-x-eq-AT_END : goal.returns-then-code-x-eq-AT_END

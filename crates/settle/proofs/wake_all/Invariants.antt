@@ -1,12 +1,5 @@
-use mathlib.Core.Path.{◌≡◌, sym, ap, subst, ◌∙◌}
-use Prim.Native.Nat.{ℕ, ◌<◌, ◌-◌}
-use native.Mathlib.Omega.{arith}
-use borrow.Author.Rules.{rules}
-use lib.ListN.{get_or}
-use Rattle.sparse.specs.Cells.{Tables}
-use Rattle.sparse.specs.Column.{Wakes}
-use Rattle.sparse.proofs.Rows.{in_table}
-use Rattle.settle.proofs.Waking.{Awake, awake-start, awake-next, wake-idle, all-woken}
+use Prim.Native.Nat.{◌-◌}
+use Rattle.settle.proofs.Waking.{Awake}
 use Rattle.settle.proofs.wake_all.Given as goal
 
 abbrev pub invariant-loop-k : goal.invariant-loop-k

@@ -1,4 +1,3 @@
-use native.Mathlib.Omega.{arith}
 use Rattle.spacing.proofs.Spacing.{inner_start, inner-end, inner-char, inner-shut, inner-deep, inner-bad, inner-on, inner-less}
 use Rattle.spacing.proofs.+comment.Goals as goal
 

@@ -1,10 +1,7 @@
 use Prim.Native.Nat.{◌-◌}
 use mathlib.Core.Path.{sym, ◌∙◌}
 use native.Mathlib.Omega.{arith}
-use lib.ListN.{length}
-use borrow.Author.Rules.{rules}
-use borrow.Author.Tests.{not-true, not-false}
-use Rattle.spacing.proofs.Spacing.{inner-less, Outer, outer_start, outer-end, outer-white, outer-stop, outer-bad, outer-on}
+use Rattle.spacing.proofs.Spacing.{inner-less, outer_start, outer-end, outer-white, outer-stop, outer-bad, outer-on}
 use Rattle.spacing.proofs.skip.Goals as goal
 
 pub loop-at-init : goal.loop-at-init

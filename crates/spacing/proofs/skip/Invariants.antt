@@ -1,10 +1,6 @@
 use Prim.Native.Nat.{◌-◌}
-use mathlib.Core.Path.{sym, ◌∙◌}
-use native.Mathlib.Omega.{arith}
 use lib.ListN.{length}
-use borrow.Author.Rules.{rules}
-use borrow.Author.Tests.{not-true, not-false}
-use Rattle.spacing.proofs.Spacing.{inner-less, Outer, outer_start, outer-end, outer-white, outer-stop, outer-bad, outer-on}
+use Rattle.spacing.proofs.Spacing.{Outer}
 use Rattle.spacing.proofs.skip.Given as goal
 
 abbrev pub invariant-loop-at : goal.invariant-loop-at

@@ -1,5 +1,4 @@
 use mathlib.Core.Path.{refl}
-use borrow.Author.Rules.{rules}
 use Rattle.spacing.proofs.spaced.Goals as goal
 
 pub returns-in_default : goal.returns-in_default

@@ -1,7 +1,6 @@
 use native.Mathlib.Omega.{arith}
 use Rattle.spacing.specs.Answers.{Skipped}
 use Rattle.spacing.proofs.Table.{one_number}
-use borrow.Author.Rules.{rules}
 use Rattle.spacing.proofs.token.Goals as goal
 
 pub returns-in_default : goal.returns-in_default

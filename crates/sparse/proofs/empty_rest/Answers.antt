@@ -1,6 +1,5 @@
 use mathlib.Core.Path.{sym}
 use Rattle.sparse.proofs.Rows.{empty-end, empty-row}
-use borrow.Author.Rules.{rules}
 use Rattle.sparse.proofs.empty_rest.Goals as goal
 
 pub returns-then-code-p-eq-AT_END : goal.returns-then-code-p-eq-AT_END

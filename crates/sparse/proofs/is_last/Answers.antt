@@ -1,7 +1,6 @@
 use mathlib.Core.Path.{sym}
 use native.Mathlib.Omega.{arith}
 use Rattle.sparse.proofs.Rows.{last-symbol, last-stop, last-owner}
-use borrow.Author.Rules.{rules}
 use Rattle.sparse.proofs.is_last.Goals as goal
 
 pub returns-then-code-p-ne-AT_SYMBOL : goal.returns-then-code-p-ne-AT_SYMBOL

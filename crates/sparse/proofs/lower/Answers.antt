@@ -1,6 +1,5 @@
 use native.Mathlib.Omega.{arith}
 use Rattle.sparse.proofs.Rows.{in_table, lowered-at, kept_at}
-use borrow.Author.Rules.{rules}
 use Rattle.sparse.proofs.lower.Goals as goal
 
 pub offset_bounds-main-x : goal.offset_bounds-main-x

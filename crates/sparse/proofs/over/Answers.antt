@@ -1,11 +1,9 @@
 use mathlib.Core.Path.{sym, ap, ◌∙◌}
 use Prim.Native.Nat.{ℕ, max}
 use native.Mathlib.Omega.{arith}
-use borrow.Author.Tests.{not-true, not-false}
 use Rattle.heights.specs.Table.{up_of}
 use Rattle.sparse.specs.Cells.{empty_in}
 use Rattle.sparse.proofs.Rows.{flagged, unflagged, over-away, over-terminal, over-misfit, over-taking, over-symbol, over-other}
-use borrow.Author.Rules.{rules}
 use Rattle.sparse.proofs.over.Goals as goal
 
 pub returns-then-not-reached : goal.returns-then-not-reached

@@ -1,7 +1,5 @@
 use mathlib.Core.Path.{sym, ◌∙◌}
-use borrow.Author.Tests.{not-true, not-false}
 use Rattle.sparse.proofs.Rows.{flagged, unflagged, rest-empty, rest_end, rest-away, rest-wide}
-use borrow.Author.Rules.{rules}
 use Rattle.sparse.proofs.rest_height.Goals as goal
 
 pub returns-then-s : goal.returns-then-s

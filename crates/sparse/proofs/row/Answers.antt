@@ -3,7 +3,6 @@ use mathlib.Core.Path.{◌≡◌, sym}
 use native.Mathlib.Omega.{arith}
 use Rattle.chart.specs.Code.{owner_at}
 use Rattle.sparse.proofs.Rows.{row-inner, row_first}
-use borrow.Author.Rules.{rules}
 use Rattle.sparse.proofs.row.Goals as goal
 
 pub returns-then-owner-eq0 : goal.returns-then-owner-eq0

@@ -3,9 +3,7 @@ use mathlib.Core.Path.{sym, ap, ◌∙◌}
 use Prim.Native.Nat.{ℕ}
 use native.Mathlib.Omega.{arith}
 use lib.ListN.{get_or}
-use borrow.Author.Tests.{not-true, not-false}
 use Rattle.sparse.proofs.Rows.{flagged, unflagged, in_table, rule-empty, rule-cell, rule-none}
-use borrow.Author.Rules.{rules}
 use Rattle.sparse.proofs.rule_height.Goals as goal
 
 pub returns-then-s : goal.returns-then-s

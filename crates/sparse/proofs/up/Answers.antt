@@ -1,7 +1,6 @@
 use mathlib.Core.Path.{sym}
 use native.Mathlib.Omega.{arith}
 use Rattle.heights.proofs.Values.{up_is, up_none}
-use borrow.Author.Rules.{rules}
 use Rattle.sparse.proofs.up.Goals as goal
 
 pub returns-then-h-lt-NONE : goal.returns-then-h-lt-NONE

@@ -3,12 +3,10 @@ use Prim.Native.Nat.{ℕ}
 use native.Mathlib.Omega.{arith}
 use lib.Dec.{leb}
 use lib.ListN.{get_or}
-use borrow.Author.Tests.{not-true, not-false}
 use Rattle.heights.specs.Table.{up_of}
 use Rattle.reach.specs.Flags.{end_at}
 use Rattle.sparse.specs.Cells.{rule_of}
 use Rattle.sparse.proofs.Rows.{flagged, unflagged, in_table, last-is, home-size, wide-last, wide_row, wide-none}
-use borrow.Author.Rules.{rules}
 use Rattle.sparse.proofs.wide_rest.Goals as goal
 
 pub rule_height-requires : goal.rule_height-requires

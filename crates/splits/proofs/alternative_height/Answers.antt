@@ -2,7 +2,6 @@ use mathlib.Core.Path.{◌≡◌, sym, ◌∙◌}
 use native.Mathlib.Omega.{arith}
 use Rattle.chart.specs.Code.{next_kind}
 use Rattle.splits.proofs.Values.{value-end, value_none, value-terminal, value-symbol}
-use borrow.Author.Rules.{rules}
 use Rattle.splits.proofs.alternative_height.Goals as goal
 
 pub returns-then-s : goal.returns-then-s

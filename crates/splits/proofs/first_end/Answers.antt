@@ -1,6 +1,5 @@
 use mathlib.Core.Logic.{inl, inr}
 use mathlib.Core.Path.{refl, sym, ◌∙◌}
-use borrow.Author.Rules.{rules}
 use Rattle.splits.proofs.first_end.Goals as goal
 
 pub returns-then-number_at-eq-AFTER_ALTERNATIVE : goal.returns-then-number_at-eq-AFTER_ALTERNATIVE

@@ -1,7 +1,6 @@
-use borrow.Author.Rules.{rules}
 use native.Mathlib.Omega.{arith}
-use Prim.Native.Nat.{◌+◌, ◌-◌}
-use Rattle.splits.proofs.Values.{after-symbol, rest_in, Sought, sought-from, sought-over, sought-next, sought-all}
+use Prim.Native.Nat.{◌-◌}
+use Rattle.splits.proofs.Values.{after-symbol, rest_in, sought-from, sought-over, sought-next, sought-all}
 use Rattle.splits.proofs.least_split.Goals as goal
 
 pub rest_cells-x-requires : goal.rest_cells-x-requires

@@ -1,7 +1,5 @@
-use borrow.Author.Rules.{rules}
-use native.Mathlib.Omega.{arith}
 use Prim.Native.Nat.{◌+◌, ◌-◌}
-use Rattle.splits.proofs.Values.{after-symbol, rest_in, Sought, sought-from, sought-over, sought-next, sought-all}
+use Rattle.splits.proofs.Values.{Sought}
 use Rattle.splits.proofs.least_split.Given as goal
 
 abbrev pub invariant-loop-m : goal.invariant-loop-m

@@ -1,10 +1,8 @@
 use mathlib.Core.Path.{sym, ap, ◌∙◌}
 use Prim.Native.Nat.{ℕ, ◌+◌}
 use native.Mathlib.Omega.{arith}
-use borrow.Author.Tests.{not-true, not-false}
 use Rattle.sparse.specs.Cells.{rest_of}
 use Rattle.splits.proofs.Values.{past-misfit, past-short, past_is}
-use borrow.Author.Rules.{rules}
 use Rattle.splits.proofs.past_terminal.Goals as goal
 
 pub returns-then-not-fits : goal.returns-then-not-fits

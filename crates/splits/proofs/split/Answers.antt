@@ -2,7 +2,6 @@ use mathlib.Core.Path.{sym, ap, ◌∙◌}
 use Prim.Native.Nat.{ℕ, max}
 use native.Mathlib.Omega.{arith}
 use Rattle.splits.proofs.Values.{reads, split-none, split-is}
-use borrow.Author.Rules.{rules}
 use Rattle.splits.proofs.split.Goals as goal
 
 pub rule_height-a-requires : goal.rule_height-a-requires

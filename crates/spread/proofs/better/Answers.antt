@@ -1,6 +1,5 @@
 use native.Mathlib.Omega.{arith}
 use Rattle.spread.proofs.Handing.{better-less, better-kept}
-use borrow.Author.Rules.{rules}
 use Rattle.spread.proofs.better.Goals as goal
 
 pub returns-then-m-v : goal.returns-then-m-v

@@ -6,7 +6,6 @@ use lib.Dec.{leb}
 use Rattle.reach.specs.Flags.{end_at}
 use Rattle.sparse.proofs.Rows.{flagged, unflagged}
 use Rattle.spread.proofs.Handing.{spread_none, end_on}
-use borrow.Author.Rules.{rules}
 use Rattle.spread.proofs.hand_on.Goals as goal
 
 pub spread_terminal-requires : goal.spread_terminal-requires

@@ -1,5 +1,5 @@
-use mathlib.Core.Path.{◌≡◌, sym, ap}
-use Prim.Native.Nat.{ℕ, ◌+◌, ◌-◌, ◌<◌, ◌≤◌}
+use mathlib.Core.Path.{ap}
+use Prim.Native.Nat.{ℕ, ◌+◌, ◌-◌, ◌≤◌}
 use native.Mathlib.Decide.{ℕ_discrete}
 use native.Mathlib.Omega.{arith}
 use lib.ListN.{get_or}
@@ -40,14 +40,13 @@ loop-i-smaller c =
     omega (arith, c.loop-i-test.true)
 
 pub loop-i-preserved : goal.loop-i-preserved
-loop-i-preserved c =
-    (
-      omega (arith, c.loop-i.invariant.0),
-      λ q l l'. elim (ℕ_discrete q (c.loop-i.i - 1)) as (λ _. get_or c.args.main.now (c.args.z + q) 0 ≤ c.args.h + 1) [
-        | yes e ↦ omega (arith, c.if-h-main.false, ap (λ (w : ℕ). get_or c.args.main.now (c.args.z + w) 0) e)
-        | no e ↦ c.loop-i.invariant.1 q (omega (arith, c.loop-i-test.true)) l'
-      ],
-    )
+loop-i-preserved c = (
+  omega (arith, c.loop-i.invariant.0),
+  λ q l l'. elim (ℕ_discrete q (c.loop-i.i - 1)) as (λ _. get_or c.args.main.now (c.args.z + q) 0 ≤ c.args.h + 1) [
+    | yes e ↦ omega (arith, c.if-h-main.false, ap (λ (w : ℕ). get_or c.args.main.now (c.args.z + w) 0) e)
+    | no e ↦ c.loop-i.invariant.1 q (omega (arith, c.loop-i-test.true)) l'
+  ],
+)
 
 pub returns : goal.returns
 returns c =

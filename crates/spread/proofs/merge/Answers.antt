@@ -1,11 +1,10 @@
 use mathlib.Core.List.{List}
-use mathlib.Core.Path.{◌≡◌, refl, subst, ◌∙◌}
-use Prim.Native.Nat.{ℕ, ◌+◌, ◌-◌, ◌≤◌}
+use mathlib.Core.Path.{refl, subst, ◌∙◌}
+use Prim.Native.Nat.{ℕ, ◌+◌, ◌-◌}
 use native.Mathlib.Omega.{arith}
-use lib.ListN.{length, length-set}
-use Rattle.spread.specs.Spread.{Merging, Merged}
+use lib.ListN.{length-set}
+use Rattle.spread.specs.Spread.{Merged}
 use Rattle.spread.proofs.Merging.{merged-none, merged-next}
-use borrow.Author.Rules.{rules}
 use Rattle.spread.proofs.merge.Goals as goal
 
 pub loop-i-init : goal.loop-i-init
@@ -52,12 +51,11 @@ loop-i-smaller c =
     omega (arith, c.loop-i-test.true)
 
 pub loop-i-preserved : goal.loop-i-preserved
-loop-i-preserved c =
-    (
-      omega (arith, c.loop-i-test.true),
-      length-set c.loop-i.main (c.args.y + c.loop-i.i) c.better.result ∙ c.loop-i.invariant.1,
-      λ (o M F : List ℕ) (size n m j p : ℕ) a. merged-next o M F size n m j a c.loop-i.i c.better.result c.loop-i-test.true (c.loop-i.invariant.2 o M F size n m j p a) c.better.ensures,
-    )
+loop-i-preserved c = (
+  omega (arith, c.loop-i-test.true),
+  length-set c.loop-i.main (c.args.y + c.loop-i.i) c.better.result ∙ c.loop-i.invariant.1,
+  λ (o M F : List ℕ) (size n m j p : ℕ) a. merged-next o M F size n m j a c.loop-i.i c.better.result c.loop-i-test.true (c.loop-i.invariant.2 o M F size n m j p a) c.better.ensures,
+)
 
 pub shape_of-main : goal.shape_of-main
 shape_of-main c = c.loop-i.invariant.1

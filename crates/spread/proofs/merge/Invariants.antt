@@ -1,11 +1,8 @@
 use mathlib.Core.List.{List}
-use mathlib.Core.Path.{◌≡◌, refl, subst, ◌∙◌}
-use Prim.Native.Nat.{ℕ, ◌+◌, ◌-◌, ◌≤◌}
-use native.Mathlib.Omega.{arith}
-use lib.ListN.{length, length-set}
+use mathlib.Core.Path.{◌≡◌}
+use Prim.Native.Nat.{ℕ, ◌-◌, ◌≤◌}
+use lib.ListN.{length}
 use Rattle.spread.specs.Spread.{Merging, Merged}
-use Rattle.spread.proofs.Merging.{merged-none, merged-next}
-use borrow.Author.Rules.{rules}
 use Rattle.spread.proofs.merge.Given as goal
 
 abbrev pub invariant-loop-i : goal.invariant-loop-i

@@ -1,14 +1,8 @@
-use mathlib.Core.List.{List, []}
-use mathlib.Core.Path.{sym, ap, subst, ◌∙◌}
-use Prim.Native.Nat.{ℕ, ◌+◌, ◌-◌, ◌<◌, ◌≤◌}
-use native.Mathlib.Omega.{arith}
-use lib.ListN.{length, get_or}
-use Rattle.sparse.specs.Column.{Hands}
-use Rattle.sparse.proofs.Rows.{in_table}
+use mathlib.Core.List.{List}
+use Prim.Native.Nat.{ℕ, ◌+◌, ◌-◌, ◌≤◌}
+use lib.ListN.{get_or}
 use Rattle.spread.specs.Spread.{Spread}
-use Rattle.spread.proofs.Handing.{Done, done_next, spread_none, spread_join}
-use Rattle.spread.proofs.Listed.{listing-kept, row-idle, rows_on}
-use borrow.Author.Rules.{rules}
+use Rattle.spread.proofs.Handing.{Done}
 use Rattle.spread.proofs.spread.Given as goal
 
 abbrev pub invariant-loop-k : goal.invariant-loop-k

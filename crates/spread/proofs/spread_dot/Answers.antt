@@ -1,6 +1,5 @@
 use native.Mathlib.Omega.{arith}
 use Rattle.spread.proofs.Handing.{spread_none, placed, offering, first_on, rest-none, before-next}
-use borrow.Author.Rules.{rules}
 use Rattle.spread.proofs.spread_dot.Goals as goal
 
 pub returns-then-code-x-ne0 : goal.returns-then-code-x-ne0

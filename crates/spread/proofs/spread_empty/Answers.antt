@@ -1,10 +1,8 @@
 use mathlib.Core.Path.{◌≡◌, ◌∙◌}
-use Prim.Native.Nat.{ℕ, ◌-◌, ◌<◌, ◌≤◌}
+use Prim.Native.Nat.{ℕ, ◌-◌, ◌<◌}
 use native.Mathlib.Omega.{arith}
 use lib.ListN.{length, get_or}
-use Rattle.spread.specs.Spread.{Spread}
-use Rattle.spread.proofs.Handing.{Done, done_next, spread_none, spread_join, all-on}
-use borrow.Author.Rules.{rules}
+use Rattle.spread.proofs.Handing.{done_next, spread_none, spread_join, all-on}
 use Rattle.spread.proofs.spread_empty.Goals as goal
 
 pub loop-k-init : goal.loop-k-init

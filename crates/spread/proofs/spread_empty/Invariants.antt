@@ -1,10 +1,7 @@
-use mathlib.Core.Path.{◌≡◌, ◌∙◌}
-use Prim.Native.Nat.{ℕ, ◌-◌, ◌<◌, ◌≤◌}
-use native.Mathlib.Omega.{arith}
-use lib.ListN.{length, get_or}
+use Prim.Native.Nat.{ℕ, ◌-◌, ◌≤◌}
+use lib.ListN.{get_or}
 use Rattle.spread.specs.Spread.{Spread}
-use Rattle.spread.proofs.Handing.{Done, done_next, spread_none, spread_join, all-on}
-use borrow.Author.Rules.{rules}
+use Rattle.spread.proofs.Handing.{Done}
 use Rattle.spread.proofs.spread_empty.Given as goal
 
 abbrev pub invariant-loop-k : goal.invariant-loop-k

@@ -1,11 +1,9 @@
 use mathlib.Core.List.{List}
 use Prim.Native.Nat.{ℕ}
 use native.Mathlib.Omega.{arith}
-use borrow.Author.Tests.{not-true, not-false}
 use Rattle.sparse.proofs.Rows.{flagged, unflagged}
 use Rattle.spread.proofs.Handing.{spread_none, before-next}
 use Rattle.spread.proofs.Listed.{row-placed, row-away, row-none, row-offering}
-use borrow.Author.Rules.{rules}
 use Rattle.spread.proofs.spread_row.Goals as goal
 
 pub reached-requires : goal.reached-requires

@@ -2,11 +2,9 @@ use mathlib.Core.List.{List}
 use mathlib.Core.Path.{subst}
 use Prim.Native.Nat.{ℕ, ◌-◌}
 use native.Mathlib.Omega.{arith}
-use borrow.Author.Tests.{not-true, not-false}
 use Rattle.reach.specs.Flags.{Fits}
 use Rattle.sparse.proofs.Rows.{flagged, unflagged}
 use Rattle.spread.proofs.Handing.{astray, terminal-low, terminal-kept}
-use borrow.Author.Rules.{rules}
 use Rattle.spread.proofs.spread_terminal.Goals as goal
 
 pub returns-then-width-eq0 : goal.returns-then-width-eq0

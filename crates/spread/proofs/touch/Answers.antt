@@ -1,6 +1,5 @@
 use native.Mathlib.Omega.{arith}
 use Rattle.spread.proofs.Handing.{touched-before, touched-all, touched-some}
-use borrow.Author.Rules.{rules}
 use Rattle.spread.proofs.touch.Goals as goal
 
 pub returns-then-k-wide : goal.returns-then-k-wide

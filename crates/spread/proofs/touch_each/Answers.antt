@@ -1,10 +1,9 @@
 use mathlib.Core.Path.{◌≡◌, subst}
-use Prim.Native.Nat.{ℕ, ◌+◌, ◌-◌, ◌<◌, ◌≤◌}
+use Prim.Native.Nat.{ℕ, ◌+◌, ◌-◌, ◌<◌}
 use lib.ListN.{length}
 use native.Mathlib.Omega.{arith}
 use Rattle.spread.specs.Spread.{AllFlagged, Touching}
 use Rattle.spread.proofs.Handing.{touching-none, touching-next, all-next}
-use borrow.Author.Rules.{rules}
 use Rattle.spread.proofs.touch_each.Goals as goal
 
 pub loop-i-init : goal.loop-i-init

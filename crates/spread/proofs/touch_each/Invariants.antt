@@ -1,10 +1,6 @@
-use mathlib.Core.Path.{◌≡◌, subst}
-use Prim.Native.Nat.{ℕ, ◌+◌, ◌-◌, ◌<◌, ◌≤◌}
-use lib.ListN.{length}
-use native.Mathlib.Omega.{arith}
+use mathlib.Core.Path.{◌≡◌}
+use Prim.Native.Nat.{◌-◌, ◌≤◌}
 use Rattle.spread.specs.Spread.{AllFlagged, Touching}
-use Rattle.spread.proofs.Handing.{touching-none, touching-next, all-next}
-use borrow.Author.Rules.{rules}
 use Rattle.spread.proofs.touch_each.Given as goal
 
 abbrev pub invariant-loop-i : goal.invariant-loop-i

@@ -1,7 +1,4 @@
-use borrow.Author.Rules.{rules}
-use native.Mathlib.Omega.{arith}
-use Rattle.bits.specs.Bits.{lacking}
-use Rattle.standing.proofs.Closing.{Rounds, rounds-start, rounds-next, rounds-end}
+use Rattle.standing.proofs.Closing.{rounds-start, rounds-next, rounds-end}
 use Rattle.standing.proofs.close.Goals as goal
 
 pub loop-t-init : goal.loop-t-init

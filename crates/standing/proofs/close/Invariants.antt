@@ -1,7 +1,5 @@
-use borrow.Author.Rules.{rules}
-use native.Mathlib.Omega.{arith}
 use Rattle.bits.specs.Bits.{lacking}
-use Rattle.standing.proofs.Closing.{Rounds, rounds-start, rounds-next, rounds-end}
+use Rattle.standing.proofs.Closing.{Rounds}
 use Rattle.standing.proofs.close.Given as goal
 
 abbrev pub invariant-loop-t : goal.invariant-loop-t

@@ -1,16 +1,10 @@
 use borrow.Author.Rules.{rules}
 use native.Mathlib.Omega.{arith}
-use mathlib.Core.Bool.{Bool, true, false}
-use mathlib.Core.Path.{◌≡◌, refl, sym, ap, subst, ◌∙◌}
-use mathlib.Core.List.{List}
-use mathlib.Core.Logic.{◌⊎◌, inl, inr, ⊎_elim}
-use Prim.Native.Nat.{ℕ, ◌+◌, ◌*◌, ◌-◌, ◌/◌, ◌%◌, ◌^◌, ◌<◌, ◌≤◌}
-use lib.ListN.{length, get_or, length-replicate}
-use Rattle.bits.specs.Bits.{Lit, Has}
-use Rattle.ends.specs.Spans.{OnList}
+use mathlib.Core.Bool.{true}
+use mathlib.Core.Path.{refl, ◌∙◌}
+use Prim.Native.Nat.{ℕ, ◌-◌}
+use lib.ListN.{length-replicate}
 use Rattle.moves.proofs.Cells.{none_has}
-use Rattle.standing.specs.Stood.{Base}
-use Rattle.standing.specs.Sets.{AtDot, Told}
 use Rattle.standing.proofs.Laws.{moved-stood}
 use Rattle.standing.proofs.follow.Goals as goal
 
@@ -28,18 +22,17 @@ visit-requires c =
     record { shape = c.requires.ground.shape; inside = c.loop-cur.invariant.0 }
 
 pub step-requires : goal.step-requires
-step-requires c =
-    (
-      record {
-        shape = c.requires.ground.shape;
-        short = c.requires.ground.short;
-        marks-long = c.requires.ground.marks-long;
-        room = c.requires.ground.room;
-        inside = c.loop-cur.invariant.0;
-      },
-      none_has,
-      length-replicate {A = ℕ} 8 0,
-    )
+step-requires c = (
+  record {
+    shape = c.requires.ground.shape;
+    short = c.requires.ground.short;
+    marks-long = c.requires.ground.marks-long;
+    room = c.requires.ground.room;
+    inside = c.loop-cur.invariant.0;
+  },
+  none_has,
+  length-replicate {A = ℕ} 8 0,
+)
 
 pub overflow_add-p : goal.overflow_add-p
 overflow_add-p c =
@@ -49,13 +42,12 @@ pub loop-cur-smaller : goal.loop-cur-smaller
 loop-cur-smaller c = omega (arith, c.loop-cur.invariant.0)
 
 pub loop-cur-preserved : goal.loop-cur-preserved
-loop-cur-preserved c =
-    (
-      c.requires.ground.shape.nexts _ c.loop-cur.invariant.0 (c.visit.ensures.more c.loop-cur-test.true),
-      λ L top b s a. let z = c.loop-cur.invariant.1 L top b s a in
-          (c.visit.ensures.told L _ _ top z.0 z.1, λ x h y. moved-stood b (λ u l v. z.1 u l (c.visit.ensures.less u v)) x (c.step.ensures.is x y)),
-      c.visit.ensures.long ∙ c.loop-cur.invariant.2,
-    )
+loop-cur-preserved c = (
+  c.requires.ground.shape.nexts _ c.loop-cur.invariant.0 (c.visit.ensures.more c.loop-cur-test.true),
+  λ L top b s a. let z = c.loop-cur.invariant.1 L top b s a in
+      (c.visit.ensures.told L _ _ top z.0 z.1, λ x h y. moved-stood b (λ u l v. z.1 u l (c.visit.ensures.less u v)) x (c.step.ensures.is x y)),
+  c.visit.ensures.long ∙ c.loop-cur.invariant.2,
+)
 
 pub returns : goal.returns
 returns c =

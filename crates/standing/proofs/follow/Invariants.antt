@@ -1,17 +1,9 @@
-use borrow.Author.Rules.{rules}
-use native.Mathlib.Omega.{arith}
-use mathlib.Core.Bool.{Bool, true, false}
-use mathlib.Core.Path.{◌≡◌, refl, sym, ap, subst, ◌∙◌}
+use mathlib.Core.Path.{◌≡◌}
 use mathlib.Core.List.{List}
-use mathlib.Core.Logic.{◌⊎◌, inl, inr, ⊎_elim}
-use Prim.Native.Nat.{ℕ, ◌+◌, ◌*◌, ◌-◌, ◌/◌, ◌%◌, ◌^◌, ◌<◌, ◌≤◌}
-use lib.ListN.{length, get_or, length-replicate}
-use Rattle.bits.specs.Bits.{Lit, Has}
-use Rattle.ends.specs.Spans.{OnList}
-use Rattle.moves.proofs.Cells.{none_has}
+use Prim.Native.Nat.{ℕ, ◌-◌, ◌<◌}
+use lib.ListN.{length}
 use Rattle.standing.specs.Stood.{Base}
 use Rattle.standing.specs.Sets.{AtDot, Told}
-use Rattle.standing.proofs.Laws.{moved-stood}
 use Rattle.standing.proofs.follow.Given as goal
 
 abbrev pub invariant-loop-cur : goal.invariant-loop-cur

@@ -1,13 +1,8 @@
-use borrow.Author.Rules.{rules}
 use native.Mathlib.Omega.{arith}
-use mathlib.Core.Bool.{Bool, true, false}
-use mathlib.Core.Path.{◌≡◌, refl, sym, ap, subst, ◌∙◌}
-use mathlib.Core.List.{List}
+use mathlib.Core.Bool.{true}
+use mathlib.Core.Path.{refl}
 use mathlib.Core.Logic.{◌⊎◌, inl, inr, ⊎_elim}
-use Prim.Native.Nat.{ℕ, ◌+◌, ◌*◌, ◌-◌, ◌/◌, ◌%◌, ◌^◌, ◌<◌, ◌≤◌}
-use lib.ListN.{length, get_or}
-use Rattle.bits.specs.Bits.{Lit, Has}
-use Rattle.standing.specs.Sets.{Joined}
+use Prim.Native.Nat.{◌-◌, ◌%◌}
 use Rattle.standing.proofs.Rows.{has-at, joined-start, joined_step, less-step}
 use Rattle.standing.proofs.fresh.Goals as goal
 
@@ -33,12 +28,11 @@ pub bounds-sets-at-in-loop-v : goal.bounds-sets-at-in-loop-v
 bounds-sets-at-in-loop-v c = omega (arith, c.requires, c.loop-v-test.true)
 
 pub loop-v-preserved : goal.loop-v-preserved
-loop-v-preserved c =
-    (
-      joined_step c.loop-v-test.true refl c.loop-v.invariant.0 (λ x e l. ⊎_elim inl (λ u. inr (c.loop-v.invariant.1 x (has-at c.loop-v.cur e u)))
-          (c.join.ensures.is (x % 32) l)),
-      λ x h. c.loop-v.invariant.1 x (less-step c.loop-v.cur c.loop-v.v (λ k l. (c.beyond.ensures.is k l).0) x h),
-    )
+loop-v-preserved c = (
+  joined_step c.loop-v-test.true refl c.loop-v.invariant.0 (λ x e l. ⊎_elim inl (λ u. inr (c.loop-v.invariant.1 x (has-at c.loop-v.cur e u)))
+      (c.join.ensures.is (x % 32) l)),
+  λ x h. c.loop-v.invariant.1 x (less-step c.loop-v.cur c.loop-v.v (λ k l. (c.beyond.ensures.is k l).0) x h),
+)
 
 pub returns : goal.returns
 returns c = c.loop-v.invariant

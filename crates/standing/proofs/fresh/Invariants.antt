@@ -1,14 +1,6 @@
-use borrow.Author.Rules.{rules}
-use native.Mathlib.Omega.{arith}
-use mathlib.Core.Bool.{Bool, true, false}
-use mathlib.Core.Path.{◌≡◌, refl, sym, ap, subst, ◌∙◌}
-use mathlib.Core.List.{List}
-use mathlib.Core.Logic.{◌⊎◌, inl, inr, ⊎_elim}
-use Prim.Native.Nat.{ℕ, ◌+◌, ◌*◌, ◌-◌, ◌/◌, ◌%◌, ◌^◌, ◌<◌, ◌≤◌}
-use lib.ListN.{length, get_or}
-use Rattle.bits.specs.Bits.{Lit, Has}
+use Prim.Native.Nat.{ℕ, ◌-◌}
+use Rattle.bits.specs.Bits.{Has}
 use Rattle.standing.specs.Sets.{Joined}
-use Rattle.standing.proofs.Rows.{has-at, joined-start, joined_step, less-step}
 use Rattle.standing.proofs.fresh.Given as goal
 
 abbrev pub invariant-loop-v : goal.invariant-loop-v

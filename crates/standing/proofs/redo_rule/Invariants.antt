@@ -1,13 +1,7 @@
-use borrow.Author.Rules.{rules}
-use native.Mathlib.Omega.{arith}
-use mathlib.Core.Path.{◌≡◌, refl}
-use Prim.Native.Nat.{ℕ, ◌+◌, ◌*◌, ◌-◌, ◌<◌, ◌≤◌}
-use lib.ListN.{length-replicate}
+use Prim.Native.Nat.{ℕ, ◌-◌, ◌≤◌}
 use Rattle.reach.specs.Work.{Listed}
 use Rattle.ends.specs.Spans.{OnList}
-use Rattle.ends.proofs.Reach.{list_inside, link_here, link-less, link-next}
-use Rattle.standing.specs.Sets.{Taken}
-use Rattle.standing.proofs.Closing.{Rulings, rulings-start, rulings-next, rulings-end}
+use Rattle.standing.proofs.Closing.{Rulings}
 use Rattle.standing.proofs.redo_rule.Given as goal
 
 abbrev pub invariant-loop-x : goal.invariant-loop-x

@@ -1,7 +1,6 @@
-use borrow.Author.Rules.{rules}
 use native.Mathlib.Omega.{arith}
-use mathlib.Core.Path.{◌≡◌, refl, subst}
-use Prim.Native.Nat.{ℕ, ◌+◌, ◌*◌, ◌-◌, ◌<◌, ◌≤◌}
+use mathlib.Core.Path.{subst}
+use Prim.Native.Nat.{ℕ, ◌-◌}
 use Rattle.standing.specs.Sets.{Rounded}
 use Rattle.standing.proofs.Closing.{rounded-start, rounded-next}
 use Rattle.standing.proofs.round.Goals as goal
@@ -32,12 +31,11 @@ loop-p-smaller c =
     omega (arith, c.loop-p-test.true)
 
 pub loop-p-preserved : goal.loop-p-preserved
-loop-p-preserved c =
-    (
-      omega (arith, c.loop-p-test.true),
-      rounded-next c.loop-p.grew c.redo_dot-dots.result c.redo_rule-rules.result c.loop-p.invariant.1 c.redo_dot-dots.ensures c.redo_rule-rules.ensures
-          c.either.ensures c.either-grew.ensures,
-    )
+loop-p-preserved c = (
+  omega (arith, c.loop-p-test.true),
+  rounded-next c.loop-p.grew c.redo_dot-dots.result c.redo_rule-rules.result c.loop-p.invariant.1 c.redo_dot-dots.ensures c.redo_rule-rules.ensures
+      c.either.ensures c.either-grew.ensures,
+)
 
 pub returns : goal.returns
 returns c =

@@ -1,9 +1,5 @@
-use borrow.Author.Rules.{rules}
-use native.Mathlib.Omega.{arith}
-use mathlib.Core.Path.{◌≡◌, refl, subst}
-use Prim.Native.Nat.{ℕ, ◌+◌, ◌*◌, ◌-◌, ◌<◌, ◌≤◌}
+use Prim.Native.Nat.{◌-◌, ◌≤◌}
 use Rattle.standing.specs.Sets.{Rounded}
-use Rattle.standing.proofs.Closing.{rounded-start, rounded-next}
 use Rattle.standing.proofs.round.Given as goal
 
 abbrev pub invariant-loop-p : goal.invariant-loop-p

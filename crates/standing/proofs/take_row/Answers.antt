@@ -1,13 +1,8 @@
-use borrow.Author.Rules.{rules}
 use native.Mathlib.Omega.{arith}
-use mathlib.Core.Bool.{Bool, true, false}
-use mathlib.Core.Path.{◌≡◌, refl, sym, ap, subst, ◌∙◌}
-use mathlib.Core.List.{List}
-use mathlib.Core.Logic.{◌⊎◌, inl, inr, ⊎_elim}
-use Prim.Native.Nat.{ℕ, ◌+◌, ◌*◌, ◌-◌, ◌/◌, ◌%◌, ◌^◌, ◌<◌, ◌≤◌}
-use lib.ListN.{length, get_or, length-set}
-use Rattle.bits.specs.Bits.{Lit, Has}
-use Rattle.standing.specs.Sets.{Member}
+use mathlib.Core.Bool.{true, false}
+use mathlib.Core.Path.{refl, ◌∙◌}
+use Prim.Native.Nat.{◌-◌}
+use lib.ListN.{length-set}
 use Rattle.standing.proofs.Rows.{take_step, take_all}
 use Rattle.standing.proofs.take_row.Goals as goal
 
@@ -27,14 +22,13 @@ pub bounds-sets-row : goal.bounds-sets-row
 bounds-sets-row c = omega (arith, c.requires, c.loop-v-test.true)
 
 pub loop-v-preserved : goal.loop-v-preserved
-loop-v-preserved c =
-    (
-      omega (arith, c.loop-v-test.true),
-      take_step c.args.sets.now c.loop-v.cur c.args.row c.loop-v.v c.loop-v-test.true c.loop-v.invariant.1,
-      length-set c.loop-v.cur _ _ ∙ c.loop-v.invariant.2,
-      λ l. take_all c.args.sets.now c.loop-v.cur c.args.row c.loop-v.v (omega (arith, c.loop-v-test.true, c.loop-v.invariant.2, l))
-          (c.loop-v.invariant.3 l),
-    )
+loop-v-preserved c = (
+  omega (arith, c.loop-v-test.true),
+  take_step c.args.sets.now c.loop-v.cur c.args.row c.loop-v.v c.loop-v-test.true c.loop-v.invariant.1,
+  length-set c.loop-v.cur _ _ ∙ c.loop-v.invariant.2,
+  λ l. take_all c.args.sets.now c.loop-v.cur c.args.row c.loop-v.v (omega (arith, c.loop-v-test.true, c.loop-v.invariant.2, l))
+      (c.loop-v.invariant.3 l),
+)
 
 pub returns : goal.returns
 returns c =

@@ -1,14 +1,8 @@
-use borrow.Author.Rules.{rules}
-use native.Mathlib.Omega.{arith}
-use mathlib.Core.Bool.{Bool, true, false}
-use mathlib.Core.Path.{◌≡◌, refl, sym, ap, subst, ◌∙◌}
-use mathlib.Core.List.{List}
-use mathlib.Core.Logic.{◌⊎◌, inl, inr, ⊎_elim}
-use Prim.Native.Nat.{ℕ, ◌+◌, ◌*◌, ◌-◌, ◌/◌, ◌%◌, ◌^◌, ◌<◌, ◌≤◌}
-use lib.ListN.{length, get_or, length-set}
-use Rattle.bits.specs.Bits.{Lit, Has}
+use mathlib.Core.Path.{◌≡◌}
+use Prim.Native.Nat.{ℕ, ◌-◌, ◌/◌, ◌<◌, ◌≤◌}
+use lib.ListN.{length}
+use Rattle.bits.specs.Bits.{Has}
 use Rattle.standing.specs.Sets.{Member}
-use Rattle.standing.proofs.Rows.{take_step, take_all}
 use Rattle.standing.proofs.take_row.Given as goal
 
 abbrev pub invariant-loop-v : goal.invariant-loop-v

@@ -1,8 +1,6 @@
-use native.Mathlib.Omega.{arith}
-use mathlib.Core.Path.{◌∙◌}
 use Prim.Native.Nat.{◌+◌, ◌*◌, ◌-◌}
 use Rattle.heights.specs.Filling.{total}
-use Rattle.stands.proofs.Laws.{Closing, closing-start, closing-next, closing-less, closing_end}
+use Rattle.stands.proofs.Laws.{Closing}
 use Rattle.stands.proofs.close.Given as goal
 
 abbrev pub invariant-loop-p : goal.invariant-loop-p

@@ -1,7 +1,5 @@
-use borrow.Author.Rules.{rules}
 use native.Mathlib.Omega.{arith}
-use mathlib.Core.Path.{◌∙◌, sym}
-use Rattle.stands.proofs.Laws.{Enters, enters-start, enters-less, enters-next, enters-end}
+use Rattle.stands.proofs.Laws.{enters-start, enters-less, enters-next, enters-end}
 use Rattle.stands.proofs.enter.Goals as goal
 
 pub overflow_mul-at : goal.overflow_mul-at

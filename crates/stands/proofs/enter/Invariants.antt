@@ -1,7 +1,4 @@
-use borrow.Author.Rules.{rules}
-use native.Mathlib.Omega.{arith}
-use mathlib.Core.Path.{◌∙◌, sym}
-use Rattle.stands.proofs.Laws.{Enters, enters-start, enters-less, enters-next, enters-end}
+use Rattle.stands.proofs.Laws.{Enters}
 use Rattle.stands.proofs.enter.Given as goal
 
 abbrev pub invariant-loop-x : goal.invariant-loop-x

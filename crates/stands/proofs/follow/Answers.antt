@@ -1,7 +1,6 @@
 use native.Mathlib.Omega.{arith}
-use mathlib.Core.Path.{◌≡◌, refl, sym, ap, subst, ◌∙◌}
+use mathlib.Core.Path.{◌∙◌}
 use Rattle.stands.proofs.Laws.{fit-yes, fit-no, follow-end, follow-misfit, follow-fit, follow-symbol}
-use borrow.Author.Rules.{rules}
 use Rattle.stands.proofs.follow.Goals as goal
 
 pub overflow_add-after : goal.overflow_add-after

@@ -1,7 +1,7 @@
 use native.Mathlib.Omega.{arith}
 use mathlib.Core.Path.{◌∙◌, sym}
-use Prim.Native.Nat.{◌+◌, ◌-◌}
-use Rattle.stands.proofs.Laws.{Marks, marks-start, marks-standing, marks-next, marks-end}
+use Prim.Native.Nat.{◌-◌}
+use Rattle.stands.proofs.Laws.{marks-start, marks-standing, marks-next, marks-end}
 use Rattle.stands.proofs.mark.Goals as goal
 
 pub enter-requires : goal.enter-requires

@@ -1,7 +1,5 @@
-use native.Mathlib.Omega.{arith}
-use mathlib.Core.Path.{◌∙◌, sym}
 use Prim.Native.Nat.{◌+◌, ◌-◌}
-use Rattle.stands.proofs.Laws.{Marks, marks-start, marks-standing, marks-next, marks-end}
+use Rattle.stands.proofs.Laws.{Marks}
 use Rattle.stands.proofs.mark.Given as goal
 
 abbrev pub invariant-loop-i : goal.invariant-loop-i

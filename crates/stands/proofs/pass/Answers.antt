@@ -1,6 +1,5 @@
 use native.Mathlib.Omega.{arith}
-use Prim.Native.Nat.{◌+◌, ◌-◌, ◌≤◌}
-use Rattle.stands.specs.State.{Passed}
+use Prim.Native.Nat.{◌-◌}
 use Rattle.stands.proofs.Laws.{passed_none, passed-next, passed-end}
 use Rattle.stands.proofs.pass.Goals as goal
 

@@ -1,7 +1,5 @@
-use native.Mathlib.Omega.{arith}
 use Prim.Native.Nat.{◌+◌, ◌-◌, ◌≤◌}
 use Rattle.stands.specs.State.{Passed}
-use Rattle.stands.proofs.Laws.{passed_none, passed-next, passed-end}
 use Rattle.stands.proofs.pass.Given as goal
 
 abbrev pub invariant-loop-m : goal.invariant-loop-m

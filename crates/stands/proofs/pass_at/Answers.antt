@@ -1,6 +1,5 @@
 use native.Mathlib.Omega.{arith}
 use Rattle.stands.proofs.Laws.{passed-at, passed-not}
-use borrow.Author.Rules.{rules}
 use Rattle.stands.proofs.pass_at.Goals as goal
 
 pub rule_height-requires : goal.rule_height-requires

@@ -1,5 +1,4 @@
 use Rattle.stands.proofs.Laws.{is_set, is-kept}
-use borrow.Author.Rules.{rules}
 use Rattle.stands.proofs.set_out.Goals as goal
 
 pub returns-then-flags-x-gt-WAITING : goal.returns-then-flags-x-gt-WAITING

@@ -3,7 +3,6 @@ use mathlib.Core.Path.{◌∙◌}
 use lib.ListN.{length-set}
 use Prim.Native.Nat.{◌+◌, ◌*◌}
 use Rattle.stands.proofs.Laws.{step_skip, step-follow}
-use borrow.Author.Rules.{rules}
 use Rattle.stands.proofs.step.Goals as goal
 
 pub overflow_mul-x : goal.overflow_mul-x

@@ -1,4 +1,4 @@
-use mathlib.Core.Path.{sym, ◌∙◌}
+use mathlib.Core.Path.{◌∙◌}
 use Rattle.state.proofs.Cells.{begun}
 use native.Mathlib.Omega.{arith}
 use Rattle.state.proofs.begin.Goals as goal

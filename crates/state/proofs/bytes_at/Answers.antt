@@ -1,7 +1,5 @@
-use Prim.Native.Nat.{◌+◌, ◌-◌, ◌≤◌}
-use lib.ListN.{length}
-use Rattle.state.proofs.Cells.{Upto, upto_next, bytes-differ, bytes-all}
-use borrow.Author.Rules.{rules}
+use Prim.Native.Nat.{◌-◌}
+use Rattle.state.proofs.Cells.{upto_next, bytes-differ, bytes-all}
 use native.Mathlib.Omega.{arith}
 use Rattle.state.proofs.bytes_at.Goals as goal
 
@@ -34,12 +32,11 @@ loop-i-smaller c =
     omega (arith, c.loop-i-test.true)
 
 pub loop-i-preserved : goal.loop-i-preserved
-loop-i-preserved c =
-    (
-      omega (arith, c.loop-i-test.true),
-      upto_next c.args.state.now c.args.bytes.now c.args.at c.loop-i.i c.wide_byte.result
-          c.loop-i.invariant.1 c.wide_byte.ensures c.if-state-at.false,
-    )
+loop-i-preserved c = (
+  omega (arith, c.loop-i-test.true),
+  upto_next c.args.state.now c.args.bytes.now c.args.at c.loop-i.i c.wide_byte.result
+      c.loop-i.invariant.1 c.wide_byte.ensures c.if-state-at.false,
+)
 
 pub returns : goal.returns
 returns c =

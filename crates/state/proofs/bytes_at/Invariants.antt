@@ -1,8 +1,6 @@
-use Prim.Native.Nat.{◌+◌, ◌-◌, ◌≤◌}
+use Prim.Native.Nat.{◌-◌, ◌≤◌}
 use lib.ListN.{length}
-use Rattle.state.proofs.Cells.{Upto, upto_next, bytes-differ, bytes-all}
-use borrow.Author.Rules.{rules}
-use native.Mathlib.Omega.{arith}
+use Rattle.state.proofs.Cells.{Upto}
 use Rattle.state.proofs.bytes_at.Given as goal
 
 abbrev pub invariant-loop-i : goal.invariant-loop-i

@@ -1,5 +1,4 @@
 use Rattle.state.proofs.Cells.{counted}
-use borrow.Author.Rules.{rules}
 use native.Mathlib.Omega.{arith}
 use Rattle.state.proofs.count.Goals as goal
 

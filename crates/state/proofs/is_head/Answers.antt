@@ -1,7 +1,6 @@
 use mathlib.Core.Path.{sym, ◌∙◌}
 use Rattle.tells.proofs.Tells.{miss}
 use Rattle.state.proofs.Cells.{head-by}
-use borrow.Author.Rules.{rules}
 use native.Mathlib.Omega.{arith}
 use Rattle.state.proofs.is_head.Goals as goal
 

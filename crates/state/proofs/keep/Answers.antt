@@ -1,8 +1,5 @@
-use mathlib.Core.Path.{◌≡◌}
-use Prim.Native.Nat.{◌+◌, ◌-◌, ◌≤◌}
-use lib.ListN.{length}
-use Rattle.state.proofs.Cells.{Keeping, keeping_start, keeping-next, keeping-end}
-use borrow.Author.Rules.{rules}
+use Prim.Native.Nat.{◌-◌}
+use Rattle.state.proofs.Cells.{keeping_start, keeping-next, keeping-end}
 use native.Mathlib.Omega.{arith}
 use Rattle.state.proofs.keep.Goals as goal
 

@@ -1,9 +1,6 @@
-use mathlib.Core.Path.{◌≡◌}
-use Prim.Native.Nat.{◌+◌, ◌-◌, ◌≤◌}
+use Prim.Native.Nat.{◌-◌}
 use lib.ListN.{length}
-use Rattle.state.proofs.Cells.{Keeping, keeping_start, keeping-next, keeping-end}
-use borrow.Author.Rules.{rules}
-use native.Mathlib.Omega.{arith}
+use Rattle.state.proofs.Cells.{Keeping}
 use Rattle.state.proofs.keep.Given as goal
 
 abbrev pub invariant-loop-i : goal.invariant-loop-i

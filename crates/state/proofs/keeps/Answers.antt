@@ -1,4 +1,3 @@
-use borrow.Author.Tests.{not-true, not-false}
 use Rattle.tells.proofs.Tells.{miss, not_so}
 use Rattle.state.proofs.Cells.{keeps-by}
 use native.Mathlib.Omega.{arith}

@@ -1,6 +1,6 @@
 use mathlib.Core.Path.{refl}
-use lib.ListN.{set, length-set}
-use borrow.Author.Rules.{rules, Below-set}
+use lib.ListN.{set}
+use borrow.Author.Rules.{Below-set}
 use native.Mathlib.Omega.{arith}
 use Rattle.state.proofs.put_head.Goals as goal
 

@@ -1,8 +1,7 @@
-use mathlib.Core.Path.{◌≡◌, refl, ◌∙◌}
-use Prim.Native.Nat.{ℕ, ◌-◌, ◌<◌, ◌≤◌}
-use lib.ListN.{length, get_or, length-set}
+use mathlib.Core.Path.{refl, ◌∙◌}
+use Prim.Native.Nat.{◌-◌}
+use lib.ListN.{length-set}
 use Rattle.state.proofs.Cells.{blank-next, blank-all}
-use borrow.Author.Rules.{rules}
 use native.Mathlib.Omega.{arith}
 use Rattle.state.proofs.wipe.Goals as goal
 
@@ -14,13 +13,12 @@ loop-x-smaller c =
     omega (arith, c.loop-x-test.true, length-set c.loop-x.state c.loop-x.x 0)
 
 pub loop-x-preserved : goal.loop-x-preserved
-loop-x-preserved c =
-    (
-      omega (arith, c.loop-x-test.true, length-set c.loop-x.state c.loop-x.x 0),
-      length-set c.loop-x.state
-          c.loop-x.x 0 ∙ c.loop-x.invariant.1,
-      blank-next c.loop-x.state c.loop-x.x c.loop-x.invariant.2 c.loop-x-test.true,
-    )
+loop-x-preserved c = (
+  omega (arith, c.loop-x-test.true, length-set c.loop-x.state c.loop-x.x 0),
+  length-set c.loop-x.state
+      c.loop-x.x 0 ∙ c.loop-x.invariant.1,
+  blank-next c.loop-x.state c.loop-x.x c.loop-x.invariant.2 c.loop-x-test.true,
+)
 
 pub shape_of-state : goal.shape_of-state
 shape_of-state c =

@@ -1,7 +1,5 @@
-use mathlib.Core.Path.{refl}
 use borrow.Author.Tests.{eq-eqb, ne_eqb}
 use Rattle.static_errors.specs.Parts.{bad_code}
-use borrow.Author.Rules.{rules}
 use Rattle.static_errors.proofs.bad_code.Goals as goal
 
 pub returns-then-rule-eq-HEX_TOO_LARGE : goal.returns-then-rule-eq-HEX_TOO_LARGE

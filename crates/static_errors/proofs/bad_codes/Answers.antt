@@ -2,7 +2,6 @@ use mathlib.Core.Path.{sym, ◌∙◌}
 use native.Mathlib.Omega.{arith}
 use Rattle.tokens.proofs.Forms as forms
 use Rattle.static_errors.proofs.Leaf as law
-use borrow.Author.Rules.{rules}
 use Rattle.static_errors.proofs.bad_codes.Goals as goal
 
 pub bounds-table-k : goal.bounds-table-k

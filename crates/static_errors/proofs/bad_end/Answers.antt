@@ -1,7 +1,6 @@
 use mathlib.Core.Path.{sym, ◌∙◌}
 use borrow.Author.Tests.{eq-eqb, ne_eqb}
 use Rattle.text.proofs.Lists.{or-false}
-use borrow.Author.Rules.{rules}
 use Rattle.static_errors.proofs.bad_end.Goals as goal
 
 pub returns-then-hex-ne1 : goal.returns-then-hex-ne1

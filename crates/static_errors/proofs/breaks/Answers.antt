@@ -1,6 +1,5 @@
 use borrow.Author.Tests.{eq-eqb, ne_eqb}
 use Rattle.static_errors.specs.Parts.{failing}
-use borrow.Author.Rules.{rules}
 use Rattle.static_errors.proofs.breaks.Goals as goal
 
 pub returns-then-rule-eq-UNDEFINED_NAME : goal.returns-then-rule-eq-UNDEFINED_NAME

@@ -1,11 +1,10 @@
-use mathlib.Core.Path.{◌≡◌, refl, sym}
+use mathlib.Core.Path.{sym}
 use mathlib.Core.Bool.{false}
 use native.Mathlib.Omega.{arith}
 use lib.ListN.{take}
 use Rattle.static_errors.specs.Scan.{names_at}
 use Rattle.tokens.proofs.Forms as forms
 use Rattle.static_errors.proofs.Leaf as law
-use borrow.Author.Rules.{rules}
 use Rattle.static_errors.proofs.breaks_any.Goals as goal
 
 pub bounds-table-k : goal.bounds-table-k

@@ -1,10 +1,6 @@
-use Prim.Native.Nat.{◌-◌, ◌+◌}
-use mathlib.Core.Path.{◌≡◌, refl, sym}
-use native.Mathlib.Omega.{arith}
+use Prim.Native.Nat.{◌-◌}
 use lib.ListN.{take}
 use Rattle.static_errors.specs.Scan.{names_at, fails}
-use borrow.Author.Rules.{rules}
-use Rattle.tokens.proofs.Forms as forms
 use Rattle.static_errors.proofs.Scans as law
 use Rattle.static_errors.proofs.broken.Given as goal
 

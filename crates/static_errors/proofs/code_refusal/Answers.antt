@@ -1,4 +1,3 @@
-use borrow.Author.Rules.{rules}
 use Rattle.static_errors.specs.Scan.{code_refusal}
 use Rattle.static_errors.proofs.code_refusal.Goals as goal
 

@@ -1,4 +1,3 @@
-use borrow.Author.Rules.{rules}
 use Rattle.static_errors.proofs.few_refusal.Goals as goal
 
 pub refusal_by-requires : goal.refusal_by-requires

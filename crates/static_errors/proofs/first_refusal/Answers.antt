@@ -1,9 +1,8 @@
-use mathlib.Core.Path.{ap, ◌∙◌}
+use mathlib.Core.Path.{ap}
 use borrow.Author.Tests.{eq-eqb, ne_eqb}
 use Rattle.static_errors.specs.Held.{rule_number}
 use Rattle.static_errors.specs.Scan.{refusal_of}
 use Rattle.static_errors.proofs.Rulings.{some-rule}
-use borrow.Author.Rules.{rules}
 use borrow.Enum.Refused.{opened}
 use Rattle.static_errors.proofs.first_refusal.Goals as goal
 

@@ -1,8 +1,6 @@
-use mathlib.Core.Path.{refl, sym, subst, ◌∙◌}
+use mathlib.Core.Path.{refl, sym, ◌∙◌}
 use native.Mathlib.Omega.{arith}
-use borrow.Author.Rules.{rules}
 use Rattle.text.proofs.Tests.{clash}
-use Rattle.tokens.specs.Names.{Named, name_at}
 use Rattle.static_errors.proofs.Names.{guess-in}
 use Rattle.static_errors.proofs.guessed.Goals as goal
 

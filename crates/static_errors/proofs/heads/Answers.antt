@@ -1,5 +1,4 @@
-use Prim.Native.Nat.{◌-◌, ◌+◌}
-use mathlib.Core.Path.{◌≡◌, refl, sym}
+use Prim.Native.Nat.{◌-◌}
 use native.Mathlib.Omega.{arith}
 use Rattle.static_errors.proofs.Scans as law
 use Rattle.static_errors.proofs.heads.Goals as goal

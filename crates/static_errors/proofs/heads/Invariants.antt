@@ -1,6 +1,4 @@
-use Prim.Native.Nat.{◌-◌, ◌+◌}
-use mathlib.Core.Path.{◌≡◌, refl, sym}
-use native.Mathlib.Omega.{arith}
+use Prim.Native.Nat.{◌-◌}
 use Rattle.static_errors.proofs.Scans as law
 use Rattle.static_errors.proofs.heads.Given as goal
 

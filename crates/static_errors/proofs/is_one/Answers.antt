@@ -1,5 +1,4 @@
 use Rattle.static_errors.proofs.Names as law
-use borrow.Author.Rules.{rules}
 use Rattle.static_errors.proofs.is_one.Goals as goal
 
 pub returns-then-table-ne-ONE_LENGTH : goal.returns-then-table-ne-ONE_LENGTH

@@ -1,9 +1,7 @@
-use Prim.Native.Nat.{◌+◌}
 use mathlib.Core.Bool.{true}
-use mathlib.Core.Path.{refl, sym}
+use mathlib.Core.Path.{sym}
 use native.Mathlib.Omega.{arith}
-use lib.ListN.{get_or, take}
-use borrow.Author.Rules.{rules}
+use lib.ListN.{take}
 use Rattle.static_errors.specs.Scan.{names_at}
 use Rattle.tokens.proofs.Forms as forms
 use Rattle.static_errors.proofs.Leaf as law

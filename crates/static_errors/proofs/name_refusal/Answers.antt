@@ -1,4 +1,3 @@
-use borrow.Author.Rules.{rules}
 use Rattle.static_errors.specs.Scan.{name_refusal}
 use Rattle.static_errors.proofs.name_refusal.Goals as goal
 

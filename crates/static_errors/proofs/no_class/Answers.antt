@@ -6,7 +6,6 @@ use Rattle.static_errors.specs.Parts.{classless}
 use Rattle.tokens.proofs.Forms as forms
 use Rattle.static_errors.proofs.Leaf as law
 use Rattle.static_errors.proofs.Classes.{unlisted}
-use borrow.Author.Rules.{rules}
 use Rattle.static_errors.proofs.no_class.Goals as goal
 
 pub bounds-table-k : goal.bounds-table-k

@@ -1,9 +1,5 @@
-use mathlib.Core.Path.{sym, ◌∙◌, ap, refl}
-use native.Mathlib.Omega.{arith}
 use borrow.Author.Tests.{eq-eqb, ne_eqb}
 use Rattle.tokens.proofs.Forms as forms
-use Rattle.static_errors.proofs.Leaf as law
-use borrow.Author.Rules.{rules}
 use Rattle.static_errors.proofs.note.Goals as goal
 
 pub bounds-table-k : goal.bounds-table-k

@@ -1,7 +1,6 @@
 use mathlib.Core.Path.{sym, ◌∙◌}
 use Rattle.static_errors.specs.Scan.{name_refusal, code_refusal, refusal_of}
 use Rattle.static_errors.proofs.Scans.{clear}
-use borrow.Author.Rules.{rules}
 use Rattle.static_errors.proofs.refusal.Goals as goal
 
 pub returns-then-repeated : goal.returns-then-repeated

@@ -1,6 +1,5 @@
 use Rattle.static_errors.specs.Held.{rule_number}
 use Rattle.static_errors.proofs.Top as law
-use borrow.Author.Rules.{rules}
 use Rattle.static_errors.proofs.refusal_by.Goals as goal
 
 pub heads-n-requires : goal.heads-n-requires

@@ -1,7 +1,4 @@
 use Prim.Native.Nat.{◌-◌}
-use mathlib.Core.Path.{◌≡◌, refl, sym}
-use native.Mathlib.Omega.{arith}
-use borrow.Author.Rules.{rules}
 use Rattle.static_errors.proofs.Names as law
 use Rattle.static_errors.proofs.repeated.Given as goal
 

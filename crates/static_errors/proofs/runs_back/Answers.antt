@@ -1,9 +1,8 @@
-use mathlib.Core.Path.{sym, ◌∙◌, ap}
+use mathlib.Core.Path.{sym, ap}
 use native.Mathlib.Omega.{arith}
 use Rattle.static_errors.specs.Parts.{backward}
 use Rattle.tokens.proofs.Forms as forms
 use Rattle.static_errors.proofs.Leaf as law
-use borrow.Author.Rules.{rules}
 use Rattle.static_errors.proofs.runs_back.Goals as goal
 
 pub bounds-table-k : goal.bounds-table-k

@@ -1,5 +1,4 @@
 use native.Mathlib.Omega.{arith}
-use borrow.Author.Rules.{rules}
 use Rattle.static_errors.proofs.static_refusal.Goals as goal
 
 pub few_refusal-requires : goal.few_refusal-requires

@@ -1,6 +1,4 @@
-use mathlib.Core.Path.{sym, ◌∙◌}
 use Rattle.plain.specs.Static.{unassignable}
-use borrow.Author.Rules.{rules}
 use Rattle.static_errors.proofs.unassignable.Goals as goal
 
 pub returns-then-between : goal.returns-then-between

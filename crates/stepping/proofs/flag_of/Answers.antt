@@ -1,5 +1,4 @@
-use mathlib.Core.Path.{◌≡◌, refl, sym, ap}
-use mathlib.Core.Bool.{Bool}
+use mathlib.Core.Path.{sym, ap}
 use Rattle.chart.specs.Code.{flag}
 use Rattle.stepping.proofs.flag_of.Goals as goal
 

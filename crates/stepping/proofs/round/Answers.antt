@@ -1,8 +1,7 @@
 use Rattle.answer.specs.Answer.{job}
 use lib.ListN.{length}
 use Prim.Native.Nat.{◌+◌}
-use mathlib.Core.Path.{refl, sym, ap, ◌∙◌}
-use borrow.Author.Tests.{not-true, not-false}
+use mathlib.Core.Path.{refl, ap, ◌∙◌}
 use Rattle.opening.proofs.Texts.{got-part}
 use Rattle.tells.proofs.Tells.{not_so}
 use Rattle.resume.proofs.Lines.{resumed-at}

@@ -3,7 +3,6 @@ use Rattle.opening.proofs.Starts.{begun-at}
 use lib.ListN.{length}
 use Rattle.stepping.proofs.Starts.{grammar-fits, input-fits, start-room}
 use Rattle.stepping.proofs.Calls.{started-refused, started-done}
-use borrow.Author.Rules.{rules}
 use native.Mathlib.Omega.{arith}
 use Rattle.stepping.proofs.start.Goals as goal
 

@@ -1,5 +1,4 @@
 use native.Mathlib.Omega.{arith}
-use borrow.Author.Rules.{rules}
 use Rattle.heights.proofs.Cells.{at_room}
 use Rattle.sweeps.proofs.Visits.{held-dot, free-dot, took-dot}
 use Rattle.sweeps.proofs.add_dot.Goals as goal

@@ -1,6 +1,5 @@
 use Prim.Native.Nat.{◌+◌, ◌*◌, ◌-◌}
 use native.Mathlib.Omega.{arith}
-use borrow.Author.Rules.{rules}
 use Rattle.chart.specs.Code.{owner_at}
 use Rattle.heights.proofs.Cells.{at_room, owner-place}
 use Rattle.sweeps.specs.Layers.{no-rule, rule-above}

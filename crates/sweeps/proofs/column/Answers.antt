@@ -1,12 +1,8 @@
-use mathlib.Core.Path.{◌≡◌, refl, ◌∙◌}
-use Prim.Native.Nat.{◌+◌, ◌-◌, ◌≤◌}
+use mathlib.Core.Path.{refl, ◌∙◌}
+use Prim.Native.Nat.{◌-◌}
 use native.Mathlib.Omega.{arith}
-use lib.ListN.{length}
-use borrow.Author.Rules.{rules}
-use Rattle.heights.specs.Filling.{EndsAt}
-use Rattle.sweeps.specs.Layers.{Running, Passed}
 use Rattle.sweeps.proofs.Visits.{told}
-use Rattle.sweeps.proofs.Passes.{FromStart, starts-start, starts-next, starts-all}
+use Rattle.sweeps.proofs.Passes.{starts-start, starts-next, starts-all}
 use Rattle.sweeps.proofs.column.Goals as goal
 
 pub overflow_add-i : goal.overflow_add-i

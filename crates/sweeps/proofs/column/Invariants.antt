@@ -1,12 +1,9 @@
-use mathlib.Core.Path.{◌≡◌, refl, ◌∙◌}
+use mathlib.Core.Path.{◌≡◌}
 use Prim.Native.Nat.{◌+◌, ◌-◌, ◌≤◌}
-use native.Mathlib.Omega.{arith}
 use lib.ListN.{length}
-use borrow.Author.Rules.{rules}
 use Rattle.heights.specs.Filling.{EndsAt}
 use Rattle.sweeps.specs.Layers.{Running, Passed}
-use Rattle.sweeps.proofs.Visits.{told}
-use Rattle.sweeps.proofs.Passes.{FromStart, starts-start, starts-next, starts-all}
+use Rattle.sweeps.proofs.Passes.{FromStart}
 use Rattle.sweeps.proofs.column.Given as goal
 
 abbrev pub invariant-loop-i : goal.invariant-loop-i

@@ -1,4 +1,3 @@
-use borrow.Author.Rules.{rules}
 use Rattle.sweeps.proofs.Offers.{end-no}
 use Rattle.sweeps.proofs.derived.Goals as goal
 

@@ -1,13 +1,10 @@
-use mathlib.Core.Path.{◌≡◌, refl, ◌∙◌}
-use Prim.Native.Nat.{◌+◌, ◌-◌, ◌*◌}
-use native.Mathlib.Omega.{arith}
+use mathlib.Core.Path.{◌≡◌}
+use Prim.Native.Nat.{◌-◌, ◌*◌}
 use lib.ListN.{length}
 use Rattle.chart.specs.Heights.{stretches}
-use Rattle.chart.proofs.Cells.{square-fits, rows_fit}
 use Rattle.heights.specs.Table.{Shape}
 use Rattle.heights.proofs.Small.{count}
-use Rattle.heights.proofs.Exact.{filled}
-use Rattle.sweeps.proofs.Ending.{Rising, rising-start, below_none, more-cells, rising-next, settled, fewer}
+use Rattle.sweeps.proofs.Ending.{Rising}
 use Rattle.sweeps.proofs.fill.Given as goal
 
 abbrev pub invariant-loop-height : goal.invariant-loop-height

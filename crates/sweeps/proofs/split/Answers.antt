@@ -1,6 +1,5 @@
 use Prim.Native.Nat.{◌+◌, ◌*◌}
 use native.Mathlib.Omega.{arith}
-use borrow.Author.Rules.{rules}
 use Rattle.heights.proofs.Cells.{at_room, next_place, rule-place}
 use Rattle.sweeps.proofs.Offers.{split-tested, rest-above}
 use Rattle.sweeps.proofs.split.Goals as goal

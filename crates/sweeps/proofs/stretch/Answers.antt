@@ -1,12 +1,8 @@
-use mathlib.Core.Path.{◌≡◌, refl, ◌∙◌}
-use Prim.Native.Nat.{◌-◌, ◌≤◌}
+use mathlib.Core.Path.{refl, ◌∙◌}
+use Prim.Native.Nat.{◌-◌}
 use native.Mathlib.Omega.{arith}
-use lib.ListN.{length}
-use borrow.Author.Rules.{rules}
-use Rattle.heights.specs.Filling.{Only}
-use Rattle.sweeps.specs.Layers.{Running, Passed}
 use Rattle.sweeps.proofs.Visits.{told}
-use Rattle.sweeps.proofs.Passes.{FromDot, dots-start, dots-next, dots-all}
+use Rattle.sweeps.proofs.Passes.{dots-start, dots-next, dots-all}
 use Rattle.sweeps.proofs.stretch.Goals as goal
 
 pub loop-p-init : goal.loop-p-init

@@ -1,12 +1,9 @@
-use mathlib.Core.Path.{◌≡◌, refl, ◌∙◌}
+use mathlib.Core.Path.{◌≡◌}
 use Prim.Native.Nat.{◌-◌, ◌≤◌}
-use native.Mathlib.Omega.{arith}
 use lib.ListN.{length}
-use borrow.Author.Rules.{rules}
 use Rattle.heights.specs.Filling.{Only}
 use Rattle.sweeps.specs.Layers.{Running, Passed}
-use Rattle.sweeps.proofs.Visits.{told}
-use Rattle.sweeps.proofs.Passes.{FromDot, dots-start, dots-next, dots-all}
+use Rattle.sweeps.proofs.Passes.{FromDot}
 use Rattle.sweeps.proofs.stretch.Given as goal
 
 abbrev pub invariant-loop-p : goal.invariant-loop-p

@@ -1,12 +1,9 @@
-use mathlib.Core.Path.{◌≡◌, refl, ◌∙◌}
+use mathlib.Core.Path.{◌≡◌}
 use Prim.Native.Nat.{◌+◌, ◌-◌, ◌≤◌}
-use native.Mathlib.Omega.{arith}
 use lib.ListN.{length}
-use borrow.Author.Rules.{rules}
 use Rattle.heights.specs.Filling.{Any}
 use Rattle.sweeps.specs.Layers.{Running, Passed}
-use Rattle.sweeps.proofs.Visits.{told}
-use Rattle.sweeps.proofs.Passes.{BeforeEnd, ends-start, ends_next, begun, swept-by}
+use Rattle.sweeps.proofs.Passes.{BeforeEnd}
 use Rattle.sweeps.proofs.sweep.Given as goal
 
 abbrev pub invariant-loop-j : goal.invariant-loop-j

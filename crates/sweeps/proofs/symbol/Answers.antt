@@ -1,7 +1,5 @@
-use Prim.Native.Nat.{ℕ, ◌+◌, ◌-◌, ◌<◌, ◌≤◌}
+use Prim.Native.Nat.{◌-◌}
 use native.Mathlib.Omega.{arith}
-use Rattle.chart.specs.Heights.{none}
-use Rattle.heights.specs.Table.{split_of}
 use Rattle.sweeps.proofs.Offers.{symbol-yes, symbol-no, above-next}
 use Rattle.sweeps.proofs.symbol.Goals as goal
 

@@ -1,8 +1,6 @@
 use Prim.Native.Nat.{ℕ, ◌+◌, ◌-◌, ◌<◌, ◌≤◌}
-use native.Mathlib.Omega.{arith}
 use Rattle.chart.specs.Heights.{none}
 use Rattle.heights.specs.Table.{split_of}
-use Rattle.sweeps.proofs.Offers.{symbol-yes, symbol-no, above-next}
 use Rattle.sweeps.proofs.symbol.Given as goal
 
 abbrev pub invariant-loop-m : goal.invariant-loop-m

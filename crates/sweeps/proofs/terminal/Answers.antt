@@ -1,6 +1,5 @@
 use Prim.Native.Nat.{◌+◌, ◌*◌}
 use native.Mathlib.Omega.{arith}
-use borrow.Author.Rules.{rules}
 use Rattle.chart.specs.Code.{goes_at}
 use Rattle.heights.proofs.Cells.{next_place}
 use Rattle.sweeps.proofs.Offers.{terminal-no, terminal-tested}

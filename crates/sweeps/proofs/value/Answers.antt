@@ -2,7 +2,6 @@ use mathlib.Core.Path.{sym, ap, ◌∙◌}
 use Prim.Native.Nat.{ℕ}
 use native.Mathlib.Omega.{arith}
 use lib.ListN.{get_or}
-use borrow.Author.Rules.{rules}
 use Rattle.heights.proofs.Cells.{at_room}
 use Rattle.heights.proofs.Values.{value-end, value-gap, value_cell}
 use Rattle.sweeps.proofs.value.Goals as goal

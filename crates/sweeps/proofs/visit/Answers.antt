@@ -1,4 +1,3 @@
-use borrow.Author.Rules.{rules}
 use Rattle.sweeps.proofs.Visits.{visited}
 use Rattle.sweeps.proofs.visit.Goals as goal
 

@@ -3,7 +3,6 @@ use Rattle.text.specs.Lists.{chars}
 use Rattle.text.specs.Utf8.{utf8}
 use Rattle.encode.specs.Out.{enc, Wrote}
 use Rattle.encode.proofs.Puts.{wrote-bytes, and_then}
-use borrow.Author.Rules.{rules}
 use Rattle.tags.proofs.put_equals.Goals as goal
 
 pub returns : goal.returns

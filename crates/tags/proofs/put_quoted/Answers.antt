@@ -1,7 +1,6 @@
 use mathlib.Core.Path.{sym}
 use native.Mathlib.Omega.{arith}
 use Rattle.encode.proofs.Puts.{wrote_as, wrote_none}
-use borrow.Author.Rules.{rules}
 use Rattle.tags.proofs.put_quoted.Goals as goal
 
 pub returns-then-quoted : goal.returns-then-quoted

@@ -1,9 +1,8 @@
-use mathlib.Core.Path.{◌≡◌, refl}
+use mathlib.Core.Path.{refl}
 use Rattle.text.specs.Lists.{chars}
 use Rattle.text.specs.Utf8.{utf8}
 use Rattle.encode.specs.Out.{enc, Wrote}
 use Rattle.encode.proofs.Puts.{wrote-bytes, and_then}
-use borrow.Author.Rules.{rules}
 use Rattle.tags.proofs.put_start.Goals as goal
 
 pub returns : goal.returns

@@ -1,7 +1,6 @@
-use mathlib.Core.Path.{◌≡◌, refl, sym}
+use mathlib.Core.Path.{refl, sym}
 use native.Mathlib.Omega.{arith}
 use Rattle.encode.proofs.Puts.{wrote_as, and_then}
-use borrow.Author.Rules.{rules}
 use Rattle.tags.proofs.put_text.Goals as goal
 
 pub returns : goal.returns

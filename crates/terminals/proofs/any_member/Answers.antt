@@ -1,8 +1,7 @@
 use native.Mathlib.Omega.{arith}
-use mathlib.Core.Path.{◌≡◌, sym, ◌∙◌, ap}
+use mathlib.Core.Path.{◌∙◌}
 use Prim.Native.Nat.{◌-◌}
-use lib.ListN.{length}
-use Rattle.terminals.proofs.MemberPlaces.{Going, go-start, go-end, members-some, go-head, go-found, go-next, head-here, head-inside, head-steps, head-match}
+use Rattle.terminals.proofs.MemberPlaces.{go-start, go-end, members-some, go-head, go-found, go-next, head-here, head-inside, head-steps, head-match}
 use Rattle.plain.specs.Plain.{is_member}
 use Rattle.terminals.proofs.any_member.Goals as goal
 

@@ -3,7 +3,7 @@ use mathlib.Core.Path.{sym}
 use Prim.Native.Nat.{◌-◌}
 use lib.Dec.{eqb}
 use borrow.Author.Tests.{eq-eqb, ne_eqb}
-use Rattle.terminals.proofs.Stretches.{Seeking, seek-start, seek-end, seek-here, seek-more}
+use Rattle.terminals.proofs.Stretches.{seek-start, seek-end, seek-here, seek-more}
 use Rattle.terminals.proofs.is_among.Goals as goal
 
 pub loop-k-init : goal.loop-k-init

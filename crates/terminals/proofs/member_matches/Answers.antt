@@ -1,13 +1,10 @@
 use native.Mathlib.Omega.{arith}
 use Rattle.terminals.proofs.Places.{here-some, here-counted, here-coded, here-ranged, here-classed, here-class, class-at, match-class, match-counted, match-coded, match-ranged}
-use mathlib.Core.Path.{◌≡◌, sym, ◌∙◌, ap}
-use mathlib.Core.List.{List}
+use mathlib.Core.Path.{◌∙◌, ap}
 use Prim.Native.Nat.{ℕ, ◌+◌}
 use lib.ListN.{take, drop}
-use lib.Dec.{eqb}
 use Rattle.text.specs.Lists.{Text, among}
 use Rattle.category.specs.Category.{in_class}
-use borrow.Author.Rules.{rules}
 use Rattle.terminals.proofs.member_matches.Goals as goal
 
 pub offset_bounds-table-at : goal.offset_bounds-table-at

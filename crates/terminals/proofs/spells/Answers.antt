@@ -1,6 +1,6 @@
 use native.Mathlib.Omega.{arith}
 use Prim.Native.Nat.{◌-◌}
-use Rattle.terminals.proofs.Stretches.{Spelling, spell-short, spell-start, spell-end, spell-differs, spell-more}
+use Rattle.terminals.proofs.Stretches.{spell-short, spell-start, spell-end, spell-differs, spell-more}
 use Rattle.terminals.proofs.spells.Goals as goal
 
 pub overflow_sub-text : goal.overflow_sub-text

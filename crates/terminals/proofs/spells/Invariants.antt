@@ -1,6 +1,5 @@
-use native.Mathlib.Omega.{arith}
 use Prim.Native.Nat.{◌-◌}
-use Rattle.terminals.proofs.Stretches.{Spelling, spell-short, spell-start, spell-end, spell-differs, spell-more}
+use Rattle.terminals.proofs.Stretches.{Spelling}
 use Rattle.terminals.proofs.spells.Given as goal
 
 abbrev pub invariant-loop-k : goal.invariant-loop-k

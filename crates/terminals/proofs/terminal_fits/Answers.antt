@@ -1,14 +1,12 @@
 use native.Mathlib.Omega.{arith}
-use mathlib.Core.Path.{◌≡◌, sym, ◌∙◌, ap}
-use mathlib.Core.List.{List, []}
+use mathlib.Core.Path.{sym, ◌∙◌, ap}
 use Prim.Native.Nat.{ℕ, suc, ◌+◌}
 use lib.ListN.{take, drop, get_or, drop_of_length-le}
 use lib.Seq.{drop-cons}
-use Rattle.text.specs.Lists.{Text, begins}
+use Rattle.text.specs.Lists.{begins}
 use Rattle.plain.specs.Plain.{fits}
 use Rattle.plain.specs.Written.{members_in}
 use Rattle.terminals.proofs.Places.{term-two, term-counted, term-members, fit-quoted, fit-insertion, fit-past, fit-coded, fit-inclusion, fit-exclusion}
-use borrow.Author.Rules.{rules}
 use Rattle.terminals.proofs.terminal_fits.Goals as goal
 
 pub offset_bounds-table-at : goal.offset_bounds-table-at

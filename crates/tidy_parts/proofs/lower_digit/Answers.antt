@@ -1,8 +1,6 @@
-use mathlib.Core.Path.{◌≡◌, sym}
+use mathlib.Core.Path.{sym}
 use native.Mathlib.Omega.{arith}
 use Rattle.tidy_parts.proofs.Parts.{low_digit, high_digit}
-use borrow.Author.Rules.{rules}
-use Rattle.tidy_parts.proofs.lower_digit.Reads as reads
 use Rattle.tidy_parts.proofs.lower_digit.Goals as goal
 
 -- src/lib.rt:34:9

@@ -1,6 +1,5 @@
 use Rattle.encode.proofs.Puts.{and_then}
 use Rattle.tidy_parts.specs.Parts.{tail_by}
-use borrow.Author.Rules.{rules}
 use Rattle.tidy_parts.proofs.put_after.Goals as goal
 
 -- src/lib.rt:228:1

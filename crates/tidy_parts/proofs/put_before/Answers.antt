@@ -1,10 +1,8 @@
-use mathlib.Core.Path.{◌≡◌, refl}
-use native.Mathlib.Omega.{arith}
+use mathlib.Core.Path.{refl}
 use Rattle.text.specs.Utf8.{utf8}
 use Rattle.encode.specs.Out.{enc}
 use Rattle.encode.proofs.Puts.{wrote-text, wrote_none, wrote-bytes}
 use Rattle.tidy_parts.proofs.Signs.{lead-mark, lead-member, lead-insert, lead-version, lead-none}
-use borrow.Author.Rules.{rules}
 use Rattle.tidy_parts.proofs.put_before.Goals as goal
 
 -- src/lib.rt:196:9

@@ -1,7 +1,5 @@
-use mathlib.Core.Path.{◌≡◌, refl}
 use native.Mathlib.Omega.{arith}
 use Rattle.tidy_parts.proofs.Parts.{after-hash}
-use borrow.Author.Rules.{rules}
 use Rattle.tidy_parts.proofs.put_coded.Goals as goal
 
 -- src/lib.rt:124:9

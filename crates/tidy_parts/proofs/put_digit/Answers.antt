@@ -1,12 +1,8 @@
-use mathlib.Core.Path.{◌≡◌, sym, ap}
-use mathlib.Core.List.{List, [], ◌∷◌}
+use mathlib.Core.Path.{sym, ap}
+use mathlib.Core.List.{[], ◌∷◌}
 use Prim.Native.Nat.{ℕ}
 use Rattle.encode.proofs.Puts.{wrote-bytes, wrote-text}
 use Rattle.tidy_parts.proofs.Parts.{enc-low}
-use borrow.Author.Rules.{rules}
-use Rattle.tidy_parts.proofs.put_digit.Reads as reads
-use Rattle.encode.proofs.put.Reads as put_reads
-use Rattle.tidy_parts.proofs.lower_digit.Reads as lower-digit-reads
 use Rattle.tidy_parts.proofs.put_digit.Goals as goal
 
 -- src/lib.rt:39:1

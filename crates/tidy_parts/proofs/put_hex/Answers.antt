@@ -1,11 +1,8 @@
-use mathlib.Core.Path.{◌≡◌, refl, sym, ap}
+use mathlib.Core.Path.{refl, sym, ap}
 use Prim.Native.Nat.{ℕ, ◌/◌}
 use native.Mathlib.Omega.{arith}
-use lib.ListN.{length}
-use Rattle.encode.specs.Out.{Wrote}
 use Rattle.encode.proofs.Puts.{wrote_none, wrote-text}
-use Rattle.tidy_parts.proofs.Parts.{leading, leading-none, still-none, Power, power-some, power-down, power-low, leading-next, next-digit, last-digit}
-use borrow.Author.Rules.{rules}
+use Rattle.tidy_parts.proofs.Parts.{leading, leading-none, still-none, power-some, power-down, power-low, leading-next, next-digit, last-digit}
 use Rattle.tidy_parts.proofs.put_hex.Goals as goal
 
 -- src/lib.rt:65:5
@@ -28,12 +25,11 @@ loop-unit-smaller-then-top-gt0 c =
 
 -- src/lib.rt:65:5
 pub loop-unit-preserved-then-top-gt0 : goal.loop-unit-preserved-then-top-gt0
-loop-unit-preserved-then-top-gt0 c =
-    (
-      omega arith,
-      power-down c.loop-unit.invariant.1 c.loop-unit-test.true,
-      next-digit _ (leading-next _ _ c.loop-unit.invariant.1 c.loop-unit.invariant.2) c.put_digit-q.ensures c.if-top-gt0.true,
-    )
+loop-unit-preserved-then-top-gt0 c = (
+  omega arith,
+  power-down c.loop-unit.invariant.1 c.loop-unit-test.true,
+  next-digit _ (leading-next _ _ c.loop-unit.invariant.1 c.loop-unit.invariant.2) c.put_digit-q.ensures c.if-top-gt0.true,
+)
 
 -- src/lib.rt:65:5
 pub loop-unit-smaller : goal.loop-unit-smaller
@@ -41,12 +37,11 @@ loop-unit-smaller c = omega (arith, c.loop-unit-test.true)
 
 -- src/lib.rt:65:5
 pub loop-unit-preserved : goal.loop-unit-preserved
-loop-unit-preserved c =
-    (
-      c.loop-unit.invariant.0,
-      power-down c.loop-unit.invariant.1 c.loop-unit-test.true,
-      still-none _ c.if-top-gt0.false (leading-next _ _ c.loop-unit.invariant.1 c.loop-unit.invariant.2),
-    )
+loop-unit-preserved c = (
+  c.loop-unit.invariant.0,
+  power-down c.loop-unit.invariant.1 c.loop-unit-test.true,
+  still-none _ c.if-top-gt0.false (leading-next _ _ c.loop-unit.invariant.1 c.loop-unit.invariant.2),
+)
 
 -- src/lib.rt:72:5
 pub put_digit-requires : goal.put_digit-requires

@@ -1,11 +1,8 @@
-use mathlib.Core.Path.{◌≡◌, refl, sym, ap}
-use Prim.Native.Nat.{ℕ, ◌/◌}
-use native.Mathlib.Omega.{arith}
+use mathlib.Core.Path.{◌≡◌}
+use Prim.Native.Nat.{◌/◌}
 use lib.ListN.{length}
 use Rattle.encode.specs.Out.{Wrote}
-use Rattle.encode.proofs.Puts.{wrote_none, wrote-text}
-use Rattle.tidy_parts.proofs.Parts.{leading, leading-none, still-none, Power, power-some, power-down, power-low, leading-next, next-digit, last-digit}
-use borrow.Author.Rules.{rules}
+use Rattle.tidy_parts.proofs.Parts.{leading, Power}
 use Rattle.tidy_parts.proofs.put_hex.Given as goal
 
 abbrev pub invariant-loop-unit : goal.invariant-loop-unit

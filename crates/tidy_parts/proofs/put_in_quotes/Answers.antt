@@ -1,9 +1,8 @@
-use mathlib.Core.Path.{◌≡◌, refl}
+use mathlib.Core.Path.{refl}
 use Rattle.text.specs.Utf8.{utf8}
 use Rattle.encode.specs.Out.{enc}
 use Rattle.encode.proofs.Puts.{wrote-bytes, wrote-text}
 use Rattle.tidy_parts.proofs.Parts.{in-quotes-quote, in-quotes-other}
-use borrow.Author.Rules.{rules}
 use Rattle.tidy_parts.proofs.put_in_quotes.Goals as goal
 
 -- src/lib.rt:83:9

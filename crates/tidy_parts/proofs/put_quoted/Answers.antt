@@ -1,13 +1,9 @@
-use mathlib.Core.Path.{◌≡◌, refl}
-use Prim.Native.Nat.{ℕ, ◌+◌, ◌≤◌}
+use mathlib.Core.Path.{refl}
 use native.Mathlib.Omega.{arith}
-use lib.ListN.{length, take, drop}
-use Rattle.text.specs.Lists.{concat_map}
+use lib.ListN.{take, drop}
 use Rattle.tidy.specs.Tidy.{quoted_char}
-use Rattle.encode.specs.Out.{state, puts, enc}
 use Rattle.encode.proofs.Texts.{text-on}
 use Rattle.tidy_parts.proofs.Parts.{quotes-around}
-use borrow.Author.Rules.{rules}
 use Rattle.tidy_parts.proofs.put_quoted.Goals as goal
 
 -- src/lib.rt:100:9
@@ -44,14 +40,13 @@ loop-n-smaller c = omega arith
 
 -- src/lib.rt:103:5
 pub loop-n-preserved : goal.loop-n-preserved
-loop-n-preserved c =
-    (
-      omega arith,
-      omega (arith, c.loop-n.invariant.1, c.loop-n-test.true),
-      text-on _ quoted_char c.args.t.now c.loop-n.i c.loop-n.n c.loop-n-test.true
-          (omega (arith, c.loop-n.invariant.1, c.loop-n-test.true)) c.loop-n.invariant.2
-          c.look.result c.look.ensures.0 c.put_in_quotes-q.ensures,
-    )
+loop-n-preserved c = (
+  omega arith,
+  omega (arith, c.loop-n.invariant.1, c.loop-n-test.true),
+  text-on _ quoted_char c.args.t.now c.loop-n.i c.loop-n.n c.loop-n-test.true
+      (omega (arith, c.loop-n.invariant.1, c.loop-n-test.true)) c.loop-n.invariant.2
+      c.look.result c.look.ensures.0 c.put_in_quotes-q.ensures,
+)
 
 -- src/lib.rt:108:5
 pub put-requires : goal.put-requires

@@ -1,13 +1,9 @@
-use mathlib.Core.Path.{◌≡◌, refl}
-use Prim.Native.Nat.{ℕ, ◌+◌, ◌≤◌}
-use native.Mathlib.Omega.{arith}
+use mathlib.Core.Path.{◌≡◌}
+use Prim.Native.Nat.{◌+◌, ◌≤◌}
 use lib.ListN.{length, take, drop}
 use Rattle.text.specs.Lists.{concat_map}
 use Rattle.tidy.specs.Tidy.{quoted_char}
 use Rattle.encode.specs.Out.{state, puts, enc}
-use Rattle.encode.proofs.Texts.{text-on}
-use Rattle.tidy_parts.proofs.Parts.{quotes-around}
-use borrow.Author.Rules.{rules}
 use Rattle.tidy_parts.proofs.put_quoted.Given as goal
 
 abbrev pub invariant-loop-n : goal.invariant-loop-n

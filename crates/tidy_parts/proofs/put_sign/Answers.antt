@@ -1,11 +1,8 @@
-use mathlib.Core.Path.{◌≡◌, refl}
+use mathlib.Core.Path.{refl}
 use Rattle.text.specs.Utf8.{utf8}
 use Rattle.encode.specs.Out.{enc}
 use Rattle.encode.proofs.Puts.{wrote-bytes, wrote_none, wrote-text}
 use Rattle.tidy_parts.proofs.Parts.{sign-0, sign-1, sign-2, sign-3}
-use borrow.Author.Rules.{rules}
-use Rattle.tidy_parts.proofs.put_sign.Reads as reads
-use Rattle.encode.proofs.put.Reads as put_reads
 use Rattle.tidy_parts.proofs.put_sign.Goals as goal
 
 -- src/lib.rt:17:9

@@ -1,7 +1,6 @@
 use native.Mathlib.Omega.{arith}
 use Rattle.encode.proofs.Puts.{wrote-text, wrote_none}
 use Rattle.tidy_parts.proofs.Signs.{sign-past, sign-none, sign-some}
-use borrow.Author.Rules.{rules}
 use Rattle.tidy_parts.proofs.put_sign_at.Goals as goal
 
 -- src/lib.rt:218:9

@@ -5,7 +5,6 @@ use Rattle.encode.specs.Out.{enc}
 use Rattle.encode.proofs.Puts.{wrote-text, wrote-bytes, wrote_none}
 use Rattle.tidy_text.proofs.Between.{before-factor, before_head, before-member, before-set-end, before-late, before-none}
 use Rattle.tidy_text.proofs.Owed.{lead-by, lead-first}
-use borrow.Author.Rules.{rules}
 use Rattle.tidy_text.proofs.put_between.Goals as goal
 
 -- src/lib.rt:66:9

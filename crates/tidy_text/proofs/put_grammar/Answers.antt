@@ -1,17 +1,8 @@
-use mathlib.Core.Path.{◌≡◌, refl}
+use mathlib.Core.Path.{refl}
 use mathlib.Core.Bool.{true}
-use mathlib.Core.List.{List}
 use Prim.Native.Nat.{◌-◌}
 use native.Mathlib.Omega.{arith}
-use lib.ListN.{length}
-use Rattle.tree.specs.Tokens.{Token}
-use Rattle.tokens.specs.Lengths.{Left}
-use Rattle.encode.specs.Out.{state, puts, enc}
-use Rattle.tidy.specs.Scan.{scan}
-use Rattle.tidy_writer.specs.Walk.{SomeLeft}
-use Rattle.tidy_text.specs.Whole.{AllFit}
-use Rattle.tidy_text.proofs.Owed.{Owed, owed-next, owed_none, some_next, some-within, some-forward}
-use borrow.Author.Rules.{rules}
+use Rattle.tidy_text.proofs.Owed.{owed-next, owed_none, some_next, some-within, some-forward}
 use Rattle.tidy_text.proofs.put_grammar.Goals as goal
 
 -- src/lib.rt:115:5
@@ -50,13 +41,12 @@ loop-k-smaller c =
 
 -- src/lib.rt:115:5
 pub loop-k-preserved : goal.loop-k-preserved
-loop-k-preserved c =
-    (
-      omega arith,
-      rw c.token_end-k.ensures (some_next c.loop-k-test.true c.loop-k.invariant.1),
-      λ ts w f. owed-next c.loop-k.invariant.1.inside c.loop-k-test.true (c.loop-k.invariant.2 ts w f)
-          c.put_between-pos.ensures c.put_token-pos.ensures c.begins_list-first.ensures c.token_end-k.ensures,
-    )
+loop-k-preserved c = (
+  omega arith,
+  rw c.token_end-k.ensures (some_next c.loop-k-test.true c.loop-k.invariant.1),
+  λ ts w f. owed-next c.loop-k.invariant.1.inside c.loop-k-test.true (c.loop-k.invariant.2 ts w f)
+      c.put_between-pos.ensures c.put_token-pos.ensures c.begins_list-first.ensures c.token_end-k.ensures,
+)
 
 -- src/lib.rt:107:1
 pub shape_of-out : goal.shape_of-out

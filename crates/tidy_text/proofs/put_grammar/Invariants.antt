@@ -1,8 +1,7 @@
-use mathlib.Core.Path.{◌≡◌, refl}
+use mathlib.Core.Path.{◌≡◌}
 use mathlib.Core.Bool.{true}
 use mathlib.Core.List.{List}
 use Prim.Native.Nat.{◌-◌}
-use native.Mathlib.Omega.{arith}
 use lib.ListN.{length}
 use Rattle.tree.specs.Tokens.{Token}
 use Rattle.tokens.specs.Lengths.{Left}
@@ -10,8 +9,7 @@ use Rattle.encode.specs.Out.{state, puts, enc}
 use Rattle.tidy.specs.Scan.{scan}
 use Rattle.tidy_writer.specs.Walk.{SomeLeft}
 use Rattle.tidy_text.specs.Whole.{AllFit}
-use Rattle.tidy_text.proofs.Owed.{Owed, owed-next, owed_none, some_next, some-within, some-forward}
-use borrow.Author.Rules.{rules}
+use Rattle.tidy_text.proofs.Owed.{Owed}
 use Rattle.tidy_text.proofs.put_grammar.Given as goal
 
 abbrev pub invariant-loop-k : goal.invariant-loop-k

@@ -3,7 +3,6 @@ use Rattle.text.specs.Utf8.{utf8}
 use Rattle.encode.specs.Out.{enc}
 use Rattle.encode.proofs.Puts.{wrote-text, wrote-bytes}
 use Rattle.tidy_text.proofs.Between.{joint-0, joint-1, joint-comma}
-use borrow.Author.Rules.{rules}
 use Rattle.tidy_text.proofs.put_joint.Goals as goal
 
 -- src/lib.rt:23:9

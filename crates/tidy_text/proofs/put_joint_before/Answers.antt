@@ -1,7 +1,6 @@
 use Rattle.encode.proofs.Puts.{wrote-text}
 use Rattle.tidy.specs.Scan.{past}
 use Rattle.tidy_text.proofs.Owed.{joint-end, joint-at}
-use borrow.Author.Rules.{rules}
 use Rattle.tidy_text.proofs.put_joint_before.Goals as goal
 
 -- src/lib.rt:46:9

@@ -1,6 +1,5 @@
-use mathlib.Core.Path.{◌≡◌, sym, ◌∙◌}
+use mathlib.Core.Path.{sym, ◌∙◌}
 use Rattle.tidy_writer.proofs.Walk.{depth-single, depth-set, depth-head, depth-insert, depth-other, depth-group, depth-end, ends_set, ends-group}
-use borrow.Author.Rules.{rules}
 use Rattle.tidy_writer.proofs.depth_after.Goals as goal
 
 -- src/lib.rt:266:9

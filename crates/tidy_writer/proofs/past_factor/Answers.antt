@@ -1,14 +1,9 @@
-use mathlib.Core.Path.{◌≡◌, refl, sym, ◌∙◌}
-use mathlib.Core.List.{List}
-use Prim.Native.Nat.{ℕ, ◌-◌, ◌≤◌}
+use mathlib.Core.Path.{refl, sym, ◌∙◌}
+use Prim.Native.Nat.{◌-◌}
 use native.Mathlib.Omega.{arith}
 use lib.ListN.{get_or}
-use borrow.Author.Rules.{rules}
-use Rattle.tree.specs.Tokens.{Token}
-use Rattle.tokens.specs.Lengths.{Left}
-use Rattle.tidy.specs.Scan.{past}
 use Rattle.tidy.specs.Numbers.{kind_by}
-use Rattle.tidy_writer.proofs.Walk.{Ahead, step, arrived, depth-most, some}
+use Rattle.tidy_writer.proofs.Walk.{step, arrived, depth-most, some}
 use Rattle.tidy_writer.proofs.past_factor.Goals as goal
 
 -- src/lib.rt:296:5

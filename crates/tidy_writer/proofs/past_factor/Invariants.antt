@@ -1,14 +1,9 @@
-use mathlib.Core.Path.{◌≡◌, refl, sym, ◌∙◌}
 use mathlib.Core.List.{List}
-use Prim.Native.Nat.{ℕ, ◌-◌, ◌≤◌}
-use native.Mathlib.Omega.{arith}
-use lib.ListN.{get_or}
-use borrow.Author.Rules.{rules}
+use Prim.Native.Nat.{◌-◌, ◌≤◌}
 use Rattle.tree.specs.Tokens.{Token}
 use Rattle.tokens.specs.Lengths.{Left}
 use Rattle.tidy.specs.Scan.{past}
-use Rattle.tidy.specs.Numbers.{kind_by}
-use Rattle.tidy_writer.proofs.Walk.{Ahead, step, arrived, depth-most, some}
+use Rattle.tidy_writer.proofs.Walk.{Ahead}
 use Rattle.tidy_writer.proofs.past_factor.Given as goal
 
 abbrev pub invariant-loop-at : goal.invariant-loop-at

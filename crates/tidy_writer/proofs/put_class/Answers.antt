@@ -1,6 +1,5 @@
 use Rattle.encode.proofs.Puts.{and_then, wrote-text}
 use Rattle.tidy_writer.proofs.Tokens.{class-one, class-two}
-use borrow.Author.Rules.{rules}
 use Rattle.tidy_writer.proofs.put_class.Goals as goal
 
 -- src/lib.rt:157:9

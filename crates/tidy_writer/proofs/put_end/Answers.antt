@@ -1,6 +1,5 @@
 use Rattle.encode.proofs.Puts.{wrote-text}
 use Rattle.tidy_writer.proofs.Tokens.{end-quoted, end-coded}
-use borrow.Author.Rules.{rules}
 use Rattle.tidy_writer.proofs.put_end.Goals as goal
 
 -- src/lib.rt:135:9

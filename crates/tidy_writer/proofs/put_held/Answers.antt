@@ -2,7 +2,6 @@ use native.Mathlib.Omega.{arith}
 use Rattle.tokens.proofs.Forms.{first-in, sized, length-text, length-range, length-class}
 use Rattle.encode.proofs.Puts.{wrote_none}
 use Rattle.tidy_writer.proofs.Tokens.{held-as, held-name, held-quoted, held-coded, held-range, held-class, held_none}
-use borrow.Author.Rules.{rules}
 use Rattle.tidy_writer.proofs.put_held.Goals as goal
 
 -- src/lib.rt:170:29

@@ -5,7 +5,6 @@ use Rattle.text.specs.Lists.{chars}
 use Rattle.encode.proofs.Puts.{and_then, wrote-bytes}
 use Rattle.tidy_writer.specs.Parts.{end_at}
 use Rattle.tidy_parts.proofs.Parts.{enc-low}
-use borrow.Author.Rules.{rules}
 use Rattle.tidy_writer.proofs.put_range.Goals as goal
 
 -- src/lib.rt:140:1

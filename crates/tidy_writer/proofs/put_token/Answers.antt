@@ -2,7 +2,6 @@ use native.Mathlib.Omega.{arith}
 use Rattle.tokens.proofs.Forms.{first-in}
 use Rattle.encode.proofs.Puts.{and_then, wrote-text}
 use Rattle.tidy_writer.proofs.Tokens.{token-text}
-use borrow.Author.Rules.{rules}
 use Rattle.tidy_writer.proofs.put_token.Goals as goal
 
 -- src/lib.rt:244:16

@@ -1,7 +1,5 @@
 use borrow.Author.Tests.{lt-ltb, le-ltb}
-use mathlib.Core.Path.{sym, ◌∙◌}
 use Rattle.tokens.specs.Lengths.{form_of}
-use borrow.Author.Rules.{rules}
 use Rattle.tokens.proofs.form.Goals as goal
 
 pub returns-then-kind-lt-QUOTED : goal.returns-then-kind-lt-QUOTED

@@ -1,6 +1,5 @@
 use native.Mathlib.Omega.{arith}
 use mathlib.Core.Path.{refl}
-use borrow.Author.Rules.{rules}
 use Rattle.text.proofs.Tests.{clash}
 use Rattle.tokens.proofs.Names.{held_fits, not-held}
 use Rattle.tokens.proofs.is_named.Goals as goal

@@ -1,5 +1,3 @@
-use borrow.Author.Rules.{rules}
-use borrow.Author.Tests.{not-true, not-false}
 use Rattle.tokens.proofs.Names.{same-held}
 use Rattle.tokens.proofs.same_if_named.Goals as goal
 

@@ -1,9 +1,6 @@
 use native.Mathlib.Omega.{arith}
 use borrow.Author.Tests.{lt-ltb, le-ltb}
 use Rattle.tokens.specs.Lengths.{terminal_width}
-use borrow.Author.Rules.{rules}
-use Rattle.tokens.proofs.terminal_width.Reads as reads
-use Rattle.tokens.proofs.look.Reads as look-reads
 use Rattle.tokens.proofs.terminal_width.Goals as goal
 
 -- src/lib.rt:170:9

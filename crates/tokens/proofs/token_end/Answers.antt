@@ -1,12 +1,5 @@
 use native.Mathlib.Omega.{arith}
-use mathlib.Core.Path.{sym, ap, ◌∙◌}
-use Prim.Native.Nat.{◌+◌}
-use Rattle.tokens.specs.Lengths.{length_of}
 use Rattle.tokens.proofs.Forms.{first-in, sized, length-text, length-code, length-range, length-class, length-bare}
-use borrow.Author.Rules.{rules}
-use Rattle.tokens.proofs.token_end.Reads as reads
-use Rattle.text.proofs.wide.Reads as wide-reads
-use Rattle.tokens.proofs.form.Reads as form-reads
 use Rattle.tokens.proofs.token_end.Goals as goal
 
 -- src/lib.rt:113:18

@@ -1,7 +1,6 @@
 use lib.ListN.{length}
 use Rattle.answer.specs.Answer.{job}
 use Rattle.uncut.proofs.ReadsAs.{counted, read-given}
-use borrow.Author.Rules.{rules}
 use Rattle.uncut.proofs.read.Goals as goal
 
 pub give_numbers-requires : goal.give_numbers-requires

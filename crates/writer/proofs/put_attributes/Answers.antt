@@ -1,16 +1,12 @@
-use mathlib.Core.Path.{◌≡◌, refl}
-use mathlib.Core.Bool.{true, false}
+use mathlib.Core.Path.{refl}
 use native.Mathlib.Omega.{arith}
-use lib.ListN.{length}
 use Rattle.text.specs.Lists.{chars}
 use Rattle.text.specs.Utf8.{utf8}
-use Rattle.encode.specs.Out.{state, enc, Wrote}
+use Rattle.encode.specs.Out.{enc, Wrote}
 use Rattle.encode.proofs.Puts.{wrote-bytes}
-use Rattle.cursor.specs.Events.{weight}
 use Rattle.cursor.proofs.Turns.{text-is, open_is, attribute-is, close-is}
-use Rattle.cursor.proofs.Folds.{Reached, reached-begin, reached-some, row-some, text-stands, on-text, on-close, on-end, open-node, open-past, attribute-node, attribute-enter}
+use Rattle.cursor.proofs.Folds.{reached-begin, reached-some, row-some, text-stands, on-text, on-close, on-end, open-node, open-past, attribute-node, attribute-enter}
 use Rattle.writer.proofs.Folds.{Quoting, quoting-begin, quoting-text, quoting-element, quoting-attribute, quoting-close, quoting-end}
-use borrow.Author.Rules.{rules}
 use Rattle.writer.proofs.put_attributes.Goals as goal
 
 pub loop-n-init : goal.loop-n-init

@@ -1,16 +1,9 @@
-use mathlib.Core.Path.{◌≡◌, refl}
-use mathlib.Core.Bool.{true, false}
-use native.Mathlib.Omega.{arith}
+use mathlib.Core.Path.{◌≡◌}
 use lib.ListN.{length}
-use Rattle.text.specs.Lists.{chars}
-use Rattle.text.specs.Utf8.{utf8}
-use Rattle.encode.specs.Out.{state, enc, Wrote}
-use Rattle.encode.proofs.Puts.{wrote-bytes}
+use Rattle.encode.specs.Out.{state}
 use Rattle.cursor.specs.Events.{weight}
-use Rattle.cursor.proofs.Turns.{text-is, open_is, attribute-is, close-is}
-use Rattle.cursor.proofs.Folds.{Reached, reached-begin, reached-some, row-some, text-stands, on-text, on-close, on-end, open-node, open-past, attribute-node, attribute-enter}
-use Rattle.writer.proofs.Folds.{Quoting, quoting-begin, quoting-text, quoting-element, quoting-attribute, quoting-close, quoting-end}
-use borrow.Author.Rules.{rules}
+use Rattle.cursor.proofs.Folds.{Reached}
+use Rattle.writer.proofs.Folds.{Quoting}
 use Rattle.writer.proofs.put_attributes.Given as goal
 
 abbrev pub invariant-loop-n : goal.invariant-loop-n

@@ -1,12 +1,9 @@
-use mathlib.Core.Path.{◌≡◌, refl, ap, ◌∙◌}
+use mathlib.Core.Path.{refl, ap, ◌∙◌}
 use native.Mathlib.Omega.{arith}
-use lib.ListN.{length}
-use Rattle.cursor.specs.Events.{weight}
 use Rattle.cursor.proofs.Turns.{text-is, open_is, attribute-is, close-is}
-use Rattle.cursor.proofs.Folds.{Reached, reached-begin, reached-some, row-some, text-stands, on-text, on-close, on-end, open-node, open-enter, attribute-node, attribute-past}
+use Rattle.cursor.proofs.Folds.{reached-begin, reached-some, row-some, text-stands, on-text, on-close, on-end, open-node, open-enter, attribute-node, attribute-past}
 use Rattle.writer.proofs.Folds.{room-left, Owing, owing-begin, owing-text, owing-element, owing-attribute, owing-close, owing-end}
 use Rattle.tags.specs.declared.Output.{Output}
-use borrow.Author.Rules.{rules}
 use Rattle.writer.proofs.put_content.Goals as goal
 
 pub loop-n-init : goal.loop-n-init
@@ -41,20 +38,22 @@ loop-n-preserved-in-Text c =
 
 pub put_open-o-requires : goal.put_open-o-requires
 put_open-o-requires c =
-    let N = open_is c.next-event.ensures c.in-Open.is in record { limit_in_bounds = room-left c.loop-n.invariant.2 c.requires.0 c.loop-n.invariant.1; item_value = (
+    let N = open_is c.next-event.ensures c.in-Open.is in record {
+      limit_in_bounds = room-left c.loop-n.invariant.2 c.requires.0 c.loop-n.invariant.1;
+      item_value = (
         N.is,
         open-node (Owing _ _ _ _ _) c.loop-n.invariant.3 c.next-event.ensures c.in-Open.is
             (row-some c.requires.1),
-      ) }
+      );
+    }
 
 pub enter-at-requires : goal.enter-at-requires
-enter-at-requires c =
-    (
-      c.args.«record».now,
-      rw c.put_open-o.ensures.kept
-          (open-node (Owing _ _ _ _ _) c.loop-n.invariant.3 c.next-event.ensures c.in-Open.is
-          (row-some c.requires.1)),
-    )
+enter-at-requires c = (
+  c.args.«record».now,
+  rw c.put_open-o.ensures.kept
+      (open-node (Owing _ _ _ _ _) c.loop-n.invariant.3 c.next-event.ensures c.in-Open.is
+      (row-some c.requires.1)),
+)
 
 pub loop-n-smaller-in-Open : goal.loop-n-smaller-in-Open
 loop-n-smaller-in-Open c =

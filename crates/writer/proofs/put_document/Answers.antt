@@ -1,7 +1,5 @@
-use mathlib.Core.Path.{◌≡◌, refl, sym, ap, ◌∙◌}
+use mathlib.Core.Path.{refl, sym, ap, ◌∙◌}
 use native.Mathlib.Omega.{arith}
-use lib.ListN.{get_or}
-use Rattle.left_parse.specs.Steps.{Found}
 use Rattle.markup.specs.Tags.{state_of}
 use Rattle.encode.proofs.Puts.{wrote-text}
 use Rattle.tags.specs.Stated.{stated}
@@ -13,12 +11,11 @@ use borrow.Author.Rules.{rules}
 use Rattle.writer.proofs.put_document.Goals as goal
 
 pub put_content-bare-requires : goal.put_content-bare-requires
-put_content-bare-requires c =
-    (
-      c.requires.limit_in_bounds.0,
-      row-again c.at_root-first.ensures refl (root-row (rooted c.requires.room.0 c.requires.room.1.job _
-          (found_first c.args.parse.now c.look-a.ensures.0 c.alternative-item.ensures))),
-    )
+put_content-bare-requires c = (
+  c.requires.limit_in_bounds.0,
+  row-again c.at_root-first.ensures refl (root-row (rooted c.requires.room.0 c.requires.room.1.job _
+      (found_first c.args.parse.now c.look-a.ensures.0 c.alternative-item.ensures))),
+)
 
 pub returns-then-look-eq-DELETED_HEAD : goal.returns-then-look-eq-DELETED_HEAD
 returns-then-look-eq-DELETED_HEAD c =
@@ -38,21 +35,19 @@ put_start-name-requires c =
     (c.requires.limit_in_bounds.0, c.head_at-head.ensures.fits)
 
 pub put_attributes-tag-requires : goal.put_attributes-tag-requires
-put_attributes-tag-requires c =
-    (
-      room-left (ap (λ (o : Output). o.limit) c.put_start-name.ensures.0) c.requires.limit_in_bounds.0 (search rules),
-      row-again c.at_root-first.ensures refl (root-row (rooted c.requires.room.0 c.requires.room.1.job _
-          (found_first c.args.parse.now c.look-a.ensures.0 c.alternative-item.ensures))),
-    )
+put_attributes-tag-requires c = (
+  room-left (ap (λ (o : Output). o.limit) c.put_start-name.ensures.0) c.requires.limit_in_bounds.0 (search rules),
+  row-again c.at_root-first.ensures refl (root-row (rooted c.requires.room.0 c.requires.room.1.job _
+      (found_first c.args.parse.now c.look-a.ensures.0 c.alternative-item.ensures))),
+)
 
 pub put_content-inner-requires : goal.put_content-inner-requires
-put_content-inner-requires c =
-    (
-      room-left (ap (λ (o : Output). o.limit) (started-is c.args.from c.put_start-name.ensures.0 c.put_attributes-tag.ensures))
-          c.requires.limit_in_bounds.0 (omega (arith, c.put_attributes-tag.auto.out, c.put_start-name.auto.out)),
-      row-again c.at_root-first.ensures c.put_attributes-tag.ensures.kept (root-row (rooted c.requires.room.0 c.requires.room.1.job _
-          (found_first c.args.parse.now c.look-a.ensures.0 c.alternative-item.ensures))),
-    )
+put_content-inner-requires c = (
+  room-left (ap (λ (o : Output). o.limit) (started-is c.args.from c.put_start-name.ensures.0 c.put_attributes-tag.ensures))
+      c.requires.limit_in_bounds.0 (omega (arith, c.put_attributes-tag.auto.out, c.put_start-name.auto.out)),
+  row-again c.at_root-first.ensures c.put_attributes-tag.ensures.kept (root-row (rooted c.requires.room.0 c.requires.room.1.job _
+      (found_first c.args.parse.now c.look-a.ensures.0 c.alternative-item.ensures))),
+)
 
 pub put_close-whole-requires : goal.put_close-whole-requires
 put_close-whole-requires c =

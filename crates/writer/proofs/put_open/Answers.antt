@@ -1,4 +1,4 @@
-use mathlib.Core.Path.{◌≡◌, refl, ap}
+use mathlib.Core.Path.{refl, ap}
 use native.Mathlib.Omega.{arith}
 use Rattle.tags.specs.declared.Output.{Output}
 use Rattle.writer.proofs.Folds.{room-left}

@@ -1,10 +1,9 @@
-use mathlib.Core.Path.{◌≡◌, refl, ap}
+use mathlib.Core.Path.{ap}
 use native.Mathlib.Omega.{arith}
 use Rattle.xml.specs.Document.{document}
 use Rattle.xml.specs.Bytes.{bytes}
 use Rattle.tags.specs.declared.Output.{Output}
 use Rattle.writer.proofs.Whole.{documented, document-fits, all-written}
-use borrow.Author.Rules.{rules}
 use Rattle.writer.proofs.write_fitting.Goals as goal
 
 pub put_document-n-requires : goal.put_document-n-requires

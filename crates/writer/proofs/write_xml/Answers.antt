@@ -1,4 +1,3 @@
-use borrow.Author.Rules.{rules}
 use Rattle.writer.proofs.write_xml.Goals as goal
 
 pub write_fitting-requires : goal.write_fitting-requires

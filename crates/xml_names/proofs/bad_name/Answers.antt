@@ -2,7 +2,6 @@ use native.Mathlib.Omega.{arith}
 use mathlib.Core.Path.{sym, ap, ◌∙◌}
 use Rattle.xml.specs.Names.{name_start}
 use Rattle.xml_names.proofs.Names.{name-none, name-start, name-other}
-use borrow.Author.Rules.{rules}
 use Rattle.xml_names.proofs.bad_name.Goals as goal
 
 pub returns-then-n-eq0 : goal.returns-then-n-eq0

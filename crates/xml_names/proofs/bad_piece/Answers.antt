@@ -4,7 +4,6 @@ use Rattle.text.specs.Lists.{any}
 use Rattle.markup.specs.Pieces.{said}
 use Rattle.xml_names.specs.Flags.{odd}
 use Rattle.xml_names.proofs.Names.{plain-odd}
-use borrow.Author.Rules.{rules}
 use Rattle.xml_names.proofs.bad_piece.Goals as goal
 
 pub returns-in-Table : goal.returns-in-Table

@@ -1,4 +1,3 @@
-use borrow.Author.Rules.{rules}
 use Rattle.xml_names.proofs.is_odd.Goals as goal
 
 pub returns-then-name : goal.returns-then-name

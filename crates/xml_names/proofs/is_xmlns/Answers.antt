@@ -1,6 +1,5 @@
 use mathlib.Core.Path.{sym, ◌∙◌}
 use Rattle.xml_names.proofs.Names.{xmlns-other, xmlns-five}
-use borrow.Author.Rules.{rules}
 use Rattle.xml_names.proofs.is_xmlns.Goals as goal
 
 pub returns-then-look-ne-XMLNS_LENGTH : goal.returns-then-look-ne-XMLNS_LENGTH

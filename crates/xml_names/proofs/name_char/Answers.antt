@@ -1,5 +1,4 @@
 use Rattle.xml.specs.Names.{name_char}
-use borrow.Author.Rules.{rules}
 use Rattle.xml_names.proofs.name_char.Goals as goal
 
 pub returns : goal.returns

@@ -1,5 +1,4 @@
 use Rattle.xml.specs.Names.{name_start}
-use borrow.Author.Rules.{rules}
 use Rattle.xml_names.proofs.name_start.Goals as goal
 
 pub returns : goal.returns

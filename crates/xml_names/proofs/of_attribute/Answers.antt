@@ -1,7 +1,6 @@
 use mathlib.Core.Path.{ap₂}
 use mathlib.Core.Bool.{Bool, false}
 use Rattle.xml_names.specs.Flags.{flags}
-use borrow.Author.Rules.{rules}
 use Rattle.xml_names.proofs.of_attribute.Goals as goal
 
 pub returns : goal.returns

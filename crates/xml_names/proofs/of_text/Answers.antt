@@ -2,7 +2,6 @@ use mathlib.Core.Path.{ap, ◌∙◌}
 use mathlib.Core.Bool.{Bool, false}
 use Rattle.xml_names.specs.Flags.{flags, bad}
 use Rattle.xml_names.proofs.Names.{bad-capped}
-use borrow.Author.Rules.{rules}
 use Rattle.xml_names.proofs.of_text.Goals as goal
 
 pub returns : goal.returns

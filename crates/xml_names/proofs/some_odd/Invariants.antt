@@ -1,11 +1,8 @@
-use mathlib.Core.Path.{◌≡◌, refl, sym, ap, ◌∙◌}
-use mathlib.Core.Bool.{Bool, ◌||◌}
-use Prim.Native.Nat.{ℕ, ◌+◌, ◌-◌, ◌≤◌}
-use native.Mathlib.Omega.{arith}
+use mathlib.Core.Path.{◌≡◌}
+use Prim.Native.Nat.{◌-◌}
 use lib.ListN.{take, drop}
 use Rattle.text.specs.Lists.{any}
 use Rattle.xml_names.specs.Flags.{odd}
-use Rattle.xml_names.proofs.Names.{stretch-over, stretch-step}
 use Rattle.xml_names.proofs.some_odd.Given as goal
 
 abbrev pub invariant-loop-n : goal.invariant-loop-n

@@ -1,4 +1,3 @@
-use borrow.Author.Rules.{rules}
 use Rattle.xml_names.proofs.within.Goals as goal
 
 pub returns : goal.returns

@@ -1,5 +1,4 @@
 use Rattle.xml.specs.Names.{xml_char}
-use borrow.Author.Rules.{rules}
 use Rattle.xml_names.proofs.xml_char.Goals as goal
 
 pub returns : goal.returns

@@ -1,6 +1,5 @@
-use mathlib.Core.Path.{◌≡◌, sym}
+use mathlib.Core.Path.{sym}
 use lib.Seq.{set_out}
-use borrow.Author.Rules.{rules}
 use Rattle.xml_shape.proofs.add_name.Goals as goal
 
 pub returns-else-count-seen : goal.returns-else-count-seen

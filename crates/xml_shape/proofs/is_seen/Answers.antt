@@ -1,7 +1,7 @@
 use Prim.Native.Nat.{◌-◌}
 use native.Mathlib.Omega.{arith}
 use Rattle.left_parse.proofs.Items.{named-holding}
-use Rattle.xml_shape.proofs.Laws.{Searched, searched-begin, searched-hit, searched-next, searched-end}
+use Rattle.xml_shape.proofs.Laws.{searched-begin, searched-hit, searched-next, searched-end}
 use Rattle.xml_shape.proofs.is_seen.Goals as goal
 
 pub loop-i-init : goal.loop-i-init

@@ -1,7 +1,5 @@
 use Prim.Native.Nat.{◌-◌}
-use native.Mathlib.Omega.{arith}
-use Rattle.left_parse.proofs.Items.{named-holding}
-use Rattle.xml_shape.proofs.Laws.{Searched, searched-begin, searched-hit, searched-next, searched-end}
+use Rattle.xml_shape.proofs.Laws.{Searched}
 use Rattle.xml_shape.proofs.is_seen.Given as goal
 
 abbrev pub invariant-loop-i : goal.invariant-loop-i

@@ -1,5 +1,3 @@
-use mathlib.Core.Path.{◌≡◌, refl}
-use borrow.Author.Rules.{rules}
 use Rattle.xml_shape.proofs.names_on.Goals as goal
 
 pub returns : goal.returns

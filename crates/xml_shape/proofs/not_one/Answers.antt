@@ -1,12 +1,9 @@
-use mathlib.Core.Path.{◌≡◌, refl}
+use mathlib.Core.Path.{refl}
 use native.Mathlib.Omega.{arith}
-use lib.ListN.{length}
 use Rattle.xml.specs.Document.{none, attr, elem, not_one}
-use Rattle.cursor.specs.Events.{weight}
 use Rattle.cursor.proofs.Turns.{text-is, open_is, attribute-is, close-is}
-use Rattle.cursor.proofs.Folds.{Reached, reached-begin, reached-some, row-some, text-stands, on-text, on-close, on-end, open-node, open-past, attribute-node, attribute-past}
+use Rattle.cursor.proofs.Folds.{reached-begin, reached-some, row-some, text-stands, on-text, on-close, on-end, open-node, open-past, attribute-node, attribute-past}
 use Rattle.xml_shape.proofs.Folds.{Sight, sight-begin, sight-on, sight-text, sight-close, sight-end, judged}
-use borrow.Author.Rules.{rules}
 use Rattle.xml_shape.proofs.not_one.Goals as goal
 
 pub loop-n-init : goal.loop-n-init
@@ -36,13 +33,12 @@ loop-n-smaller-in-Open c =
     omega (arith, c.past-at.ensures.falls, (open_is c.next-event.ensures c.in-Open.is).near)
 
 pub loop-n-preserved-in-Open : goal.loop-n-preserved-in-Open
-loop-n-preserved-in-Open c =
-    (
-      omega (arith, c.loop-n.invariant.0),
-      open-past (Sight _) c.loop-n.invariant.1 c.next-event.ensures
-          c.in-Open.is c.past-at.ensures (Sight _)
-          (λ r k₀ k m n x N. sight-on (elem n x none) k c.one_more-sort.ensures),
-    )
+loop-n-preserved-in-Open c = (
+  omega (arith, c.loop-n.invariant.0),
+  open-past (Sight _) c.loop-n.invariant.1 c.next-event.ensures
+      c.in-Open.is c.past-at.ensures (Sight _)
+      (λ r k₀ k m n x N. sight-on (elem n x none) k c.one_more-sort.ensures),
+)
 
 pub past-at-requires-in-Attribute : goal.past-at-requires-in-Attribute
 past-at-requires-in-Attribute c =
@@ -53,12 +49,11 @@ loop-n-smaller-in-Attribute c =
     omega (arith, c.past-at-in-Attribute.ensures.falls, (attribute-is c.next-event.ensures c.in-Attribute.is).near)
 
 pub loop-n-preserved-in-Attribute : goal.loop-n-preserved-in-Attribute
-loop-n-preserved-in-Attribute c =
-    (
-      omega (arith, c.loop-n.invariant.0),
-      attribute-past (Sight _) c.loop-n.invariant.1 c.next-event.ensures
-          c.in-Attribute.is c.past-at-in-Attribute.ensures (Sight _) (λ r k₀ k m n v N. sight-on (attr n v none) k refl),
-    )
+loop-n-preserved-in-Attribute c = (
+  omega (arith, c.loop-n.invariant.0),
+  attribute-past (Sight _) c.loop-n.invariant.1 c.next-event.ensures
+      c.in-Attribute.is c.past-at-in-Attribute.ensures (Sight _) (λ r k₀ k m n v N. sight-on (attr n v none) k refl),
+)
 
 pub loop-n-smaller : goal.loop-n-smaller
 loop-n-smaller c = (close-is c.next-event.ensures c.in-Close.is).falls

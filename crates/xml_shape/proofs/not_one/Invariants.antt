@@ -1,12 +1,8 @@
-use mathlib.Core.Path.{◌≡◌, refl}
-use native.Mathlib.Omega.{arith}
+use mathlib.Core.Path.{◌≡◌}
 use lib.ListN.{length}
-use Rattle.xml.specs.Document.{none, attr, elem, not_one}
 use Rattle.cursor.specs.Events.{weight}
-use Rattle.cursor.proofs.Turns.{text-is, open_is, attribute-is, close-is}
-use Rattle.cursor.proofs.Folds.{Reached, reached-begin, reached-some, row-some, text-stands, on-text, on-close, on-end, open-node, open-past, attribute-node, attribute-past}
-use Rattle.xml_shape.proofs.Folds.{Sight, sight-begin, sight-on, sight-text, sight-close, sight-end, judged}
-use borrow.Author.Rules.{rules}
+use Rattle.cursor.proofs.Folds.{Reached}
+use Rattle.xml_shape.proofs.Folds.{Sight}
 use Rattle.xml_shape.proofs.not_one.Given as goal
 
 abbrev pub invariant-loop-n : goal.invariant-loop-n

@@ -1,8 +1,7 @@
 use mathlib.Core.Path.{sym, ◌∙◌}
 use Prim.Native.Nat.{◌-◌}
 use native.Mathlib.Omega.{arith}
-use lib.ListN.{length}
-use Rattle.candidates.proofs.Searches.{Unmet, unmet, unmet-next, EndIs, end-ahead, end-found}
+use Rattle.candidates.proofs.Searches.{unmet, unmet-next, end-ahead, end-found}
 use Rattle.candidates.proofs.alternatives.alternative_end.Goals as goal
 
 pub loop-p-init : goal.loop-p-init

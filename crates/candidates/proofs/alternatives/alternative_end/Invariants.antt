@@ -1,8 +1,6 @@
-use mathlib.Core.Path.{sym, ◌∙◌}
 use Prim.Native.Nat.{◌-◌}
-use native.Mathlib.Omega.{arith}
 use lib.ListN.{length}
-use Rattle.candidates.proofs.Searches.{Unmet, unmet, unmet-next, EndIs, end-ahead, end-found}
+use Rattle.candidates.proofs.Searches.{Unmet, EndIs}
 use Rattle.candidates.proofs.alternatives.alternative_end.Given as goal
 
 abbrev pub invariant-loop-p : goal.invariant-loop-p

@@ -2,7 +2,6 @@ use mathlib.Core.Path.{◌≡◌, sym, ◌∙◌}
 use Prim.Native.Nat.{ℕ}
 use native.Mathlib.Omega.{arith}
 use Rattle.candidates.proofs.Searches.{tells-no, tells-ne}
-use borrow.Author.Rules.{rules}
 use Rattle.candidates.proofs.alternatives.another_derives.Goals as goal
 
 pub returns-then-same : goal.returns-then-same

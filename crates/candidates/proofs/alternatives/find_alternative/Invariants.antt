@@ -1,7 +1,5 @@
-use mathlib.Core.Path.{◌≡◌, subst}
-use Prim.Native.Nat.{ℕ, ◌-◌, ◌<◌, ◌≤◌}
-use native.Mathlib.Omega.{arith}
-use Rattle.candidates.proofs.AlongRules.{along-position, along-ends, along-few, Trying, trying, try-follows, try-next, try-done}
+use Prim.Native.Nat.{◌-◌}
+use Rattle.candidates.proofs.AlongRules.{Trying}
 use Rattle.candidates.proofs.alternatives.find_alternative.Given as goal
 
 abbrev pub invariant-loop-s : goal.invariant-loop-s

@@ -2,7 +2,6 @@ use Prim.Native.Nat.{ℕ}
 use mathlib.Core.Path.{ap, ◌∙◌}
 use Rattle.chart.specs.Code.{goes_at}
 use Rattle.candidates.proofs.Lines.{ends-one}
-use borrow.Author.Rules.{rules}
 use Rattle.candidates.proofs.alternatives.next_alternative.Goals as goal
 
 pub returns : goal.returns

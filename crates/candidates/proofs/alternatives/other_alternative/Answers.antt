@@ -2,7 +2,7 @@ use Prim.Native.Nat.{◌-◌}
 use native.Mathlib.Omega.{arith}
 use borrow.Author.Tests.{eqb-false, ne_eqb}
 use Rattle.candidates.proofs.Searches.{untold}
-use Rattle.candidates.proofs.AlongRules.{along-position, along-ends, along-few, Passing, passing, pass-next, pass-yes, pass-no}
+use Rattle.candidates.proofs.AlongRules.{along-position, along-ends, along-few, passing, pass-next, pass-yes, pass-no}
 use Rattle.candidates.proofs.alternatives.other_alternative.Goals as goal
 
 pub loop-s-init : goal.loop-s-init

@@ -1,8 +1,5 @@
 use Prim.Native.Nat.{◌-◌}
-use native.Mathlib.Omega.{arith}
-use borrow.Author.Tests.{eqb-false, ne_eqb}
-use Rattle.candidates.proofs.Searches.{untold}
-use Rattle.candidates.proofs.AlongRules.{along-position, along-ends, along-few, Passing, passing, pass-next, pass-yes, pass-no}
+use Rattle.candidates.proofs.AlongRules.{Passing}
 use Rattle.candidates.proofs.alternatives.other_alternative.Given as goal
 
 abbrev pub invariant-loop-s : goal.invariant-loop-s

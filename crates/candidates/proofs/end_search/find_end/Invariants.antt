@@ -1,10 +1,6 @@
-use native.Mathlib.Omega.{arith}
-use mathlib.Core.Logic.{⊎_elim}
 use Prim.Native.Nat.{◌+◌, ◌-◌}
 use Rattle.candidates.specs.Candidates.{LowEnd}
-use Rattle.candidates.proofs.Searches.{Unmet, unmet-next, ahead, only_end}
-use Rattle.splits.proofs.Values.{after-symbol, rest_in}
-use Rattle.candidates.proofs.Passing.{unmet-from, unmet-barren}
+use Rattle.candidates.proofs.Searches.{Unmet}
 use Rattle.candidates.proofs.end_search.find_end.Given as goal
 
 abbrev pub invariant-loop-s : goal.invariant-loop-s

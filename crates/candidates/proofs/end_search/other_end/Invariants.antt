@@ -1,10 +1,6 @@
-use native.Mathlib.Omega.{arith}
-use mathlib.Core.Path.{sym, ◌∙◌}
 use Prim.Native.Nat.{◌+◌, ◌-◌}
 use Rattle.candidates.specs.Candidates.{AnotherEnd}
-use Rattle.candidates.proofs.Searches.{Unmet, unmet-next, ahead, tells-yes, tells-no, no_other}
-use Rattle.splits.proofs.Values.{after-symbol, rest_in}
-use Rattle.candidates.proofs.Passing.{unmet-from, unmet-barren}
+use Rattle.candidates.proofs.Searches.{Unmet}
 use Rattle.candidates.proofs.end_search.other_end.Given as goal
 
 abbrev pub invariant-loop-l : goal.invariant-loop-l

@@ -1,7 +1,6 @@
 use mathlib.Core.Path.{sym, ◌∙◌}
 use native.Mathlib.Omega.{arith}
 use Rattle.decode.proofs.Bytes as law
-use borrow.Author.Rules.{rules}
 use Rattle.decode.proofs.sequence.lead_of.Goals as goal
 
 pub returns-then-b-lt128 : goal.returns-then-b-lt128

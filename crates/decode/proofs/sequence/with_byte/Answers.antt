@@ -1,4 +1,3 @@
-use borrow.Author.Rules.{rules}
 use Rattle.decode.proofs.sequence.with_byte.Goals as goal
 
 pub returns : goal.returns

@@ -1,11 +1,7 @@
 use native.Mathlib.Omega.{arith}
 use mathlib.Core.Bool.{true, false}
-use mathlib.Core.Path.{◌≡◌, refl, sym, ap, ◌∙◌}
-use Prim.Native.Nat.{ℕ, ◌+◌, ◌*◌, ◌-◌, ◌<◌, ◌≤◌}
-use lib.ListN.{length, get_or}
-use Rattle.text.specs.Lists.{Text, same}
+use Prim.Native.Nat.{◌+◌, ◌*◌, ◌-◌}
 use Rattle.tokens.proofs.Names.{held_whole}
-use Rattle.items.specs.Linked.{NameAt, head_at, Found}
 use Rattle.items.proofs.Names.{not_yet, found-there, found_none}
 use Rattle.items.proofs.link.find.Goals as goal
 
@@ -43,13 +39,12 @@ pub loop-i-smaller : goal.loop-i-smaller
 loop-i-smaller c = omega (arith, c.loop-i-test.true)
 
 pub loop-i-preserved : goal.loop-i-preserved
-loop-i-preserved c =
-    (
-      omega (arith, c.loop-i-test.true),
-      not_yet c.args.table.now c.args.rules c.args.at
-          c.loop-i.i c.loop-i-test.true c.loop-i.invariant.1 c.same_if_named.result
-          (λ x y h k. c.same_if_named.ensures x y (held_whole _ 12288 h) (held_whole _ 12288 k)) c.if-same_if_named.false,
-    )
+loop-i-preserved c = (
+  omega (arith, c.loop-i-test.true),
+  not_yet c.args.table.now c.args.rules c.args.at
+      c.loop-i.i c.loop-i-test.true c.loop-i.invariant.1 c.same_if_named.result
+      (λ x y h k. c.same_if_named.ensures x y (held_whole _ 12288 h) (held_whole _ 12288 k)) c.if-same_if_named.false,
+)
 
 pub returns : goal.returns
 returns c =

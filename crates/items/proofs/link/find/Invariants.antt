@@ -1,12 +1,8 @@
-use native.Mathlib.Omega.{arith}
-use mathlib.Core.Bool.{true, false}
-use mathlib.Core.Path.{◌≡◌, refl, sym, ap, ◌∙◌}
-use Prim.Native.Nat.{ℕ, ◌+◌, ◌*◌, ◌-◌, ◌<◌, ◌≤◌}
-use lib.ListN.{length, get_or}
+use mathlib.Core.Bool.{false}
+use mathlib.Core.Path.{◌≡◌}
+use Prim.Native.Nat.{ℕ, ◌-◌, ◌<◌, ◌≤◌}
 use Rattle.text.specs.Lists.{Text, same}
-use Rattle.tokens.proofs.Names.{held_whole}
-use Rattle.items.specs.Linked.{NameAt, head_at, Found}
-use Rattle.items.proofs.Names.{not_yet, found-there, found_none}
+use Rattle.items.specs.Linked.{NameAt, head_at}
 use Rattle.items.proofs.link.find.Given as goal
 
 abbrev pub invariant-loop-i : goal.invariant-loop-i

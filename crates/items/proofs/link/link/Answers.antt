@@ -1,8 +1,7 @@
 use native.Mathlib.Omega.{arith}
-use mathlib.Core.Path.{◌≡◌, refl, sym, ap, ◌∙◌}
-use Prim.Native.Nat.{ℕ, ◌+◌, ◌*◌, ◌-◌, ◌<◌, ◌≤◌}
-use lib.ListN.{length, get_or}
-use Rattle.items.proofs.Links.{Linking, linking-start, linking-next, linking-done}
+use mathlib.Core.Path.{◌∙◌}
+use Prim.Native.Nat.{◌-◌}
+use Rattle.items.proofs.Links.{linking-start, linking-next, linking-done}
 use Rattle.items.proofs.link.link.Goals as goal
 
 pub loop-p-init : goal.loop-p-init

@@ -1,8 +1,5 @@
-use native.Mathlib.Omega.{arith}
-use mathlib.Core.Path.{◌≡◌, refl, sym, ap, ◌∙◌}
-use Prim.Native.Nat.{ℕ, ◌+◌, ◌*◌, ◌-◌, ◌<◌, ◌≤◌}
-use lib.ListN.{length, get_or}
-use Rattle.items.proofs.Links.{Linking, linking-start, linking-next, linking-done}
+use Prim.Native.Nat.{◌-◌, ◌≤◌}
+use Rattle.items.proofs.Links.{Linking}
 use Rattle.items.proofs.link.link.Given as goal
 
 abbrev pub invariant-loop-p : goal.invariant-loop-p

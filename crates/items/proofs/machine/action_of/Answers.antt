@@ -1,7 +1,5 @@
-use native.Mathlib.Omega.{arith}
 use borrow.Author.Tests.{lt-ltb, le-ltb, eq-eqb, ne_eqb}
 use Rattle.items.specs.Machine.{action_of}
-use borrow.Author.Rules.{rules}
 use Rattle.items.proofs.machine.action_of.Goals as goal
 
 pub returns-then-k-lt-QUOTED : goal.returns-then-k-lt-QUOTED

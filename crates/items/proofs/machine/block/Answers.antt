@@ -1,7 +1,7 @@
 use native.Mathlib.Omega.{arith}
-use Prim.Native.Nat.{◌+◌, ◌*◌, ◌-◌, ◌≤◌}
-use mathlib.Core.Path.{◌∙◌, ap, refl}
-use Rattle.items.proofs.Windows.{Copying, copy-size, copy_start, copy-next, copy_done}
+use Prim.Native.Nat.{◌+◌, ◌-◌}
+use mathlib.Core.Path.{◌∙◌, refl}
+use Rattle.items.proofs.Windows.{copy-size, copy_start, copy-next, copy_done}
 use Rattle.items.proofs.machine.block.Goals as goal
 
 pub loop-q-init : goal.loop-q-init
@@ -42,45 +42,43 @@ pub loop-q-smaller : goal.loop-q-smaller
 loop-q-smaller c = omega (arith, c.loop-q-test.true)
 
 pub loop-q-preserved : goal.loop-q-preserved
-loop-q-preserved c =
-    (
-      copy-next c.loop-q.invariant.0 c.requires.size
-          (omega (
-            arith,
-            c.requires.fits,
-            c.requires.deep,
-            c.loop-q.invariant.0.read,
-            c.loop-q.invariant.0.wrote,
-            c.loop-q-test.true,
-          )) (omega (arith, c.requires.high, c.loop-q-test.true))
-          (omega (
-            arith,
-            c.requires.fits,
-            c.requires.deep,
-            c.loop-q.invariant.0.read,
-            c.loop-q.invariant.0.wrote,
-            c.loop-q-test.true,
-          )) (omega (arith, c.requires.high, c.loop-q-test.true))
-          c.copy.ensures,
-      omega (arith, c.loop-q-test.true),
-    )
+loop-q-preserved c = (
+  copy-next c.loop-q.invariant.0 c.requires.size
+      (omega (
+        arith,
+        c.requires.fits,
+        c.requires.deep,
+        c.loop-q.invariant.0.read,
+        c.loop-q.invariant.0.wrote,
+        c.loop-q-test.true,
+      )) (omega (arith, c.requires.high, c.loop-q-test.true))
+      (omega (
+        arith,
+        c.requires.fits,
+        c.requires.deep,
+        c.loop-q.invariant.0.read,
+        c.loop-q.invariant.0.wrote,
+        c.loop-q-test.true,
+      )) (omega (arith, c.requires.high, c.loop-q-test.true))
+      c.copy.ensures,
+  omega (arith, c.loop-q-test.true),
+)
 
 pub item-requires : goal.item-requires
-item-requires c =
-    (
-      record {
-        size = copy-size c.loop-q.invariant.0 ∙ c.requires.size;
-        fits = omega (
-          arith,
-          c.requires.fits,
-          c.requires.deep,
-          c.loop-q.invariant.0.read,
-          c.loop-q.invariant.0.wrote,
-          c.loop-q.invariant.1,
-        );
-      },
-      omega arith,
-    )
+item-requires c = (
+  record {
+    size = copy-size c.loop-q.invariant.0 ∙ c.requires.size;
+    fits = omega (
+      arith,
+      c.requires.fits,
+      c.requires.deep,
+      c.loop-q.invariant.0.read,
+      c.loop-q.invariant.0.wrote,
+      c.loop-q.invariant.1,
+    );
+  },
+  omega arith,
+)
 
 pub overflow_add-result : goal.overflow_add-result
 overflow_add-result c =

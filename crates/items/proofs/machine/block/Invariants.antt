@@ -1,7 +1,5 @@
-use native.Mathlib.Omega.{arith}
-use Prim.Native.Nat.{◌+◌, ◌*◌, ◌-◌, ◌≤◌}
-use mathlib.Core.Path.{◌∙◌, ap, refl}
-use Rattle.items.proofs.Windows.{Copying, copy-size, copy_start, copy-next, copy_done}
+use Prim.Native.Nat.{◌-◌, ◌≤◌}
+use Rattle.items.proofs.Windows.{Copying}
 use Rattle.items.proofs.machine.block.Given as goal
 
 abbrev pub invariant-loop-q : goal.invariant-loop-q

@@ -1,13 +1,8 @@
 use native.Mathlib.Omega.{arith}
-use mathlib.Core.List.{List, [], ◌∷◌, ◌++◌}
-use mathlib.Core.Path.{◌≡◌, sym, ap, ◌∙◌, refl, subst}
-use Prim.Native.Nat.{ℕ, suc, ◌+◌, ◌*◌, ◌-◌, ◌≤◌}
-use lib.Seq.{sets}
-use lib.ListN.{set, get_or}
-use Rattle.repetitions.specs.Blocks.{Entry, entry, nums, entry_at, laid, one_count, two_count, one_first, two_first}
-use Rattle.items.specs.Machine.{Abs, Has, Rep, Fit, One, Two}
-use Rattle.items.proofs.Reps.{rep-pushed, rep-one', rep-two', rep-closed, rep-finished, one-bounds, two-bounds, block-bounds, closed-items, mark-old}
-use borrow.Author.Rules.{rules}
+use mathlib.Core.Path.{refl, subst}
+use Prim.Native.Nat.{◌-◌, ◌≤◌}
+use Rattle.items.specs.Machine.{Abs}
+use Rattle.items.proofs.Reps.{rep-closed, block-bounds, closed-items, mark-old}
 use Rattle.items.proofs.machine.close.Goals as goal
 
 pub overflow_cast-old : goal.overflow_cast-old

@@ -1,4 +1,3 @@
-use native.Mathlib.Omega.{arith}
 use borrow.Author.Tests.{lt-ltb, le-ltb, eq-eqb, ne_eqb}
 use Rattle.items.specs.Machine.{late_action_of}
 use Rattle.items.proofs.machine.late_action.Goals as goal

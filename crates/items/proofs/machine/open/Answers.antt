@@ -1,13 +1,10 @@
 use native.Mathlib.Omega.{arith}
-use mathlib.Core.List.{List, [], ◌∷◌, ◌++◌}
-use mathlib.Core.Path.{◌≡◌, sym, ap, ◌∙◌, refl, subst}
-use Prim.Native.Nat.{ℕ, suc, ◌+◌, ◌*◌, ◌-◌, ◌≤◌}
+use mathlib.Core.Path.{ap, ◌∙◌, refl}
+use Prim.Native.Nat.{ℕ, ◌+◌, ◌*◌, ◌-◌}
 use lib.Seq.{sets}
-use lib.ListN.{set, get_or}
-use Rattle.repetitions.specs.Blocks.{Entry, entry, nums, entry_at, laid, one_count, two_count, one_first, two_first}
-use Rattle.items.specs.Machine.{Abs, Has, Rep, Fit, One, Two}
-use Rattle.items.proofs.Reps.{rep-pushed, rep-one', rep-two', rep-closed, rep-finished, one-bounds, two-bounds}
-use borrow.Author.Rules.{rules}
+use Rattle.repetitions.specs.Blocks.{entry, nums}
+use Rattle.items.specs.Machine.{Abs}
+use Rattle.items.proofs.Reps.{rep-pushed}
 use Rattle.items.proofs.machine.open.Goals as goal
 
 pub overflow_cast-s : goal.overflow_cast-s

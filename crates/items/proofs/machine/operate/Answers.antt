@@ -1,13 +1,7 @@
 use native.Mathlib.Omega.{arith}
-use mathlib.Core.List.{List, [], ◌∷◌, ◌++◌}
-use mathlib.Core.Path.{◌≡◌, sym, ap, ◌∙◌, refl, subst}
-use Prim.Native.Nat.{ℕ, suc, ◌+◌, ◌*◌, ◌-◌, ◌≤◌}
-use lib.Seq.{sets}
-use lib.ListN.{set, get_or}
-use Rattle.repetitions.specs.Blocks.{Entry, entry, nums, entry_at, laid, one_count, two_count, one_first, two_first}
-use Rattle.items.specs.Machine.{Abs, Has, Rep, Fit, One, Two}
-use Rattle.items.proofs.Reps.{rep-pushed, rep-one', rep-two', rep-closed, rep-finished, one-bounds, two-bounds, one-first, two-first}
-use borrow.Author.Rules.{rules}
+use mathlib.Core.Path.{refl}
+use Prim.Native.Nat.{◌+◌, ◌*◌, ◌-◌}
+use Rattle.items.proofs.Reps.{rep-one', rep-two', one-bounds, two-bounds, one-first, two-first}
 use Rattle.items.proofs.machine.operate.Goals as goal
 
 pub overflow_sub-d : goal.overflow_sub-d

@@ -1,10 +1,7 @@
 use native.Mathlib.Omega.{arith}
-use mathlib.Core.Path.{◌≡◌, refl, sym, ◌∙◌}
-use Prim.Native.Nat.{◌≤◌, ◌-◌}
-use lib.ListN.{length, take}
-use Rattle.tree.specs.Tree.{Grammar}
-use Rattle.items.specs.Scanned.{Readable}
-use Rattle.items.proofs.Scans.{Going, run_of, going_start, going_done, front, front-ready, front-inside, front_length, front-forward, front-next}
+use mathlib.Core.Path.{refl, sym, ◌∙◌}
+use Prim.Native.Nat.{◌-◌}
+use Rattle.items.proofs.Scans.{going_start, going_done, front, front-ready, front-inside, front_length, front-forward, front-next}
 use Rattle.items.proofs.machine.scan.Goals as goal
 
 pub loop-at-init : goal.loop-at-init

@@ -1,10 +1,9 @@
-use native.Mathlib.Omega.{arith}
-use mathlib.Core.Path.{◌≡◌, refl, sym, ◌∙◌}
+use mathlib.Core.Path.{◌≡◌}
 use Prim.Native.Nat.{◌≤◌, ◌-◌}
 use lib.ListN.{length, take}
 use Rattle.tree.specs.Tree.{Grammar}
 use Rattle.items.specs.Scanned.{Readable}
-use Rattle.items.proofs.Scans.{Going, run_of, going_start, going_done, front, front-ready, front-inside, front_length, front-forward, front-next}
+use Rattle.items.proofs.Scans.{Going, run_of}
 use Rattle.items.proofs.machine.scan.Given as goal
 
 abbrev pub invariant-loop-at : goal.invariant-loop-at

@@ -2,7 +2,6 @@ use native.Mathlib.Omega.{arith}
 use mathlib.Core.Path.{sym, ◌∙◌, subst}
 use Rattle.items.specs.Machine.{Abs, Rep}
 use Rattle.items.proofs.Reps.{ready-as, act-as}
-use borrow.Author.Rules.{rules}
 use Rattle.items.proofs.machine.step.Goals as goal
 
 pub push-requires : goal.push-requires

@@ -1,11 +1,7 @@
 use Prim.Native.Nat.{◌-◌}
-use mathlib.Core.Path.{sym, ◌∙◌}
-use native.Mathlib.Omega.{arith}
 use lib.ListN.{length}
-use borrow.Author.Rules.{rules}
-use borrow.Author.Tests.{not-true, not-false}
 use Rattle.syntax.specs.Lexical.{run}
-use Rattle.lexical.proofs.Copies.{Copying, copy_start, copy-on, copy-end, copy-room, run-char, run-stop, run_end}
+use Rattle.lexical.proofs.Copies.{Copying}
 use Rattle.lexical.proofs.names.copy_run.Given as goal
 
 abbrev pub invariant-loop-from : goal.invariant-loop-from

@@ -1,7 +1,6 @@
 use mathlib.Core.Path.{sym, ◌∙◌}
 use Rattle.syntax.specs.Lexical.{ended}
 use Rattle.spacing.proofs.Places.{at-char, at-end}
-use borrow.Author.Rules.{rules}
 use Rattle.lexical.proofs.names.ended.Goals as goal
 
 pub returns-then-text-i : goal.returns-then-text-i

@@ -4,7 +4,6 @@ use Rattle.syntax.specs.Lexical.{run, read_name}
 use Rattle.lexical.specs.Answers.{Named}
 use Rattle.lexical.proofs.Copies.{recopy}
 use Rattle.lexical.proofs.Words.{no_name, run_on, name-same, headable, counted-token}
-use borrow.Author.Rules.{rules}
 use Rattle.lexical.proofs.names.name.Goals as goal
 
 pub returns-in_default : goal.returns-in_default

@@ -1,8 +1,6 @@
 use mathlib.Core.Path.{sym, ◌∙◌}
-use borrow.Author.Tests.{not-true, not-false}
 use Rattle.syntax.specs.Syntax.{namestart}
 use Rattle.spacing.proofs.Places.{tested}
-use borrow.Author.Rules.{rules}
 use Rattle.lexical.proofs.names.name_run.Goals as goal
 
 pub returns-then-not-name_start : goal.returns-then-not-name_start

@@ -1,5 +1,4 @@
 use Rattle.lexical.proofs.Uses.{stops-short, stops-no-dot, stops-open, stops_then}
-use borrow.Author.Rules.{rules}
 use Rattle.lexical.proofs.names.stops.Goals as goal
 
 pub returns-then-n-i : goal.returns-then-n-i

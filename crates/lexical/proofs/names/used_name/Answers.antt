@@ -5,7 +5,6 @@ use Rattle.syntax.specs.Lexical.{read-use}
 use Rattle.lexical.specs.Answers.{Named}
 use Rattle.lexical.proofs.Words.{run_on, headable, counted-token}
 use Rattle.lexical.proofs.Uses.{no-use, use-run, use-stop, stop-on}
-use borrow.Author.Rules.{rules}
 use Rattle.lexical.proofs.names.used_name.Goals as goal
 
 pub returns-in_default : goal.returns-in_default

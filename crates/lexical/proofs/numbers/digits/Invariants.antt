@@ -1,10 +1,6 @@
 use Prim.Native.Nat.{◌-◌}
-use mathlib.Core.Path.{sym, ◌∙◌}
-use native.Mathlib.Omega.{arith}
 use lib.ListN.{length}
-use borrow.Author.Rules.{rules}
-use borrow.Author.Tests.{not-true, not-false}
-use Rattle.lexical.proofs.Copies.{Counting, counting-start, counting-small, counting-end, counting-stop, counting-on}
+use Rattle.lexical.proofs.Copies.{Counting}
 use Rattle.lexical.proofs.numbers.digits.Given as goal
 
 abbrev pub invariant-loop-at : goal.invariant-loop-at

@@ -1,11 +1,9 @@
 use mathlib.Core.Path.{refl, sym, ◌∙◌}
 use native.Mathlib.Omega.{arith}
-use borrow.Author.Tests.{not-true, not-false}
 use Rattle.syntax.specs.Syntax.{ch, digit}
 use Rattle.syntax.proofs.Classes.{ch-end}
 use Rattle.spacing.proofs.Places.{in-text, tested}
 use Rattle.lexical.proofs.Words.{hex-none, hex-some}
-use borrow.Author.Rules.{rules}
 use Rattle.lexical.proofs.numbers.hex.Goals as goal
 
 pub after-first-requires : goal.after-first-requires

@@ -1,11 +1,6 @@
 use Prim.Native.Nat.{◌-◌}
-use mathlib.Core.Path.{sym, ◌∙◌}
-use native.Mathlib.Omega.{arith}
 use lib.ListN.{length}
-use borrow.Author.Rules.{rules}
-use borrow.Author.Tests.{not-true, not-false}
-use Rattle.lexical.proofs.Copies.{Copying, copy_start, copy-on, copy-no, copy-end, copy-room, quoted-by, chars-end, chars-plain, chars-no, chars-last, chars-quote, quote-small, second-in}
-use Rattle.spacing.proofs.Places.{twice}
+use Rattle.lexical.proofs.Copies.{Copying, quoted-by}
 use Rattle.lexical.proofs.strings.copy_quoted.Given as goal
 
 abbrev pub invariant-loop-from : goal.invariant-loop-from

@@ -1,9 +1,7 @@
 use mathlib.Core.Path.{sym, ◌∙◌}
-use borrow.Author.Tests.{not-true, not-false}
 use Rattle.syntax.specs.Syntax.{quote}
 use Rattle.spacing.proofs.Places.{tested}
 use Rattle.lexical.proofs.Words.{string-none, string-space, string-bad, string-empty, string-read}
-use borrow.Author.Rules.{rules}
 use Rattle.lexical.proofs.strings.string.Goals as goal
 
 pub returns-then-not-quote : goal.returns-then-not-quote

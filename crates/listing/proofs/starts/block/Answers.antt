@@ -1,7 +1,6 @@
-use borrow.Author.Rules.{rules}
 use native.Mathlib.Omega.{arith}
-use Prim.Native.Nat.{◌-◌, ◌<◌}
-use Rattle.listing.proofs.Untouched.{AtMost, at-most-none, at-most-next}
+use Prim.Native.Nat.{◌-◌}
+use Rattle.listing.proofs.Untouched.{at-most-none, at-most-next}
 use Rattle.listing.proofs.starts.block.Goals as goal
 
 pub loop-k-init : goal.loop-k-init

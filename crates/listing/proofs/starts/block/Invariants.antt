@@ -1,7 +1,5 @@
-use borrow.Author.Rules.{rules}
-use native.Mathlib.Omega.{arith}
-use Prim.Native.Nat.{◌-◌, ◌<◌}
-use Rattle.listing.proofs.Untouched.{AtMost, at-most-none, at-most-next}
+use Prim.Native.Nat.{◌-◌}
+use Rattle.listing.proofs.Untouched.{AtMost}
 use Rattle.listing.proofs.starts.block.Given as goal
 
 abbrev pub invariant-loop-k : goal.invariant-loop-k

@@ -1,7 +1,4 @@
-use borrow.Author.Rules.{rules}
-use borrow.Author.Tests.{not-false}
 use native.Mathlib.Omega.{arith}
-use Rattle.listing.specs.Starts.{Passed}
 use Rattle.listing.proofs.Untouched.{passed_none, passed-block}
 use Rattle.listing.proofs.starts.past_untouched.Goals as goal
 

@@ -1,8 +1,4 @@
-use borrow.Author.Rules.{rules}
-use borrow.Author.Tests.{not-false}
-use native.Mathlib.Omega.{arith}
 use Rattle.listing.specs.Starts.{Passed}
-use Rattle.listing.proofs.Untouched.{passed_none, passed-block}
 use Rattle.listing.proofs.starts.past_untouched.Given as goal
 
 abbrev pub invariant-loop-i : goal.invariant-loop-i

@@ -1,5 +1,4 @@
 use Rattle.locate.proofs.AtToken.{narrow, at-6, at_other}
-use borrow.Author.Rules.{rules}
 use Rattle.locate.proofs.faults.at_fault.Goals as goal
 
 pub repeats-requires : goal.repeats-requires

@@ -1,6 +1,5 @@
 use Rattle.static_errors.proofs.Top.{some-tokens}
 use Rattle.locate.proofs.Found as law
-use borrow.Author.Rules.{rules}
 use Rattle.locate.proofs.faults.first_fault.Goals as goal
 
 pub heads-n-requires : goal.heads-n-requires

@@ -1,6 +1,5 @@
 use Rattle.tokens.proofs.Forms as forms
 use Rattle.static_errors.proofs.Leaf as law
-use borrow.Author.Rules.{rules}
 use Rattle.locate.proofs.faults.heads_of.Goals as goal
 
 pub bounds-table-k : goal.bounds-table-k

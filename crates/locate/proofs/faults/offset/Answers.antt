@@ -4,7 +4,6 @@ use native.Mathlib.Omega.{arith}
 use Rattle.text.specs.Lists.{pick}
 use Rattle.tokens.proofs.Forms as forms
 use Rattle.locate.proofs.AtToken.{offset-late, offset-none, offset-range}
-use borrow.Author.Rules.{rules}
 use Rattle.locate.proofs.faults.offset.Goals as goal
 
 pub returns-then-rule-gt-HEX_NO_CHARACTER : goal.returns-then-rule-gt-HEX_NO_CHARACTER

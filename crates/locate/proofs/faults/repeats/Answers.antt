@@ -4,7 +4,6 @@ use lib.ListN.{get_or, take}
 use Rattle.tokens.proofs.Forms as forms
 use Rattle.static_errors.specs.Scan.{names_at}
 use Rattle.locate.proofs.AtToken.{repeats-none, repeats-it}
-use borrow.Author.Rules.{rules}
 use Rattle.locate.proofs.faults.repeats.Goals as goal
 
 pub bounds-table-k : goal.bounds-table-k

@@ -1,7 +1,6 @@
 use Prim.Native.Nat.{◌-◌}
 use native.Mathlib.Omega.{arith}
 use lib.ListN.{get_or}
-use borrow.Author.Rules.{rules}
 use Rattle.locate.proofs.Search as law
 use Rattle.locate.proofs.AtToken.{offset-low}
 use Rattle.locate.proofs.faults.search.Goals as goal

@@ -1,4 +1,3 @@
-use borrow.Author.Rules.{rules}
 use Rattle.locate.proofs.spots.begins.Goals as goal
 
 pub returns : goal.returns

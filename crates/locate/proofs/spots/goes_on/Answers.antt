@@ -1,10 +1,8 @@
-use mathlib.Core.Bool.{Bool, true, false}
+use mathlib.Core.Bool.{true, false}
 use mathlib.Core.Path.{refl}
 use lib.Dec.{eqb}
-use Rattle.places.specs.Scan as scan
-use Rattle.locate.specs.Spots.{shown, goes_on}
+use Rattle.locate.specs.Spots.{goes_on}
 use Rattle.locate.proofs.Modes.{by, is-comment, is-quoted, is-closed, is_word, is-between}
-use borrow.Author.Rules.{rules}
 use Rattle.locate.proofs.spots.goes_on.Goals as goal
 
 pub returns-then-mode-eq-COMMENT : goal.returns-then-mode-eq-COMMENT

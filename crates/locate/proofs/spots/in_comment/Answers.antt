@@ -1,8 +1,7 @@
-use mathlib.Core.Path.{sym, ap, ◌∙◌}
+use mathlib.Core.Path.{ap, ◌∙◌}
 use Rattle.locate.specs.declared.spots.State.{State}
 use Rattle.locate.specs.Spots.{meant}
 use Rattle.locate.proofs.Modes.{deeper, same-depth, outside, less-deep}
-use borrow.Author.Rules.{rules}
 use Rattle.locate.proofs.spots.in_comment.Goals as goal
 
 pub returns-then-c-eq-OPEN_BRACE : goal.returns-then-c-eq-OPEN_BRACE

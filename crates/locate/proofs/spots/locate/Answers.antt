@@ -1,7 +1,5 @@
 use Prim.Native.Nat.{◌-◌}
 use native.Mathlib.Omega.{arith}
-use lib.ListN.{length}
-use borrow.Author.Rules.{rules}
 use Rattle.locate.specs.Spots.{shown, meant}
 use Rattle.locate.proofs.Walk as law
 use Rattle.locate.proofs.spots.locate.Goals as goal

@@ -1,8 +1,6 @@
 use Prim.Native.Nat.{◌-◌}
-use native.Mathlib.Omega.{arith}
 use lib.ListN.{length}
-use borrow.Author.Rules.{rules}
-use Rattle.locate.specs.Spots.{shown, meant}
+use Rattle.locate.specs.Spots.{shown}
 use Rattle.locate.proofs.Walk as law
 use Rattle.locate.proofs.spots.locate.Given as goal
 

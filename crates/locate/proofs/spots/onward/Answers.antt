@@ -2,7 +2,6 @@ use mathlib.Core.Path.{sym, ap, ◌∙◌}
 use Rattle.locate.specs.declared.spots.State.{State}
 use Rattle.locate.specs.Spots.{meant}
 use Rattle.locate.proofs.Modes.{onward-name, onward-hash, onward-quote, onward-brace, onward-none}
-use borrow.Author.Rules.{rules}
 use Rattle.locate.proofs.spots.onward.Goals as goal
 
 pub returns-then-name_start : goal.returns-then-name_start

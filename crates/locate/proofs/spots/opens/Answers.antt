@@ -1,6 +1,5 @@
 use mathlib.Core.Path.{sym, ◌∙◌}
 use Rattle.locate.proofs.Modes.{opens-name, opens-quote, opens-sign}
-use borrow.Author.Rules.{rules}
 use Rattle.locate.proofs.spots.opens.Goals as goal
 
 pub returns-then-name_start : goal.returns-then-name_start

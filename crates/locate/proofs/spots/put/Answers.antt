@@ -1,5 +1,4 @@
 use mathlib.Core.Path.{refl}
-use borrow.Author.Rules.{rules}
 use Rattle.locate.proofs.spots.put.Goals as goal
 
 pub returns-then-there : goal.returns-then-there

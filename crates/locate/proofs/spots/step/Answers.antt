@@ -1,7 +1,6 @@
 use mathlib.Core.Path.{sym, ◌∙◌}
 use Rattle.locate.specs.Spots.{shown}
 use Rattle.locate.proofs.Modes.{afresh}
-use borrow.Author.Rules.{rules}
 use Rattle.locate.proofs.spots.step.Goals as goal
 
 pub within-requires : goal.within-requires

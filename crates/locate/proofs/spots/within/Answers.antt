@@ -5,7 +5,6 @@ use Prim.Native.Nat.{ℕ}
 use Rattle.places.specs.Scan.{step}
 use Rattle.locate.specs.Spots.{shown}
 use Rattle.locate.proofs.Modes.{requotes, in-word, shuts, in-string}
-use borrow.Author.Rules.{rules}
 use Rattle.locate.proofs.spots.within.Goals as goal
 
 pub in_comment-requires : goal.in_comment-requires

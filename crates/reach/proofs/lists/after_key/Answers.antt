@@ -1,6 +1,4 @@
-use native.Mathlib.Omega.{arith}
 use mathlib.Core.Path.{sym, ◌∙◌}
-use borrow.Author.Rules.{rules}
 use Rattle.reach.proofs.Keys.{after_none, after-some}
 use Rattle.reach.proofs.lists.after_key.Goals as goal
 

@@ -1,5 +1,3 @@
-use native.Mathlib.Omega.{arith}
-use borrow.Author.Rules.{rules}
 use Rattle.reach.proofs.Keys.{home_same, home-new}
 use Rattle.reach.proofs.lists.home_at.Goals as goal
 

@@ -1,6 +1,6 @@
 use native.Mathlib.Omega.{arith}
 use Prim.Native.Nat.{◌-◌}
-use Rattle.reach.proofs.Keys.{HomesTo, homes-start, homes-next, homes-end}
+use Rattle.reach.proofs.Keys.{homes-start, homes-next, homes-end}
 use Rattle.reach.proofs.lists.homes_from.Goals as goal
 
 pub loop-p-init : goal.loop-p-init

@@ -1,6 +1,5 @@
-use native.Mathlib.Omega.{arith}
 use Prim.Native.Nat.{◌-◌}
-use Rattle.reach.proofs.Keys.{HomesTo, homes-start, homes-next, homes-end}
+use Rattle.reach.proofs.Keys.{HomesTo}
 use Rattle.reach.proofs.lists.homes_from.Given as goal
 
 abbrev pub invariant-loop-p : goal.invariant-loop-p

@@ -1,7 +1,5 @@
-use native.Mathlib.Omega.{arith}
 use Prim.Native.Nat.{ℕ}
-use mathlib.Core.Path.{◌≡◌, sym, ap, ◌∙◌}
-use borrow.Author.Rules.{rules}
+use mathlib.Core.Path.{sym, ap, ◌∙◌}
 use Rattle.reach.specs.Lists.{key_of}
 use Rattle.reach.proofs.Keys.{key-first, key-after, key-end, key-use}
 use Rattle.reach.proofs.lists.key.Goals as goal

@@ -1,5 +1,4 @@
 use native.Mathlib.Omega.{arith}
-use borrow.Author.Rules.{rules}
 use Rattle.chart.proofs.Users.{all-zero}
 use Rattle.reach.proofs.Keys.{members}
 use Rattle.reach.proofs.lists.list_dots.Goals as goal

@@ -1,8 +1,7 @@
 use native.Mathlib.Omega.{arith}
-use Prim.Native.Nat.{◌-◌, ◌≤◌, ◌<◌}
+use Prim.Native.Nat.{◌-◌, ◌<◌}
 use mathlib.Core.Path.{◌∙◌}
-use borrow.Author.Rules.{rules}
-use Rattle.reach.proofs.Keys.{Opening, opening-start, opening-keying, opening-next, opening-end}
+use Rattle.reach.proofs.Keys.{opening-start, opening-keying, opening-next, opening-end}
 use Rattle.reach.proofs.lists.open_dots.Goals as goal
 
 pub loop-p-init : goal.loop-p-init

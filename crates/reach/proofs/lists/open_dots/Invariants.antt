@@ -1,8 +1,5 @@
-use native.Mathlib.Omega.{arith}
-use Prim.Native.Nat.{◌-◌, ◌≤◌, ◌<◌}
-use mathlib.Core.Path.{◌∙◌}
-use borrow.Author.Rules.{rules}
-use Rattle.reach.proofs.Keys.{Opening, opening-start, opening-keying, opening-next, opening-end}
+use Prim.Native.Nat.{◌-◌, ◌≤◌}
+use Rattle.reach.proofs.Keys.{Opening}
 use Rattle.reach.proofs.lists.open_dots.Given as goal
 
 abbrev pub invariant-loop-p : goal.invariant-loop-p

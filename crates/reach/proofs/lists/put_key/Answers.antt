@@ -1,7 +1,6 @@
 use native.Mathlib.Omega.{arith}
-use borrow.Author.Rules.{rules}
 use lib.ListN.{length-set}
-use Rattle.reach.proofs.Keys.{put-none, put_some}
+use Rattle.reach.proofs.Keys.{put_some}
 use Prim.Native.Nat.{◌*◌}
 use Rattle.reach.proofs.lists.put_key.Goals as goal
 

@@ -1,7 +1,6 @@
 use native.Mathlib.Omega.{arith}
 use Prim.Native.Nat.{◌-◌}
-use borrow.Author.Rules.{rules}
-use Rattle.reach.proofs.Keys.{KeysTo, keys-start, keys-next, keys-end}
+use Rattle.reach.proofs.Keys.{keys-start, keys-next, keys-end}
 use Rattle.reach.proofs.lists.put_keys.Goals as goal
 
 pub loop-p-init : goal.loop-p-init

@@ -1,7 +1,5 @@
-use native.Mathlib.Omega.{arith}
 use Prim.Native.Nat.{◌-◌}
-use borrow.Author.Rules.{rules}
-use Rattle.reach.proofs.Keys.{KeysTo, keys-start, keys-next, keys-end}
+use Rattle.reach.proofs.Keys.{KeysTo}
 use Rattle.reach.proofs.lists.put_keys.Given as goal
 
 abbrev pub invariant-loop-p : goal.invariant-loop-p

@@ -1,6 +1,5 @@
 use native.Mathlib.Omega.{arith}
 use mathlib.Core.Path.{sym}
-use borrow.Author.Rules.{rules}
 use Rattle.reach.proofs.Keys.{use-none, use-some}
 use Rattle.reach.proofs.lists.use_key.Goals as goal
 

@@ -1,9 +1,5 @@
-use native.Mathlib.Omega.{arith}
 use Prim.Native.Nat.{◌-◌}
-use mathlib.Core.Path.{sym, ◌∙◌}
-use borrow.Author.Rules.{rules}
 use Rattle.reach.specs.Work.{Collecting}
-use Rattle.reach.proofs.Queue.{collect-start, collect-here, collect-join, collect-end}
 use Rattle.reach.proofs.work.collect.Given as goal
 
 abbrev pub invariant-loop-p : goal.invariant-loop-p

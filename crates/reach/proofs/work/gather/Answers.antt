@@ -1,6 +1,5 @@
 use native.Mathlib.Omega.{arith}
 use Prim.Native.Nat.{◌+◌}
-use borrow.Author.Rules.{rules}
 use lib.ListN.{length-set}
 use Rattle.reach.specs.Work.{tail_of}
 use Rattle.reach.proofs.Queue.{gather_none, gather-tail, gather-new}

@@ -1,5 +1,4 @@
 use native.Mathlib.Omega.{arith}
-use borrow.Author.Rules.{rules}
 use Rattle.reach.proofs.Queue.{raise-none, raise-set}
 use Rattle.reach.proofs.work.raise.Goals as goal
 

@@ -1,7 +1,6 @@
 use native.Mathlib.Omega.{arith}
 use mathlib.Core.Path.{◌∙◌, sym}
-use borrow.Author.Rules.{rules}
-use Rattle.reach.proofs.Queue.{Spreading, spread-start, spread-less, spread-next, spread_end}
+use Rattle.reach.proofs.Queue.{spread-start, spread-less, spread-next, spread_end}
 use Rattle.reach.proofs.work.spread.Goals as goal
 
 pub overflow_mul-e : goal.overflow_mul-e

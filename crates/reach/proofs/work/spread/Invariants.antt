@@ -1,7 +1,4 @@
-use native.Mathlib.Omega.{arith}
-use mathlib.Core.Path.{◌∙◌, sym}
-use borrow.Author.Rules.{rules}
-use Rattle.reach.proofs.Queue.{Spreading, spread-start, spread-less, spread-next, spread_end}
+use Rattle.reach.proofs.Queue.{Spreading}
 use Rattle.reach.proofs.work.spread.Given as goal
 
 abbrev pub invariant-loop-x : goal.invariant-loop-x

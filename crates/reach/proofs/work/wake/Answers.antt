@@ -1,5 +1,3 @@
-use native.Mathlib.Omega.{arith}
-use borrow.Author.Rules.{rules}
 use Rattle.reach.proofs.Queue.{wake-none, wake-spreads, wake-some}
 use Rattle.reach.proofs.work.wake.Goals as goal
 

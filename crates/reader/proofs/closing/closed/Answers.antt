@@ -1,10 +1,8 @@
 use Rattle.reader.proofs.Closings.{one-of-end, closed-unspaced, closed-no, closed-bad, closed-got}
 use native.Mathlib.Omega.{arith}
 use mathlib.Core.Path.{sym, ◌∙◌}
-use borrow.Author.Tests.{not-true, not-false}
 use Rattle.spacing.proofs.Places.{tested, in-text}
 use Rattle.reader.specs.Answers.{one_of}
-use borrow.Author.Rules.{rules}
 use Rattle.reader.proofs.closing.closed.Goals as goal
 
 pub returns-in_default : goal.returns-in_default

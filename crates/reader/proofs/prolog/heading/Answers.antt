@@ -5,7 +5,6 @@ use Rattle.syntax.specs.Spacing as spacing
 use Rattle.syntax.specs.Lexical.{read_word}
 use Rattle.reader.specs.Answers.{Passed}
 use Rattle.reader.proofs.PrologParts.{heading-no-ixml, heading-no-space, heading-word}
-use borrow.Author.Rules.{rules}
 use Rattle.reader.proofs.prolog.heading.Goals as goal
 
 pub returns-in_default : goal.returns-in_default

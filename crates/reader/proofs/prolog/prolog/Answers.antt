@@ -4,7 +4,6 @@ use Rattle.syntax.specs.Parser as parser
 use Rattle.reader.specs.Answers.{Passed}
 use Rattle.reader.proofs.RulesHead.{room-on}
 use Rattle.reader.proofs.PrologParts.{prolog-none, prolog-some}
-use borrow.Author.Rules.{rules}
 use Rattle.reader.proofs.prolog.prolog.Goals as goal
 
 pub returns-in_default : goal.returns-in_default

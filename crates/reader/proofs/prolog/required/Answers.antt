@@ -1,6 +1,5 @@
 use Rattle.spacing.specs.Answers.{Skipped}
 use Rattle.reader.proofs.RulesLoop.{required-bad, required-still, required-moved}
-use borrow.Author.Rules.{rules}
 use Rattle.reader.proofs.prolog.required.Goals as goal
 
 pub returns-in_default : goal.returns-in_default

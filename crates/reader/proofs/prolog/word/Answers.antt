@@ -1,8 +1,7 @@
 use Prim.Native.Nat.{◌-◌, ◌<◌}
 use native.Mathlib.Omega.{arith}
-use lib.ListN.{length, get_or}
-use borrow.Author.Rules.{rules}
-use Rattle.reader.proofs.PrologParts.{Spelled, spelled-start, spelled-end, spelled-no, spelled-in, spelled-on}
+use lib.ListN.{get_or}
+use Rattle.reader.proofs.PrologParts.{spelled-start, spelled-end, spelled-no, spelled-in, spelled-on}
 use Rattle.reader.proofs.prolog.word.Goals as goal
 
 pub loop-k-init : goal.loop-k-init

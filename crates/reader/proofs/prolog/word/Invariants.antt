@@ -1,8 +1,6 @@
-use Prim.Native.Nat.{◌-◌, ◌<◌}
-use native.Mathlib.Omega.{arith}
-use lib.ListN.{length, get_or}
-use borrow.Author.Rules.{rules}
-use Rattle.reader.proofs.PrologParts.{Spelled, spelled-start, spelled-end, spelled-no, spelled-in, spelled-on}
+use Prim.Native.Nat.{◌-◌}
+use lib.ListN.{length}
+use Rattle.reader.proofs.PrologParts.{Spelled}
 use Rattle.reader.proofs.prolog.word.Given as goal
 
 abbrev pub invariant-loop-k : goal.invariant-loop-k

@@ -1,6 +1,5 @@
 use mathlib.Core.Path.{sym, ◌∙◌}
 use Rattle.syntax.specs.Syntax.{digit}
-use borrow.Author.Rules.{rules}
 use Rattle.spacing.proofs.characters.digit.Goals as goal
 
 pub returns-then-between : goal.returns-then-between

@@ -1,6 +1,5 @@
 use native.Mathlib.Omega.{arith}
 use Rattle.spacing.proofs.Tests.{digit_at, value_low, value-capital, value-small}
-use borrow.Author.Rules.{rules}
 use Rattle.spacing.proofs.characters.digit_value.Goals as goal
 
 pub overflow_sub-result : goal.overflow_sub-result

@@ -1,6 +1,5 @@
 use mathlib.Core.Path.{sym, ◌∙◌}
 use Rattle.syntax.specs.Syntax.{letter}
-use borrow.Author.Rules.{rules}
 use Rattle.spacing.proofs.characters.letter.Goals as goal
 
 pub returns-then-capital : goal.returns-then-capital

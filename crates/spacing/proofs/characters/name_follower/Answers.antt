@@ -2,7 +2,6 @@ use mathlib.Core.Path.{sym, ◌∙◌}
 use Rattle.syntax.specs.Syntax.{namefollower}
 use Rattle.spacing.proofs.Tests.{is-nd, is-mn}
 use Rattle.spacing.proofs.Ascii.{digit-follows, no_digit, no-mark}
-use borrow.Author.Rules.{rules}
 use Rattle.spacing.proofs.characters.name_follower.Goals as goal
 
 pub returns-then-between : goal.returns-then-between

@@ -3,7 +3,6 @@ use borrow.Author.Tests.{eq-eqb, ne_eqb}
 use Rattle.syntax.specs.Syntax.{namestart}
 use Rattle.spacing.proofs.Tests.{is-l}
 use Rattle.spacing.proofs.Ascii.{letter-starts, not_start}
-use borrow.Author.Rules.{rules}
 use Rattle.spacing.proofs.characters.name_start.Goals as goal
 
 pub returns-then-letter : goal.returns-then-letter

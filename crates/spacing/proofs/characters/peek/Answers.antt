@@ -1,6 +1,5 @@
 use mathlib.Core.Path.{sym}
 use Rattle.spacing.proofs.Places.{hd-char, hd-end}
-use borrow.Author.Rules.{rules}
 use Rattle.spacing.proofs.characters.peek.Goals as goal
 
 pub returns-then-at-text : goal.returns-then-at-text

@@ -3,7 +3,6 @@ use borrow.Author.Tests.{eq-eqb, ne_eqb}
 use Rattle.syntax.specs.Syntax.{plain}
 use Rattle.spacing.proofs.Tests.{is-cc}
 use Rattle.spacing.proofs.Ascii.{not-control}
-use borrow.Author.Rules.{rules}
 use Rattle.spacing.proofs.characters.plain.Goals as goal
 
 pub returns-then-c-q : goal.returns-then-c-q

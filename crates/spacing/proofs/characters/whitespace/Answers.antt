@@ -3,7 +3,6 @@ use borrow.Author.Tests.{ne_eqb}
 use Rattle.syntax.specs.Syntax.{whitespace}
 use Rattle.spacing.proofs.Tests.{is-zs}
 use Rattle.spacing.proofs.Ascii.{not_white, space-white}
-use borrow.Author.Rules.{rules}
 use Rattle.spacing.proofs.characters.whitespace.Goals as goal
 
 pub returns-then-between : goal.returns-then-between

@@ -3,10 +3,8 @@ use mathlib.Core.Bool.{not}
 use mathlib.Core.Path.{sym, ap, ◌∙◌}
 use Prim.Native.Nat.{◌-◌}
 use lib.ListN.{take, drop}
-use borrow.Author.Tests.{not-true, not-false}
-use borrow.Author.Rules.{rules}
 use Rattle.text.specs.Utf8.{known}
-use Rattle.terminals.proofs.Stretches.{Seeking, seek-start, seek-end, seek-here, seek-more, all_none}
+use Rattle.terminals.proofs.Stretches.{seek-start, seek-end, seek-here, seek-more, all_none}
 use Rattle.terminals.proofs.live.all_known.Goals as goal
 
 pub loop-k-init : goal.loop-k-init

@@ -1,6 +1,5 @@
 use mathlib.Core.Path.{◌∙◌}
 use Rattle.terminals.proofs.Marking.{unmarked-left}
-use borrow.Author.Rules.{rules}
 use Rattle.terminals.proofs.live.exclusion_is_live.Goals as goal
 
 pub returns : goal.returns

@@ -7,7 +7,6 @@ use Rattle.text.specs.Utf8.{known}
 use Rattle.plain.specs.Written.{members_in}
 use Rattle.terminals.proofs.Places.{term-two, term-counted, term-members}
 use Rattle.terminals.proofs.LiveTerminals.{live-quoted, live-insertion, live-hex, live-inclusion, live-exclusion}
-use borrow.Author.Rules.{rules}
 use Rattle.terminals.proofs.live.is_live.Goals as goal
 
 pub offset_bounds-table-at : goal.offset_bounds-table-at

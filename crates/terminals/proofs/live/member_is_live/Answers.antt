@@ -9,7 +9,6 @@ use Rattle.text.specs.Ranks.{some_known}
 use Rattle.category.specs.Category.{in_class}
 use Rattle.terminals.proofs.Places.{here-some, here-counted, here-coded, here-ranged, here-classed, here-class, class-at}
 use Rattle.terminals.proofs.LiveTerminals.{live-counted, live-coded, live-ranged, live-class}
-use borrow.Author.Rules.{rules}
 use Rattle.terminals.proofs.live.member_is_live.Goals as goal
 
 pub offset_bounds-table-at : goal.offset_bounds-table-at

@@ -1,9 +1,8 @@
 use native.Mathlib.Omega.{arith}
 use mathlib.Core.Path.{sym, ◌∙◌}
 use Prim.Native.Nat.{◌-◌}
-use borrow.Author.Rules.{rules}
 use Rattle.text.specs.Utf8.{known}
-use Rattle.terminals.proofs.Stretches.{Seeking, seek-start, seek-end, seek-here, seek-more}
+use Rattle.terminals.proofs.Stretches.{seek-start, seek-end, seek-here, seek-more}
 use Rattle.terminals.proofs.live.some_known.Goals as goal
 
 pub loop-k-init : goal.loop-k-init

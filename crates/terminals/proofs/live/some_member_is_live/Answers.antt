@@ -1,9 +1,8 @@
 use native.Mathlib.Omega.{arith}
 use mathlib.Core.Path.{◌∙◌}
 use Prim.Native.Nat.{◌-◌}
-use lib.ListN.{length}
 use Rattle.plain.specs.Live.{live_member}
-use Rattle.terminals.proofs.MemberPlaces.{Going, go-start, go-end, members-some, go-head, go-found, go-next, head-here, head-inside, head-steps}
+use Rattle.terminals.proofs.MemberPlaces.{go-start, go-end, members-some, go-head, go-found, go-next, head-here, head-inside, head-steps}
 use Rattle.terminals.proofs.LiveTerminals.{head_live}
 use Rattle.terminals.proofs.live.some_member_is_live.Goals as goal
 

@@ -1,6 +1,6 @@
 use native.Mathlib.Omega.{arith}
 use Prim.Native.Nat.{◌-◌}
-use Rattle.terminals.proofs.Marking.{Stepping, step_start, step-next, step_end}
+use Rattle.terminals.proofs.Marking.{step_start, step-next, step_end}
 use Rattle.terminals.proofs.marks.mark.Goals as goal
 
 pub loop-k-init : goal.loop-k-init

@@ -1,6 +1,5 @@
-use native.Mathlib.Omega.{arith}
 use Prim.Native.Nat.{◌-◌}
-use Rattle.terminals.proofs.Marking.{Stepping, step_start, step-next, step_end}
+use Rattle.terminals.proofs.Marking.{Stepping}
 use Rattle.terminals.proofs.marks.mark.Given as goal
 
 abbrev pub invariant-loop-k : goal.invariant-loop-k

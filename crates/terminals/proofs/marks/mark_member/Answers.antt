@@ -6,7 +6,6 @@ use Rattle.category.specs.Category.{in_class}
 use Rattle.terminals.specs.Places.{match_of}
 use Rattle.terminals.proofs.Places.{here-some, here-counted, here-coded, here-ranged, here-classed, here-class, class-at, match-class, match-counted, match-coded, match-ranged}
 use Rattle.terminals.proofs.Marking.{code-placed, adds-places, adds-categories}
-use borrow.Author.Rules.{rules}
 use Rattle.terminals.proofs.marks.mark_member.Goals as goal
 
 pub offset_bounds-table-at : goal.offset_bounds-table-at

@@ -1,9 +1,8 @@
 use native.Mathlib.Omega.{arith}
 use mathlib.Core.Path.{sym, ◌∙◌}
 use Prim.Native.Nat.{◌-◌}
-use lib.ListN.{length}
 use Rattle.terminals.proofs.MemberPlaces.{members-some, head-here, head-inside, head-steps}
-use Rattle.terminals.proofs.Marking.{Marking, marking-start, marking-head, marking-next, marking-end}
+use Rattle.terminals.proofs.Marking.{marking-start, marking-head, marking-next, marking-end}
 use Rattle.terminals.proofs.marks.mark_members.Goals as goal
 
 pub loop-at-init : goal.loop-at-init

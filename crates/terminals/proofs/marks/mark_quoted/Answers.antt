@@ -1,7 +1,7 @@
 use native.Mathlib.Omega.{arith}
 use mathlib.Core.Path.{◌∙◌}
 use Prim.Native.Nat.{◌-◌}
-use Rattle.terminals.proofs.Marking.{Quoting, quote-start, quote-next, quote-end}
+use Rattle.terminals.proofs.Marking.{quote-start, quote-next, quote-end}
 use Rattle.terminals.proofs.marks.mark_quoted.Goals as goal
 
 pub loop-k-init : goal.loop-k-init

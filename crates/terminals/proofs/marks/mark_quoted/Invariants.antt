@@ -1,7 +1,5 @@
-use native.Mathlib.Omega.{arith}
-use mathlib.Core.Path.{◌∙◌}
 use Prim.Native.Nat.{◌-◌}
-use Rattle.terminals.proofs.Marking.{Quoting, quote-start, quote-next, quote-end}
+use Rattle.terminals.proofs.Marking.{Quoting}
 use Rattle.terminals.proofs.marks.mark_quoted.Given as goal
 
 abbrev pub invariant-loop-k : goal.invariant-loop-k

@@ -2,7 +2,6 @@ use native.Mathlib.Omega.{arith}
 use Prim.Native.Nat.{◌+◌}
 use Rattle.text.proofs.Known.{rank_most}
 use Rattle.terminals.proofs.Marking.{range-placed}
-use borrow.Author.Rules.{rules}
 use Rattle.terminals.proofs.marks.mark_range.Goals as goal
 
 pub mark-requires : goal.mark-requires

@@ -1,6 +1,5 @@
-use mathlib.Core.Path.{◌≡◌, sym, ◌∙◌}
+use mathlib.Core.Path.{sym, ◌∙◌}
 use native.Mathlib.Omega.{arith}
-use borrow.Author.Rules.{rules}
 use Rattle.text.proofs.Spans.{above_from, place-latin, place-combining, place-ties, place_none}
 use Rattle.text.specs.Lists.{span}
 use Rattle.text.proofs.alphabet.place.Goals as goal

@@ -1,7 +1,6 @@
 use mathlib.Core.Path.{sym, ◌∙◌}
 use native.Mathlib.Omega.{arith}
 use Rattle.text.proofs.Known.{rank-latin, rank_between, rank-combining, rank-after, rank-ties, rank-all}
-use borrow.Author.Rules.{rules}
 use Rattle.text.proofs.alphabet.rank.Goals as goal
 
 pub returns-then-code-le-LATIN_LAST : goal.returns-then-code-le-LATIN_LAST

@@ -2,7 +2,6 @@ use mathlib.Core.Path.{sym}
 use native.Mathlib.Omega.{arith}
 use Prim.Native.Nat.{◌+◌}
 use Rattle.text.proofs.Known.{rank-all}
-use borrow.Author.Rules.{rules}
 use Rattle.text.proofs.alphabet.rank_past.Goals as goal
 
 pub returns-then-code-ge-TIES_LAST : goal.returns-then-code-ge-TIES_LAST
