@@ -236,7 +236,8 @@ fn by_a_link_and_with_odd_names() {
 #[test]
 fn with_names_that_are_no_text() {
     let directory = directory("bytes");
-    let [grammar, record, folder] = [b"g\xe4", b"r\xff", b"f\xfe"].map(|name| OsStr::from_bytes(name));
+    let [grammar, record, folder] =
+        [b"g\xe4", b"r\xff", b"f\xfe"].map(|name| OsStr::from_bytes(name));
     fs::write(directory.join(grammar), "a: \"x\".").expect("written");
     fs::write(directory.join(record), "x").expect("written");
     fs::create_dir(directory.join(folder)).expect("a directory");
