@@ -24,11 +24,12 @@ fn run(rt: &(impl Env + Files + Print), at: usize) -> io::Result<()>
 
 // How many arguments there are, the program's name among them.
 fn count_arguments(rt: &impl Env) -> usize {
-    let mut n = 0;
-    while n < usize::MAX && cli::is_given(rt, n) {
-        n += 1;
+    for n in 0..usize::MAX {
+        if !cli::is_given(rt, n) {
+            return n;
+        }
     }
-    n
+    usize::MAX
 }
 
 // The first two arguments, and each two that follow. Output that cannot be written ends it.
