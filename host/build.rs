@@ -3,14 +3,13 @@
 //!
 //! The archives are those in the directory `IXML_LIB_DIR`, if that is set.
 //! Otherwise they are those in `target/staticlib/` of the repository, made by
-//! `rt staticlib` where they are missing or older than a file of `crates/`.
+//! `tools/staticlib` where they are missing or older than what a proof reads.
 //!
 //! An archive that lacks one of its calls is not linked. For the tests there is a
 //! `cfg` `xmllint` where that program is found.
 
 use std::path::{Path, PathBuf};
 use std::process::Command;
-use std::time::SystemTime;
 use std::{env, fs, io};
 
 /// The crates that are libraries, what each exports, and the variable that tells
@@ -89,50 +88,35 @@ fn has_xmllint() -> bool {
 /// The directory of the repository's archive of a library, which is made if need
 /// be.
 fn built(repository: &Path, library: &str) -> PathBuf {
-    let sources = [repository.join("crates"), repository.join("crates.txt")];
-    for source in &sources {
-        println!("cargo:rerun-if-changed={}", source.display());
-    }
+    let crates = repository.join("crates");
     assert!(
-        repository.join("crates").join(library).is_dir(),
-        "the repository has no crate `{library}` to build a library from; \
+        crates.join(format!("{library}_c")).is_dir(),
+        "the repository has no crate `{library}_c` to build a library from; \
          IXML_LIB_DIR may name a directory with {}",
         file(library)
     );
-    let directory = repository.join("target/staticlib");
-    let archive = directory.join(file(library));
-    if !is_current(&archive, &sources).unwrap_or(false) {
-        let mut command = Command::new("rt");
-        command.args(["staticlib", library]).current_dir(repository);
-        let status = command
-            .status()
-            .unwrap_or_else(|error| panic!("cannot run rt, the Rattle kit's tool: {error}"));
-        assert!(status.success(), "`rt staticlib {library}` failed");
+    println!("cargo:rerun-if-changed={}/crates.txt", repository.display());
+    for source in sources(&crates).expect("the repository's crates") {
+        println!("cargo:rerun-if-changed={}", source.display());
     }
-    directory
+    let status = Command::new(repository.join("tools/staticlib"))
+        .arg(library)
+        .status()
+        .unwrap_or_else(|error| panic!("cannot run tools/staticlib: {error}"));
+    assert!(status.success(), "`tools/staticlib {library}` failed");
+    repository.join("target/staticlib")
 }
 
-/// Whether the archive is there and as new as every source.
-fn is_current(archive: &Path, sources: &[PathBuf]) -> io::Result<bool> {
-    let made = fs::metadata(archive)?.modified()?;
-    for source in sources {
-        if newest(source)? > made {
-            return Ok(false);
-        }
+/// The directories of the files that proofs read: a crate has others for what is
+/// made of these.
+fn sources(crates: &Path) -> io::Result<Vec<PathBuf>> {
+    let mut found = Vec::new();
+    for entry in fs::read_dir(crates)? {
+        let folder = entry?.path();
+        let parts = ["src", "specs", "proofs"].map(|part| folder.join(part));
+        found.extend(parts.into_iter().filter(|part| part.is_dir()));
     }
-    Ok(true)
-}
-
-/// The latest change of a file, or of the files below a directory.
-fn newest(path: &Path) -> io::Result<SystemTime> {
-    let metadata = fs::metadata(path)?;
-    let mut latest = metadata.modified()?;
-    if metadata.is_dir() {
-        for entry in fs::read_dir(path)? {
-            latest = latest.max(newest(&entry?.path())?);
-        }
-    }
-    Ok(latest)
+    Ok(found)
 }
 
 /// The names in an archive's index, its first member: a count, as many member

@@ -3,7 +3,7 @@
  * at once or in rounds, convert a record to XML, and tell the category of a
  * character.
  *
- * Link with libcalls.a, which `rt staticlib calls` writes to
+ * Link with libcalls.a, which `tools/staticlib calls` writes to
  * target/staticlib/. It is for x86-64 Linux and needs no other library. The
  * position gate has a header and a library of its own, see ixml_gate.h.
  *

@@ -2,7 +2,7 @@
  * The position gate: does a latitude and a longitude, as the texts of two
  * attributes, lie where a grower's fields are?
  *
- * Link with libgate.a, which `rt staticlib gate` writes to target/staticlib/.
+ * Link with libgate.a, which `tools/staticlib gate` writes to target/staticlib/.
  * It stands beside the reader's library (ixml.h) and needs nothing of it.
  *
  *     cc -I include program.c target/staticlib/libgate.a

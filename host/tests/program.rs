@@ -3,8 +3,9 @@
 
 mod common;
 
-use std::ffi::OsString;
+use std::ffi::{OsStr, OsString};
 use std::fs::{self, File};
+use std::os::unix::ffi::OsStrExt;
 use std::os::unix::fs::symlink;
 use std::path::{Path, PathBuf};
 use std::process::{Command, Output};
@@ -229,6 +230,29 @@ fn by_a_link_and_with_odd_names() {
     let mut command = Command::new(directory.join("link"));
     let output = command.args(names).current_dir(&directory).output();
     assert_eq!(output.expect("the program runs").stdout, b"<a>x</a>\n");
+}
+
+/// The proved program takes names in UTF-8; the script hands it other files opened.
+#[test]
+fn with_names_that_are_no_text() {
+    let directory = directory("bytes");
+    let [grammar, record, folder] =
+        [b"g\xe4", b"r\xff", b"f\xfe"].map(|name| OsStr::from_bytes(name));
+    fs::write(directory.join(grammar), "a: \"x\".").expect("written");
+    fs::write(directory.join(record), "x").expect("written");
+    fs::create_dir(directory.join(folder)).expect("a directory");
+    let missing = OsStr::from_bytes(b"m\xe4");
+    for (names, written, status) in [
+        ([grammar, record], "<a>x</a>\n", 0),
+        ([grammar, folder], "unreadable\n", 2),
+        ([missing, record], "unreadable\n", 2),
+    ] {
+        let mut command = Command::new(program());
+        let output = command.args(names).current_dir(&directory).output();
+        let output = output.expect("the program runs");
+        assert_eq!(output.stdout, written.as_bytes(), "{names:?}");
+        assert_eq!(output.status.code(), Some(status), "{names:?}");
+    }
 }
 
 /// Files that come in pieces, so that a read gives less than is asked for.

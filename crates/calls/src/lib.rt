@@ -13,8 +13,7 @@ use resume::Progress;
 use text::limits;
 
 // Checks a grammar.
-#[unsafe(no_mangle)]
-pub extern "C" fn ixml_check(grammar: &[u8]) -> Answer
+pub fn ixml_check(grammar: &[u8]) -> Answer
     ensures { Checked grammar.now result }
 {
     let mut table = [0u32; limits::GRAMMAR_TABLE];
@@ -29,8 +28,7 @@ pub extern "C" fn ixml_check(grammar: &[u8]) -> Answer
 }
 
 // The category of a code point, by its place in the list of thirty; 30 for one that is not known here.
-#[unsafe(no_mangle)]
-pub extern "C" fn ixml_category(code: u32) -> u32
+pub fn ixml_category(code: u32) -> u32
     ensures { Categorizes code result }
 {
     text::wide_byte(category::category_of(code))
@@ -38,8 +36,7 @@ pub extern "C" fn ixml_category(code: u32) -> u32
 
 // Reads a record. Of the lent tables the second is known by its length alone: a grammar is judged before it is known to be long enough, so
 // the call has a table of its own. What the main table holds afterwards is left open.
-#[unsafe(no_mangle)]
-pub extern "C" fn ixml_read(
+pub fn ixml_read(
     grammar: &[u8],
     record: &[u8],
     main: &mut [u32],
@@ -52,8 +49,7 @@ pub extern "C" fn ixml_read(
 }
 
 // The same by the plain engine, which fills the whole main table and takes far longer. It is there to be compared with.
-#[unsafe(no_mangle)]
-pub extern "C" fn ixml_read_plain(
+pub fn ixml_read_plain(
     grammar: &[u8],
     record: &[u8],
     main: &mut [u32],
@@ -66,8 +62,7 @@ pub extern "C" fn ixml_read_plain(
 }
 
 // Converts a record. What the main table holds afterwards is left open.
-#[unsafe(no_mangle)]
-pub extern "C" fn ixml_convert(
+pub fn ixml_convert(
     grammar: &[u8],
     record: &[u8],
     main: &mut [u32],
@@ -82,8 +77,7 @@ pub extern "C" fn ixml_convert(
 
 // Judges a list of numbers, whoever made it: the XML of the derivation that it names. The scratch takes two numbers for each entry; what it
 // holds afterwards is left open.
-#[unsafe(no_mangle)]
-pub extern "C" fn ixml_judge(
+pub fn ixml_judge(
     grammar: &[u8],
     record: &[u8],
     list: &[u32],
@@ -117,8 +111,7 @@ pub extern "C" fn ixml_judge(
 }
 
 // Tidies a grammar.
-#[unsafe(no_mangle)]
-pub extern "C" fn ixml_tidy(grammar: &[u8], res: &mut [u8]) -> Answer
+pub fn ixml_tidy(grammar: &[u8], res: &mut [u8]) -> Answer
     ensures { TidiedAs grammar.now res.old result res.new }
 {
     let mut table = [0u32; limits::GRAMMAR_TABLE];
@@ -127,8 +120,7 @@ pub extern "C" fn ixml_tidy(grammar: &[u8], res: &mut [u8]) -> Answer
 }
 
 // Starts a read in rounds. The caller keeps the main table and the state between the calls as they are left.
-#[unsafe(no_mangle)]
-pub extern "C" fn ixml_start(
+pub fn ixml_start(
     grammar: &[u8],
     record: &[u8],
     main: &mut [u32],
@@ -142,8 +134,7 @@ pub extern "C" fn ixml_start(
 }
 
 // Does one round of a read.
-#[unsafe(no_mangle)]
-pub extern "C" fn ixml_round(
+pub fn ixml_round(
     grammar: &[u8],
     record: &[u8],
     main: &mut [u32],
@@ -157,8 +148,7 @@ pub extern "C" fn ixml_round(
 }
 
 // Ends a read in rounds as a reading.
-#[unsafe(no_mangle)]
-pub extern "C" fn ixml_finish_read(
+pub fn ixml_finish_read(
     grammar: &[u8],
     record: &[u8],
     main: &[u32],
@@ -191,8 +181,7 @@ pub extern "C" fn ixml_finish_read(
 }
 
 // Ends a read in rounds as XML.
-#[unsafe(no_mangle)]
-pub extern "C" fn ixml_finish_convert(
+pub fn ixml_finish_convert(
     grammar: &[u8],
     record: &[u8],
     main: &[u32],

@@ -17,9 +17,12 @@ use Rattle.answer.proofs.Lines.{unapplied}
 use Rattle.answer.specs.Answer.{of_job, input_lines, reading_lines, Note, Noted, Places, place_notes, job_notes, Line}
 use Rattle.answer.specs.Answer.{Topmost, Job, Answer, Converts, grammar_lines, record_lines, document_lines, too_long, as_xml}
 use Rattle.answer.specs.Compute.{convert_of}
-use Rattle.answer.specs.Program.{File, bytes, shows, program_job, Writes, no-grammar, no_record, long-record, job}
+use Rattle.answer.specs.Program.{File, unreadable, bytes, shows, program_job, Writes, no-grammar, no_record, long-record, job}
 use Rattle.answer.proofs.Settled.{convert-settled, convert-answers}
-use Rattle.cli.specs.Output.{Seen, shut, begins, Written, no_file, long_file, asked_bytes, job_outcome, job_text, Shows, Holds, Replies}
+use Rattle.std.specs.Prelude.{IfSome, IsTrue, None, Some}
+use Rattle.std.specs.declared.option.Option.{Option}
+use Rattle.std.specs.Io.KnownBytes.{Appends}
+use Rattle.cli.specs.Output.{Behind, fails, has_bytes, unknown, Answered, Seen, shut, begins, Written, no_file, long_file, asked_bytes, job_outcome, job_text, Shows, Holds, Replies}
 
 -- no line's number is above m, so neither is the topmost that applies
 topmost-below : (m n : ℕ) (ls : List Line) → T (all (λ l. leb l.number m) ls) → Topmost ls n → n ≤ m
@@ -101,6 +104,31 @@ seen_all bs h = take_all asked_bytes bs (let e = length-take asked_bytes bs in o
 pub some-file : (xs : List ℕ) → length xs ≤ asked_bytes → Seen (bytes xs) true xs
 some-file xs h = begins (sym (take_all asked_bytes xs h))
 
+-- a file stands behind a reader, of which is seen what was read of it
+pub record Stands (known : Option (List ℕ)) (p : Bool) (xs : List ℕ) : Type 0 where
+  pub file : File
+  pub behind : Behind known file
+  pub seen : Seen file p xs
+
+pub stands : (known : Option (List ℕ)) (p : Bool) (xs : List ℕ) → length xs ≤ asked_bytes
+    → IfSome known (λ bs. IsTrue p → xs ≡ take asked_bytes bs) → Stands known p xs
+stands known false xs h e = record { file = unreadable; behind = fails; seen = shut }
+stands None true xs h e = record { file = bytes xs; behind = unknown; seen = some-file xs h }
+stands (Some bs) true xs h e = record { file = bytes bs; behind = has_bytes; seen = begins (e refl) }
+
+-- what is replied is written for the files behind the readers
+pub answered : {first second old new : Option (List ℕ)} {p q : Bool} {g r out : List ℕ} {n : ℕ}
+    → Stands first p g → Stands second q r → Replies p g q r out n → Appends old new (take n out) → Answered first second old new
+answered {out = out} {n = n} s t w a = record {
+  grammar = s.file;
+  input = t.file;
+  text = take n out;
+  behind_first = s.behind;
+  behind_second = t.behind;
+  writes = w.written s.file t.file s.seen t.seen;
+  appended = a;
+}
+
 -- the four things that may be written
 pub unreadable-grammar : (g r : List ℕ) (q : Bool) → Written false g q r no_file
 unreadable-grammar g r q f e shut t = no-grammar
@@ -158,15 +186,6 @@ module _ {g r old xml new : List ℕ} {s t n l k : ℕ} {m v : Bool} {p : Places
         holds = w.holds (two-places (program_job g r) (replicate program_bytes 0) (record { number = n; length = l; ambiguous = m; version = v; places = p }) xml d)
             (three-places (program_job g r) (replicate program_bytes 0) (record { number = n; length = l; ambiguous = m; version = v; places = p }) xml d) ∙ (λ ι. shows (u.0 ι) (u.1 ι));
       }
-
--- a negated test
-pub closed : (b : Bool) → not b ≡ true → b ≡ false
-closed true e = absurd (clash refl e)
-closed false e = refl
-
-pub opened : (b : Bool) → not b ≡ false → b ≡ true
-opened true e = refl
-opened false e = absurd (clash e refl)
 
 -- a text that is held is what is replied
 pub replies : {p q x y : Bool} {g r new : List ℕ} {text : Text} {n : ℕ} → p ≡ x → q ≡ y → Holds text new n → Written x g y r text → Replies p g q r new n

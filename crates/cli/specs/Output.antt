@@ -1,5 +1,7 @@
 -- What the program makes of two files: what it sees of each, and the bytes that it writes.
-use Rattle.std.specs.Prelude.{Bool, true, false, ◌≡◌, List, ◌++◌, ℕ, ◌+◌, ◌≤◌, ◌<◌, eqb, length, take, replicate}
+use Rattle.std.specs.Prelude.{Bool, true, false, ◌≡◌, List, ◌++◌, ℕ, ◌+◌, ◌≤◌, ◌<◌, eqb, length, take, slice_range, replicate, None, Some}
+use Rattle.std.specs.Io.KnownBytes.{Consumes, Keeps, IsAtEnd, Appends}
+use Rattle.std.specs.declared.option.Option.{Option}
 use Rattle.text.specs.Limits.{file_bytes, program_bytes}
 use Rattle.text.specs.Lists.{Text, chars, pick}
 use Rattle.answer.specs.Answer.{Answer}
@@ -18,6 +20,13 @@ Onwards Failed at m = Unit {0}
 pub record Chunked (t : Chunk) (at : ℕ) (old new : List ℕ) : Type 0 where
   pub onwards : Onwards t at (length new)
   pub kept : take at new ≡ take at old
+
+-- what a read at a place consumed of a reader's bytes, where these are known: what it put there; at the end of the file none are left, and a
+-- read that failed consumed none
+abbrev pub Fetched : Chunk → ℕ → List ℕ → Option (List ℕ) → Option (List ℕ) → Type 0
+Fetched (More next) at new before after = Consumes before after (slice_range new at next)
+Fetched End at new before after = Keeps before after × (at < length new → IsAtEnd after)
+Fetched Failed at new before after = Keeps before after
 
 -- a text put after the first `at` bytes of a buffer, up to place r
 pub record Put (text : List ℕ) (at : ℕ) (old new : List ℕ) (r : ℕ) : Type 0 where
@@ -80,3 +89,19 @@ job_text g r = shows (job_outcome g r).answer (job_outcome g r).buffer
 pub record Replies (p : Bool) (g : List ℕ) (q : Bool) (r : List ℕ) (new : List ℕ) (n : ℕ) : Type 0 where
   pub fits : n ≤ length new
   pub written : Written p g q r (take n new)
+
+-- the files that may stand behind a reader: one that cannot be read, where a read fails; else one with the reader's bytes, where these are known
+pub data Behind : Option (List ℕ) → File → Type 0 where
+  fails : {known : Option (List ℕ)} → Behind known unreadable
+  has_bytes : {bs : List ℕ} → Behind (Some bs) (bytes bs)
+  unknown : {bs : List ℕ} → Behind None (bytes bs)
+
+-- what is written for the files behind two readers is added to what a writer holds, where that is known
+pub record Answered (first second : Option (List ℕ)) (old new : Option (List ℕ)) : Type 0 where
+  pub grammar : File
+  pub input : File
+  pub text : Text
+  pub behind_first : Behind first grammar
+  pub behind_second : Behind second input
+  pub writes : Writes grammar input text
+  pub appended : Appends old new text

@@ -297,8 +297,7 @@ fn shown(ruling: Ruling) -> GateAnswer
 }
 
 // The ruling of a box: the limits of latitude, low and high, then those of longitude.
-#[unsafe(no_mangle)]
-pub extern "C" fn ixml_gate_box(
+pub fn ixml_gate_box(
     south: f64,
     north: f64,
     west: f64,
@@ -321,24 +320,21 @@ pub extern "C" fn ixml_gate_box(
 }
 
 // The ruling of a band between two latitudes.
-#[unsafe(no_mangle)]
-pub extern "C" fn ixml_gate_band(south: f64, north: f64, lat: &[u8], lon: &[u8]) -> GateAnswer
+pub fn ixml_gate_band(south: f64, north: f64, lat: &[u8], lon: &[u8]) -> GateAnswer
     ensures { Ruled (Gate.Band south north) lat.now lon.now result }
 {
     shown(rule(Gate::Band { south, north }, lat, lon))
 }
 
 // The ruling of a gate without limits.
-#[unsafe(no_mangle)]
-pub extern "C" fn ixml_gate_anywhere(lat: &[u8], lon: &[u8]) -> GateAnswer
+pub fn ixml_gate_anywhere(lat: &[u8], lon: &[u8]) -> GateAnswer
     ensures { Ruled Gate.Anywhere lat.now lon.now result }
 {
     shown(rule(Gate::Anywhere, lat, lon))
 }
 
 // The value of a number text.
-#[unsafe(no_mangle)]
-pub extern "C" fn ixml_number(text: &[u8]) -> NumberAnswer
+pub fn ixml_number(text: &[u8]) -> NumberAnswer
     ensures { NumberRead text.now result }
 {
     let number = decimal::read_number(text);
