@@ -1,5 +1,5 @@
 -- What was read so far is what the reader lost.
-use Rattle.std.proofs.Common.{◌≡◌, ◌-◌, ◌≤◌, length, take}
+use Rattle.std.proofs.Common.{◌-◌, ◌≤◌, length, take}
 use Rattle.std.specs.Io.KnownBytes.{Consumes}
 use Rattle.cli.proofs.files.fill.Given as goal
 

@@ -1,7 +1,7 @@
 -- The head, the digits and the end make the document.
 use Rattle.std.proofs.Common.{◌≡◌, ℕ, Bool, ◌++◌, ap, ◌∙◌, arith, append_assoc}
 use Rattle.text.specs.Lists.{chars}
-use Rattle.answer.specs.Program.{decimal, fail_state, fail_document}
+use Rattle.answer.specs.Program.{decimal, fail_document}
 use Rattle.cli.specs.Output.{fail_head}
 use Rattle.cli.proofs.output.put_fail.Goals as goal
 
