@@ -34,10 +34,8 @@ fn count_rules(code: &[u32], size: usize) -> usize
     ensures { (result ≡ name_count code.now size) × (result ≤ size) }
 {
     let mut count = 0;
-    let mut e = 0;
-    while e < size {
+    for e in 0..size {
         count += one_name(code, e);
-        e += 1;
     }
     count
 }

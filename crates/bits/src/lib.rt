@@ -36,10 +36,8 @@ fn mask(word: u32, b: u32) -> u32
 pub fn spread(word: u32, on: &mut [u32; 32])
     ensures { Spread word on.old on.new }
 {
-    let mut b = 0u32;
-    while b < 32 {
+    for b in 0..32u32 {
         on[b as usize] = mask(word, b);
-        b += 1;
     }
 }
 
@@ -85,10 +83,8 @@ pub fn none(set: &[u32; 8]) -> bool
     ensures { result ≡ true → (x : ℕ) → x < 256 → Has set.now x → ⊥ }
 {
     let mut all = 0;
-    let mut v = 0;
-    while v < SET {
-        all = all | set[v];
-        v += 1;
+    for v in 0..SET {
+        all |= set[v];
     }
     all == 0
 }

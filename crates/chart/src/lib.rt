@@ -54,10 +54,8 @@ pub fn clear(main: &mut [u32], k: usize)
     requires { k ≤ length main.old }
     ensures { Clear k main.new }
 {
-    let mut x = 0;
-    while x < k {
+    for x in 0..k {
         main[x] = NONE;
-        x += 1;
     }
 }
 
@@ -67,13 +65,11 @@ pub fn list_uses(code: &[u32], uses: &mut [u32], size: usize)
         × ((p : ℕ) → p < size → next_kind code.now p ≡ 2 → rule_at code.now p < size) × ((x : ℕ) → get_or uses.old x 0 ≡ 0) }
     ensures { Uses code.now size size uses.new }
 {
-    let mut p = 0;
-    while p < size {
+    for p in 0..size {
         if code[CODE_COLUMNS * p] == AT_SYMBOL {
             let e = code[CODE_COLUMNS * p + CODE_RULE] as usize;
             uses[USE_COLUMNS * p + USE_BEFORE] = uses[USE_COLUMNS * e];
             uses[USE_COLUMNS * e] = p as u32 + 1;
         }
-        p += 1;
     }
 }

@@ -46,8 +46,7 @@ fn far_word(table: &[u32], code: &[u32], text: &[u32], s: Spot, word: u32, best:
     let p = s.p;
     let v = s.x;
     let mut far = best;
-    let mut b = 0u32;
-    while b < 32 {
+    for b in 0u32..32 {
         let x = bits::PLACES * v + text::wide(b);
         far = far_one(
             table,
@@ -57,7 +56,6 @@ fn far_word(table: &[u32], code: &[u32], text: &[u32], s: Spot, word: u32, best:
             bits::lit(word, b),
             far,
         );
-        b += 1;
     }
     far
 }
@@ -77,8 +75,7 @@ fn far_row(
     let size = s.size;
     let p = s.p;
     let mut far = best;
-    let mut x = 0;
-    while x < bits::SET {
+    for x in 0..bits::SET {
         far = far_word(
             table,
             code,
@@ -87,7 +84,6 @@ fn far_row(
             sets[bits::SET * p + x],
             far,
         );
-        x += 1;
     }
     far
 }
@@ -98,10 +94,8 @@ fn sure(table: &[u32], code: &[u32], text: &[u32], sets: &[u32; 8192], size: usi
     ensures { Best table.now code.now text.now size sets.now (λ q i. q < size) 0 result }
 {
     let mut far = 0;
-    let mut p = 0;
-    while p < size {
+    for p in 0..size {
         far = far_row(table, code, text, sets, Spot { size, p, x: 0 }, far);
-        p += 1;
     }
     far
 }

@@ -69,10 +69,8 @@ fn accumulate(value: f64, digits: &[u8]) -> f64
     ensures { result ≡ digits_from value digits.now }
 {
     let mut v = value;
-    let mut i = 0;
-    while i < digits.len() {
+    for i in 0..digits.len() {
         v = next_digit(v, digits[i]);
-        i += 1;
     }
     v
 }

@@ -112,9 +112,7 @@ fn sweep(code: &[u32], notes: &mut [u32], size: usize) -> bool
     ensures { Moved code.now size (λ F. ((p : ℕ) → p < size → Done code.now p F)) notes.old result notes.new }
 {
     let mut fell = false;
-    let mut p = size;
-    while 0 < p {
-        p -= 1;
+    for p in (0..size).rev() {
         let here = lower_on(code, notes, size, p);
         fell = text::either(fell, here);
     }
@@ -126,10 +124,8 @@ fn clear_empties(notes: &mut [u32], size: usize)
     requires { (length notes.old ≡ 2048) × (size ≤ 512) }
     ensures { Cleared size notes.old notes.new }
 {
-    let mut p = 0;
-    while p < size {
+    for p in 0..size {
         notes[EMPTIES + p] = NONE;
-        p += 1;
     }
 }
 

@@ -29,10 +29,8 @@ pub fn put_all(out: &mut [u8], limit: BytePlace, pos: BytePlace, s: &[u8]) -> By
     ensures { state result.0 out.new ≡ puts limit.0 (state pos.0 out.old) s.now }
 {
     let mut at = pos;
-    let mut i = 0;
-    while i < s.len() {
+    for i in 0..s.len() {
         at = put(out, limit, at, s[i]);
-        i += 1;
     }
     at
 }

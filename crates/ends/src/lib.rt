@@ -52,14 +52,12 @@ fn finish(main: &mut [u32], s: Start, cur: &[u32; 8]) -> bool
     let rule = s.rule;
     let last = n / bits::PLACES;
     let mut grew = false;
-    let mut w = m / bits::PLACES;
-    while w <= last {
+    for w in m / bits::PLACES..last + 1 {
         let x = chart::cell(n, rule, m, moves::column(n, w));
         let old = main[x];
         let new = bits::join(old, cur[w]);
         main[x] = new;
         grew = text::either(grew, new != old);
-        w += 1;
     }
     grew
 }
@@ -249,8 +247,7 @@ fn settle(
     }
     let n = s.n;
     let m = s.m;
-    let mut turns = 0;
-    while turns < TURNS {
+    for turns in 0..TURNS {
         let rule = pop(queue);
         if size <= rule {
             return;
@@ -264,7 +261,6 @@ fn settle(
             queue,
             Start { size, n, m, rule },
         );
-        turns += 1;
     }
 }
 
@@ -289,9 +285,7 @@ fn round(code: &[u32], firsts: &[u32], marks: &[u8], main: &mut [u32], s: Start)
     let n = s.n;
     let m = s.m;
     let mut grew = false;
-    let mut rule = size;
-    while 0 < rule {
-        rule -= 1;
+    for rule in (0..size).rev() {
         let more = redo(code, firsts, marks, main, Start { size, n, m, rule });
         grew = text::either(grew, more);
     }
@@ -314,11 +308,9 @@ fn clear_row(main: &mut [u32], s: Start)
     let m = s.m;
     let rule = s.rule;
     let last = n / bits::PLACES;
-    let mut w = m / bits::PLACES;
-    while w <= last {
+    for w in m / bits::PLACES..last + 1 {
         let x = chart::cell(n, rule, m, moves::column(n, w));
         main[x] = 0;
-        w += 1;
     }
 }
 
@@ -346,11 +338,9 @@ fn begin(marks: &[u8], main: &mut [u32], queue: &mut [u32; 1026], s: Start) -> b
     let n = s.n;
     let m = s.m;
     let mut some = false;
-    let mut rule = 0;
-    while rule < size {
+    for rule in 0..size {
         let one = begin_at(marks, main, queue, Start { size, n, m, rule });
         some = text::either(some, one);
-        rule += 1;
     }
     some
 }
@@ -369,9 +359,7 @@ pub fn fill(
     ensures { Filled code.now firsts.now marks.now size n main.old main.new }
 {
     let mut queue = [0u32; 1026];
-    let mut m = n + 1;
-    while 0 < m {
-        m -= 1;
+    for m in (0..n + 1).rev() {
         let s = Start {
             size,
             n,

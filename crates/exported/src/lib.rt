@@ -86,9 +86,7 @@ pub fn copy(from: &[u32], count: usize, to: &mut [u32])
     requires { (count ≤ length from.now) × (count ≤ length to.old) }
     ensures { to.new ≡ take count from.now ++ drop count to.old }
 {
-    let mut i = 0;
-    while i < count {
+    for i in 0..count {
         to[i] = from[i];
-        i += 1;
     }
 }

@@ -48,10 +48,8 @@ fn put_keys(table: &[u32], code: &[u32], size: usize, keys: &mut [u32])
     requires { Tokened table.now code.now size × (4 * size ≤ length keys.old) × ((x : ℕ) → get_or keys.old x 0 ≡ 0) }
     ensures { Keyed table.now code.now size 0 keys.new }
 {
-    let mut p = size;
     let mut alive = true;
-    while 0 < p {
-        p -= 1;
+    for p in (0..size).rev() {
         alive = finishes(table, code, size, p, alive);
         put_key(code, keys, p, alive);
     }
@@ -143,11 +141,9 @@ fn farthest_at(
     let size = s.size;
     let n = s.n;
     let i = s.i;
-    let mut p = 0;
     let mut far = best;
-    while p < size {
+    for p in 0..size {
         far = farther(table, code, text, flags, Spot { size, n, i, p }, far);
-        p += 1;
     }
     far
 }
@@ -158,9 +154,8 @@ fn farthest(table: &[u32], code: &[u32], text: &[u32], flags: &[u8], size: usize
     ensures { Reach table.now code.now text.now flags.now size (length text.now + 1) result }
 {
     let n = CharPlace(text.len());
-    let mut i = 0;
     let mut far = 0;
-    while i <= n.0 {
+    for i in 0..n.0 + 1 {
         far = farthest_at(
             table,
             code,
@@ -174,7 +169,6 @@ fn farthest(table: &[u32], code: &[u32], text: &[u32], flags: &[u8], size: usize
             },
             far,
         );
-        i += 1;
     }
     far
 }

@@ -52,11 +52,9 @@ fn rule_heights(code: &[u32], main: &[u32], at: Stretch, heights: &mut [u32])
         × Leasts code.now main.now at.size at.n at.i at.j 0 heights.old }
     ensures { Leasts code.now main.now at.size at.n at.i at.j at.size heights.new }
 {
-    let mut p = 0;
     let size = at.size;
-    while p < size {
+    for p in 0..size {
         lower(code, main, at, p, heights);
-        p += 1;
     }
 }
 
@@ -136,13 +134,11 @@ fn stretch_fixed(code: &[u32], fits: &[u8], main: &[u32], at: Stretch) -> bool
 {
     let mut heights = [NONE; limits::GRAMMAR_SIZE];
     rule_heights(code, main, at, &mut heights);
-    let mut p = 0;
     let size = at.size;
-    while p < size {
+    for p in 0..size {
         if !position_fixed(code, fits, main, &heights, at, p) {
             return false;
         }
-        p += 1;
     }
     true
 }
@@ -152,12 +148,10 @@ fn column_fixed(code: &[u32], fits: &[u8], main: &[u32], size: usize, n: usize, 
     requires { Safe code.now fits.now size n (length main.now) × (j ≤ n) }
     ensures { Tells result (StartsFixed code.now fits.now size n main.now j (j + 1)) }
 {
-    let mut i = 0;
-    while i <= j {
+    for i in 0..j + 1 {
         if !stretch_fixed(code, fits, main, Stretch { size, n, i, j }) {
             return false;
         }
-        i += 1;
     }
     true
 }
@@ -167,12 +161,10 @@ pub fn is_fixpoint(code: &[u32], fits: &[u8], main: &[u32], size: usize, n: usiz
     requires { Safe code.now fits.now size n (length main.now) }
     ensures { Tells result (Fixpoint code.now fits.now size n main.now) }
 {
-    let mut j = 0;
-    while j <= n {
+    for j in 0..n + 1 {
         if !column_fixed(code, fits, main, size, n, j) {
             return false;
         }
-        j += 1;
     }
     true
 }

@@ -35,12 +35,10 @@ fn mark_place(code: &[u32], fits: &[u8], size: usize, i: usize, marks: &mut [u8]
     ensures { PlaceMarked code.now fits.now size i size marks.old marks.new }
 {
     let base = PLACE * i;
-    let mut p = 0;
-    while p < size {
+    for p in 0..size {
         marks[base + p] = dot_flag(code, fits, size, p, i);
         marks[base + BEGINS + p] = REACHED;
         marks[base + ENDS + p] = WANTED;
-        p += 1;
     }
 }
 
@@ -49,9 +47,7 @@ pub fn mark_all(code: &[u32], fits: &[u8], size: usize, n: usize, marks: &mut [u
     requires { Markable code.now fits.now size n × (length marks.old ≡ 308736) }
     ensures { Marked code.now fits.now size (n + 1) marks.new }
 {
-    let mut i = 0;
-    while i <= n {
+    for i in 0..n + 1 {
         mark_place(code, fits, size, i, marks);
-        i += 1;
     }
 }

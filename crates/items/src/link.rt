@@ -49,9 +49,7 @@ pub fn link(table: &mut [u32], items: usize, rules: usize)
     requires { Linkable table.old items rules }
     ensures { Linked table.old items rules table.new }
 {
-    let mut p = 0;
-    while p < items {
+    for p in 0..items {
         resolve(table, p, rules);
-        p += 1;
     }
 }

@@ -88,11 +88,9 @@ fn block(table: &mut [u32], i: usize, j: usize, depth: usize) -> usize
     ensures { Copied table.old i j depth result table.new }
 {
     let mut p = i;
-    let mut q = j;
-    while q < depth {
+    for q in j..depth {
         copy(table, p, STACK + ENTRY_COLUMNS * q);
         p += 1;
-        q += 1;
     }
     item(table, p, RULE_END, 0);
     p + 1

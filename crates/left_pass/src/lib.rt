@@ -152,10 +152,8 @@ fn shift(table: &[u32], text: &[u32], code: &[u32], marks: &mut [u8], size: usiz
     requires { Given table.now code.now text.now size marks.old × (i ≤ length text.now) }
     ensures { Shifted table.now code.now text.now size marks.old marks.new i 0 size }
 {
-    let mut p = 0;
-    while p < size {
+    for p in 0..size {
         shift_at(table, text, code, marks, size, i, p);
-        p += 1;
     }
 }
 
@@ -185,12 +183,10 @@ pub fn left(
     };
     wake(&firsts, marks, &mut work, size, 0, top, begins);
     let n = text.len();
-    let mut i = 0;
-    while i <= n {
+    for i in 0..n + 1 {
         collect(marks, &mut work, size, i, UNREACHED);
         close(code, &firsts, &afters, marks, &mut work, size, i);
         shift(table, text, code, marks, size, i);
-        i += 1;
     }
     marks[PLACE * n + (ENDS + top)] != UNREACHED
 }

@@ -37,10 +37,8 @@ pub fn note_units(code: &[u32], notes: &[u32], column: &mut [u32], size: usize)
     requires { Shape code.now size × (length notes.now ≡ 2048) × (length column.old ≡ 3789) }
     ensures { UnitsTo code.now notes.now size column.new }
 {
-    let mut p = 0;
-    while p < size {
+    for p in 0..size {
         note_unit(code, notes, column, size, p);
-        p += 1;
     }
 }
 

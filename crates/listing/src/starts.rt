@@ -22,10 +22,8 @@ fn block(column: &[u32], y: usize) -> u32
     ensures { (k : ℕ) → k < 8 → get_or column.now (y + k) 0 ≤ result }
 {
     let mut all = 0;
-    let mut k = 0;
-    while k < BLOCK {
+    for k in 0..BLOCK {
         all = joined(all, column[y + k]);
-        k += 1;
     }
     all
 }

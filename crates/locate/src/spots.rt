@@ -167,16 +167,14 @@ pub fn locate(text: &[u32], places: &mut [u32])
     ensures { Located text.now places.new }
 {
     let mut n = 0;
-    let mut i = 0;
     let mut mode = BETWEEN;
     let mut of = 0;
-    while i < text.len() {
+    for i in 0..text.len() {
         let c = text[i];
         let on = goes_on(mode, of, c);
         n = put(places, n, i, begins(on, c));
         let s = step(on, mode, of, c);
         mode = s.mode;
         of = s.of;
-        i += 1;
     }
 }

@@ -43,10 +43,8 @@ fn gather(main: &[u32], at: usize, on: &[u32; 32], count: usize) -> u32
     ensures { Gathered main.now at on.now count result }
 {
     let mut acc = 0;
-    let mut b = 0;
-    while b < count {
+    for b in 0..count {
         acc = bits::join_by(acc, main[at + b], on[b]);
-        b += 1;
     }
     acc
 }
@@ -58,11 +56,9 @@ fn add_ends(main: &[u32], n: usize, rule: usize, v: usize, on: &[u32; 32], next:
 {
     let count = lanes(n, v);
     let last = n / bits::PLACES;
-    let mut w = v;
-    while w <= last {
+    for w in v..last + 1 {
         let at = chart::cell(n, rule, bits::PLACES * v, column(n, w));
         next[w] = bits::join(next[w], gather(main, at, on, count));
-        w += 1;
     }
 }
 
@@ -84,10 +80,8 @@ fn pass(main: &[u32], n: usize, rule: usize, cur: &[u32; 8], next: &mut [u32; 8]
     ensures { Adds (Passed n main.now rule cur.now) next.old next.new }
 {
     let last = n / bits::PLACES;
-    let mut v = 0;
-    while v <= last {
+    for v in 0..last + 1 {
         add_word(main, n, rule, v, cur[v], next);
-        v += 1;
     }
 }
 
@@ -126,8 +120,7 @@ fn shift_word(
     if word == 0 {
         return;
     }
-    let mut b = 0u32;
-    while b < 32 {
+    for b in 0u32..32 {
         land(
             marks,
             p,
@@ -137,7 +130,6 @@ fn shift_word(
             bits::lit(word, b),
             next,
         );
-        b += 1;
     }
 }
 
@@ -146,10 +138,8 @@ fn shift(marks: &[u8], p: usize, width: usize, n: usize, cur: &[u32; 8], next: &
     ensures { Adds (Shifted marks.now p width n cur.now) next.old next.new }
 {
     let last = n / bits::PLACES;
-    let mut v = 0;
-    while v <= last {
+    for v in 0..last + 1 {
         shift_word(marks, p, width, n, v, cur[v], next);
-        v += 1;
     }
 }
 

@@ -52,10 +52,8 @@ pub fn fit_rows(table: &[u32], size: usize, text: &[u32], fits: &mut [u8])
     requires { RowsReady table.now size text.now fits.old }
     ensures { Rows table.now size text.now fits.old fits.new }
 {
-    let mut p = 0;
-    while p < size {
+    for p in 0..size {
         fit_item(table, size, p, text, fits);
-        p += 1;
     }
 }
 

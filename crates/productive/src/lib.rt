@@ -42,10 +42,8 @@ fn mark_live(table: &[u32], size: usize, code: &[u32], marks: &mut [bool])
     requires { Terminals table.now code.now size marks.old × Blank marks.old }
     ensures { Lively table.now code.now size marks.new }
 {
-    let mut p = 0;
-    while p < size {
+    for p in 0..size {
         mark_item(table, size, code, marks, p);
-        p += 1;
     }
 }
 
@@ -124,10 +122,8 @@ fn begin(code: &[u32], size: usize, marks: &mut [bool], missing: &mut [u32], que
     ensures { Begun code.now size marks.old missing.old queue.old
         marks.new missing.new queue.new 0 size }
 {
-    let mut p = 0;
-    while p < size {
+    for p in 0..size {
         begin_at(code, size, marks, missing, queue, p);
-        p += 1;
     }
 }
 
@@ -191,12 +187,10 @@ fn any_missing(code: &[u32], size: usize, missing: &[u32]) -> bool
     requires { Asking code.now size missing.now }
     ensures { Answers code.now size missing.now result }
 {
-    let mut dot = 0;
-    while dot < size {
+    for dot in 0..size {
         if is_missing(code, size, missing, dot) {
             return true;
         }
-        dot += 1;
     }
     false
 }

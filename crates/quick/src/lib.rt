@@ -41,10 +41,8 @@ fn clear_row(main: &mut [u32], x: usize, s: Stretch)
     ensures { Emptied s.n.0 x s.j.0 s.j.0 main.old main.new }
 {
     let y = cell(s.n.0, x, 0, s.j.0);
-    let mut i = 0;
-    while i < s.j.0 {
+    for i in 0..s.j.0 {
         main[y + i] = NONE;
-        i += 1;
     }
 }
 
@@ -90,10 +88,8 @@ fn list_column(
         × AfterDots column.old column.new }
 {
     column[LISTED] = 0;
-    let mut x = 0;
-    while x < s.size {
+    for x in 0..s.size {
         list_dot(code, marks, notes, main, column, x, s);
-        x += 1;
     }
 }
 
@@ -103,10 +99,8 @@ fn untouch(column: &mut [u32], j: usize)
     ensures { Untouched j column.old column.new }
 {
     column[FULL] = 0;
-    let mut i = 0;
-    while i < j {
+    for i in 0..j {
         column[TOUCHED + i] = 0;
-        i += 1;
     }
 }
 
@@ -115,10 +109,8 @@ fn forget(column: &mut [u32], size: usize, j: usize)
     requires { (length column.old ≡ 3789) × (size ≤ 512) × (j ≤ 200) }
     ensures { Unnoted j size column.old column.new }
 {
-    let mut y = 0;
-    while y < size {
+    for y in 0..size {
         column[LOW_FROM + y] = j as u32;
-        y += 1;
     }
 }
 
@@ -205,12 +197,10 @@ fn has_height(main: &[u32], x: usize, s: Stretch) -> bool
     requires { (s.size ≤ 512) × (s.n.0 ≤ 200) × (s.size * stretches s.n.0 ≤ length main.now) × (x < s.size) × (s.j.0 ≤ s.n.0) }
 {
     let y = cell(s.n.0, x, 0, s.j.0);
-    let mut i = 0;
-    while i < s.j.0 {
+    for i in 0..s.j.0 {
         if main[y + i] < NONE {
             return true;
         }
-        i += 1;
     }
     false
 }
@@ -233,15 +223,13 @@ fn is_idle(code: &[u32], marks: &[u8], main: &[u32], s: Stretch) -> bool
     requires { Shape code.now s.size × (1536 * s.n.0 + 1536 ≤ length marks.now) × (s.n.0 ≤ 200) × (s.size * stretches s.n.0 ≤ length main.now) × (s.j.0 ≤ s.n.0) }
 {
     let mut some = false;
-    let mut x = 0;
-    while x < s.size {
+    for x in 0..s.size {
         if wants_rule(code, marks, x, s) {
             if has_height(main, x, s) {
                 return false;
             }
             some = true;
         }
-        x += 1;
     }
     some
 }

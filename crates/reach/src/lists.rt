@@ -32,12 +32,10 @@ pub fn homes_from(code: &[u32], size: usize, table: &mut [u32], from: usize)
     requires { (size ≤ 512) × (4 * size ≤ length code.now) × (from < 2048) × (from + size ≤ length table.old) }
     ensures { HomesFrom code.now size from table.old table.new }
 {
-    let mut p = 0;
     let mut last = 0;
-    while p < size {
+    for p in 0..size {
         last = home_at(code, p, last);
         table[from + p] = last;
-        p += 1;
     }
 }
 
@@ -109,11 +107,9 @@ pub fn open_dots(code: &[u32], work: &mut [u32], size: usize, which: u32)
     requires { Keying code.now size work.old }
     ensures { Opened code.now size which work.old work.new }
 {
-    let mut p = 0;
-    while p < size {
+    for p in 0..size {
         let open = is_zero(key(code, work, size, which, p));
         work[OPEN + p] = open;
-        p += 1;
     }
 }
 
@@ -132,10 +128,8 @@ fn put_keys(code: &[u32], work: &[u32], size: usize, which: u32, keys: &mut [u32
     requires { Keying code.now size work.now × (4 * size ≤ length keys.old) × ((x : ℕ) → get_or keys.old x 0 ≡ 0) }
     ensures { Keyed code.now size which keys.new }
 {
-    let mut p = 0;
-    while p < size {
+    for p in 0..size {
         put_key(keys, p, key(code, work, size, which, p));
-        p += 1;
     }
 }
 

@@ -119,9 +119,7 @@ pub fn collect(marks: &[u8], work: &mut [u32], size: usize, i: usize, low: u8)
     ensures { Collected size low marks.now work.old work.new i }
 {
     work[TAIL] = 0;
-    let mut p = 0;
-    while p < size {
+    for p in 0..size {
         gather(marks, work, size, i, p, low);
-        p += 1;
     }
 }

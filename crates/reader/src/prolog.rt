@@ -14,13 +14,11 @@ fn word(text: &[u32], p: CharPlace, w: &[u8]) -> Past
     ensures { After-word w.now text.now p.0 result }
 {
     let mut at = p;
-    let mut k = 0;
-    while k < w.len() {
+    for k in 0..w.len() {
         if spacing::peek(text, at) != w[k] as u32 {
             return Past::No;
         }
         at = decode::after(at);
-        k += 1;
     }
     Past::At(at)
 }

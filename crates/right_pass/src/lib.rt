@@ -157,10 +157,8 @@ fn unshift(code: &[u32], marks: &mut [u8], size: usize, j: usize)
     requires { Unshifting code.now size marks.old j }
     ensures { Unshifted code.now size marks.old marks.new j 0 size }
 {
-    let mut p = 0;
-    while p < size {
+    for p in 0..size {
         unshift_at(code, marks, size, j, p);
-        p += 1;
     }
 }
 
@@ -183,9 +181,7 @@ pub fn right(table: &[u32], text: &[u32], code: &[u32], marks: &mut [u8], size: 
     };
     let n = text.len();
     wake(&ends, marks, &mut work, size, n, top, wanted);
-    let mut rest = n + 1;
-    while 0 < rest {
-        rest -= 1;
+    for rest in (0..n + 1).rev() {
         collect(marks, &mut work, size, rest, FITS);
         close(code, &uses, &ends, marks, &mut work, size, rest);
         unshift(code, marks, size, rest);

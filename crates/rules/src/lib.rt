@@ -49,10 +49,8 @@ fn owners(table: &[u32], size: usize, code: &mut [u32])
     requires { Reaches table.now size code.old }
     ensures { Owners table.now size code.old code.new }
 {
-    let mut p = size;
     let mut last = 0;
-    while 0 < p {
-        p -= 1;
+    for p in (0..size).rev() {
         last = last_at(table, p, last);
         code[chart::CODE_COLUMNS * p + chart::CODE_OWNER] = owner_at(table, p, last);
     }
@@ -99,10 +97,8 @@ fn code_items(table: &[u32], size: usize, code: &mut [u32])
     requires { Reaches table.now size code.old }
     ensures { Codes table.now size code.old code.new }
 {
-    let mut p = 0;
-    while p < size {
+    for p in 0..size {
         code_item(table, size, p, code);
-        p += 1;
     }
 }
 

@@ -87,10 +87,8 @@ fn merge(main: &mut [u32], x: usize, y: usize, k: usize, h: u32)
     ensures { (c M F : List ℕ) (size n m j p : ℕ) → Merging c M F size n m j main.old p x y k h → Merged c M F size n m j main.old p k
         main.new }
 {
-    let mut i = 0;
-    while i < k {
+    for i in 0..k {
         main[y + i] = better(main[x + i], h, main[y + i]);
-        i += 1;
     }
 }
 
@@ -120,12 +118,10 @@ fn touch_each(main: &[u32], column: &mut [u32], x: usize, k: usize) -> u32
     ensures { Touching main.now x k column.old column.new × ((result ≡ 0 → ⊥) → AllFlagged k column.new) }
 {
     let mut all = 1;
-    let mut i = 0;
-    while i < k {
+    for i in 0..k {
         let t = marked(main[x + i], column[TOUCHED + i]);
         column[TOUCHED + i] = t;
         all = both(t, all);
-        i += 1;
     }
     all
 }

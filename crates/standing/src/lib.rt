@@ -32,14 +32,12 @@ fn join_row(sets: &mut [u32; 8192], row: usize, cur: &[u32; 8]) -> bool
     ensures { Merged sets.old sets.new row cur.now result }
 {
     let mut grew = false;
-    let mut v = 0;
-    while v < bits::SET {
+    for v in 0..bits::SET {
         let at = bits::SET * row + v;
         let old = sets[at];
         let new = bits::join(old, cur[v]);
         sets[at] = new;
         grew = text::either(grew, new != old);
-        v += 1;
     }
     grew
 }
@@ -49,14 +47,12 @@ fn fresh(sets: &mut [u32; 8192], row: usize, cur: &mut [u32; 8])
     requires { row < 1024 }
     ensures { Joined sets.old sets.new row cur.old × ((x : ℕ) → Has cur.new x → Has cur.old x) }
 {
-    let mut v = 0;
-    while v < bits::SET {
+    for v in 0..bits::SET {
         let at = bits::SET * row + v;
         let old = sets[at];
         let word = cur[v];
         sets[at] = bits::join(old, word);
         cur[v] = bits::beyond(word, old);
-        v += 1;
     }
 }
 
@@ -64,10 +60,8 @@ fn take_row(sets: &[u32; 8192], row: usize, cur: &mut [u32; 8])
     requires { row < 1024 }
     ensures { Taken sets.now row cur.old cur.new }
 {
-    let mut v = 0;
-    while v < bits::SET {
+    for v in 0..bits::SET {
         cur[v] = sets[bits::SET * row + v];
-        v += 1;
     }
 }
 
@@ -169,8 +163,7 @@ fn run(
 {
     let size = t.size;
     let n = t.n;
-    let mut turns = 0;
-    while turns < TURNS {
+    for turns in 0..TURNS {
         let rule = ends::pop(queue);
         if size <= rule {
             return;
@@ -184,7 +177,6 @@ fn run(
             queue,
             Task { size, n, rule },
         );
-        turns += 1;
     }
 }
 
@@ -275,12 +267,10 @@ fn round(
     let size = t.size;
     let n = t.n;
     let mut grew = false;
-    let mut p = 0;
-    while p < size {
+    for p in 0..size {
         let dots = redo_dot(code, marks, main, sets, moves::Dot { size, n, p });
         let rules = redo_rule(firsts, sets, size, p);
         grew = text::either(grew, text::either(dots, rules));
-        p += 1;
     }
     grew
 }

@@ -99,10 +99,8 @@ fn pass(marks: &[u8], notes: &[u32], main: &[u32], flags: &mut [u8], rule: usize
     requires { Passing marks.now notes.now (length main.now) flags.old rule s.size s.n.0 s.i.0 s.p }
     ensures { Passed marks.now notes.now main.now flags.old flags.new rule s.n.0 s.i.0 s.p (s.n.0 + 1) }
 {
-    let mut m = s.i.0;
-    while m <= s.n.0 {
+    for m in s.i.0..s.n.0 + 1 {
         pass_at(marks, notes, main, flags, rule, s, CharPlace(m));
-        m += 1;
     }
 }
 
@@ -208,8 +206,7 @@ pub fn mark(
     let n = s.n;
     let p = s.p;
     enter(firsts, flags, size, CharPlace(0), p, 0);
-    let mut i = 0;
-    while i <= n.0 {
+    for i in 0..n.0 + 1 {
         close(
             code,
             firsts,
@@ -224,6 +221,5 @@ pub fn mark(
                 p,
             },
         );
-        i += 1;
     }
 }

@@ -38,12 +38,10 @@ fn bytes_at(state: &[u32], at: usize, bytes: &[u8]) -> bool
     requires { (at + length bytes.now ≤ length state.now) × (length state.now ≡ state_length) }
     ensures { Tells result (BytesAt state.now at bytes.now) }
 {
-    let mut i = 0;
-    while i < bytes.len() {
+    for i in 0..bytes.len() {
         if state[at + i] != text::wide_byte(bytes[i]) {
             return false;
         }
-        i += 1;
     }
     true
 }
@@ -93,10 +91,8 @@ fn keep(state: &mut [u32], at: usize, bytes: &[u8])
     requires { (at + length bytes.now ≤ length state.old) × (length state.old ≡ state_length) }
     ensures { Kept state.old state.new at bytes.now }
 {
-    let mut i = 0;
-    while i < bytes.len() {
+    for i in 0..bytes.len() {
         state[at + i] = text::wide_byte(bytes[i]);
-        i += 1;
     }
 }
 
@@ -149,9 +145,7 @@ pub fn finished(state: &[u32]) -> bool
 pub fn wipe(state: &mut [u32])
     ensures { Blank state.new }
 {
-    let mut x = 0;
-    while x < state.len() {
+    for x in 0..state.len() {
         state[x] = 0;
-        x += 1;
     }
 }

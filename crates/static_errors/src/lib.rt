@@ -21,12 +21,10 @@ pub fn found(table: &[u32], a: usize, index: &[u32], from: usize, n: usize) -> b
     requires { Finding table.now a index.now from n }
     ensures { result ≡ any (same (name_at table.now a)) (names_at table.now (slice from n index.now)) }
 {
-    let mut i = from;
-    while i < n {
+    for i in from..n {
         if tokens::same_name(table, a, text::wide(index[i])) {
             return true;
         }
-        i += 1;
     }
     false
 }
@@ -36,12 +34,10 @@ fn repeated(table: &[u32], index: &[u32], n: usize) -> bool
     requires { Listing table.now index.now n }
     ensures { result ≡ repeats (names_at table.now (take n index.now)) }
 {
-    let mut i = 0;
-    while i < n {
+    for i in 0..n {
         if found(table, text::wide(index[i]), index, i + 1, n) {
             return true;
         }
-        i += 1;
     }
     false
 }

@@ -60,12 +60,10 @@ fn symbol(code: &[u32], main: &[u32], layer: Layer, p: usize, i: usize, j: usize
     requires { Shape code.now layer.size layer.n (length main.now) × Place layer.size layer.n p i j × (next_kind code.now p ≡ 2) }
     ensures { (f : List ℕ) → Offered code.now f layer.size layer.n layer.height main.now p i j result }
 {
-    let mut m = i;
-    while m <= j {
+    for m in i..j + 1 {
         if split(code, main, layer, p, i, j, m) {
             return true;
         }
-        m += 1;
     }
     false
 }
@@ -177,9 +175,7 @@ fn stretch(code: &[u32], fits: &[u8], main: &mut [u32], layer: Layer, i: usize, 
         (λ t. DoneAll code.now fits.now layer.size layer.n layer.height t i j) main.old result main.new }
 {
     let mut added = false;
-    let mut p = layer.size;
-    while 0 < p {
-        p -= 1;
+    for p in (0..layer.size).rev() {
         let here = visit(code, fits, main, layer, p, i, j);
         added = text::either(added, here);
     }
@@ -195,9 +191,7 @@ fn column(code: &[u32], fits: &[u8], main: &mut [u32], layer: Layer, j: usize) -
         main.old result main.new }
 {
     let mut added = false;
-    let mut i = j + 1;
-    while 0 < i {
-        i -= 1;
+    for i in (0..j + 1).rev() {
         let here = stretch(code, fits, main, layer, i, j);
         added = text::either(added, here);
     }
@@ -220,11 +214,9 @@ pub fn sweep(
 {
     let layer = Layer { size, n, height };
     let mut added = false;
-    let mut j = 0;
-    while j <= n {
+    for j in 0..n + 1 {
         let here = column(code, fits, main, layer, j);
         added = text::either(added, here);
-        j += 1;
     }
     added
 }

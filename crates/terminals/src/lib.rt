@@ -21,12 +21,10 @@ fn spells(table: &[u32], at: usize, n: usize, text: &[u32], i: CharPlace) -> boo
     if text.len() - i.0 < n {
         return false;
     }
-    let mut k = 0;
-    while k < n {
+    for k in 0..n {
         if table[at + k] != text[i.0 + k] {
             return false;
         }
-        k += 1;
     }
     true
 }
@@ -36,12 +34,10 @@ fn is_among(table: &[u32], at: usize, n: usize, c: u32) -> bool
     requires { Stretch table.now at n }
     ensures { result ≡ among c (take n (drop at table.now)) }
 {
-    let mut k = 0;
-    while k < n {
+    for k in 0..n {
         if table[at + k] == c {
             return true;
         }
-        k += 1;
     }
     false
 }

@@ -16,12 +16,10 @@ fn all_known(table: &[u32], at: usize, n: usize) -> bool
     requires { Stretch table.now at n }
     ensures { result ≡ all Known (take n (drop at table.now)) }
 {
-    let mut k = 0;
-    while k < n {
+    for k in 0..n {
         if !alphabet::known(table[at + k]) {
             return false;
         }
-        k += 1;
     }
     true
 }
@@ -31,12 +29,10 @@ fn some_known(table: &[u32], at: usize, n: usize) -> bool
     requires { Stretch table.now at n }
     ensures { result ≡ any Known (take n (drop at table.now)) }
 {
-    let mut k = 0;
-    while k < n {
+    for k in 0..n {
         if alphabet::known(table[at + k]) {
             return true;
         }
-        k += 1;
     }
     false
 }

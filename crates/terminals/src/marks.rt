@@ -13,10 +13,8 @@ fn mark(marks: &mut [bool], from: usize, past: usize)
     requires { past ≤ length marks.old }
     ensures { Spanned marks.old marks.new from past }
 {
-    let mut k = from;
-    while k < past {
+    for k in from..past {
         marks[k] = true;
-        k += 1;
     }
 }
 
@@ -33,11 +31,9 @@ fn mark_quoted(table: &[u32], at: usize, n: usize, places: &mut [bool])
     requires { Stretch table.now at n × (length places.old ≡ 498) }
     ensures { Placed (λ c. among c (take n (drop at table.now))) places.old places.new }
 {
-    let mut k = 0;
-    while k < n {
+    for k in 0..n {
         let code = table[at + k];
         mark_range(places, code, code);
-        k += 1;
     }
 }
 

@@ -210,12 +210,10 @@ pub fn same_name(table: &[u32], a: usize, b: usize) -> bool
     if table[a + 1 + count] != table[b + 1 + count] {
         return false;
     }
-    let mut i = 0;
-    while i < count {
+    for i in 0..count {
         if table[a + CHARS + i] != table[b + CHARS + i] {
             return false;
         }
-        i += 1;
     }
     true
 }

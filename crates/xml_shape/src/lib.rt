@@ -17,9 +17,7 @@ fn is_seen(table: &[u32], seen: &[u32], count: usize, token: usize) -> bool
     requires { token < 4294967296 }
     ensures { Seen table.now seen.now count token result }
 {
-    let mut i = count;
-    while i > 0 {
-        i -= 1;
+    for i in (0..count).rev() {
         let other = tokens::look(seen, i);
         if tokens::same_if_named(table, token, other) {
             return true;

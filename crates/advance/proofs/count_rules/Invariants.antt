@@ -6,5 +6,3 @@ use Rattle.advance.proofs.count_rules.Given as goal
 abbrev pub invariant-loop-e : goal.invariant-loop-e
 invariant-loop-e l = (l.e ≤ l.size) × (l.count ≤ l.e) × (l.count ≡ name_count l.code l.e)
 
-abbrev pub decreases-loop-e : goal.decreases-loop-e
-decreases-loop-e l = l.size - l.e

@@ -5,5 +5,3 @@ use Rattle.bits.proofs.none.Given as goal
 abbrev pub invariant-loop-v : goal.invariant-loop-v
 invariant-loop-v l = (x : ℕ) → x / 32 < l.v → Has l.set x → Lit l.all (x % 32)
 
-abbrev pub decreases-loop-v : goal.decreases-loop-v
-decreases-loop-v l = 8 - l.v

@@ -38,9 +38,6 @@ returns-then-not-either c =
     (ap (λ (n : ℕ). get_or places c.loop-k.k false || get_or categories n false) (sym (by_place c.loop-k.k h))
     ∙ sym c.either.ensures ∙ c.if-not-either.true)
 
-pub overflow_add-k : goal.overflow_add-k
-overflow_add-k c = omega (arith, c.loop-k-test.true)
-
 pub loop-k-smaller : goal.loop-k-smaller
 loop-k-smaller c = omega (arith, c.loop-k-test.true)
 

@@ -15,9 +15,6 @@ offset_bounds-main-x c = omega (arith, c.loop-x-test.true, c.loop-x.invariant.1,
 pub bounds-main-x : goal.bounds-main-x
 bounds-main-x c = omega (arith, c.loop-x-test.true, c.loop-x.invariant.1, c.requires)
 
-pub overflow_add-x : goal.overflow_add-x
-overflow_add-x c = omega (arith, c.loop-x-test.true, c.requires)
-
 pub loop-x-smaller : goal.loop-x-smaller
 loop-x-smaller c = omega (arith, c.loop-x-test.true)
 

@@ -7,5 +7,3 @@ use Rattle.chart.proofs.clear.Given as goal
 abbrev pub invariant-loop-x : goal.invariant-loop-x
 invariant-loop-x l = (l.x ≤ l.k) × (length l.main ≡ length l.initial.main) × ((y : ℕ) → y < l.x → get_or l.main y 0 ≡ none)
 
-abbrev pub decreases-loop-x : goal.decreases-loop-x
-decreases-loop-x l = l.k - l.x

@@ -5,5 +5,3 @@ use Rattle.chart.proofs.list_uses.Given as goal
 abbrev pub invariant-loop-p : goal.invariant-loop-p
 invariant-loop-p l = Listed l.code l.size l.initial.uses l.p l.uses
 
-abbrev pub decreases-loop-p : goal.decreases-loop-p
-decreases-loop-p l = l.size - l.p

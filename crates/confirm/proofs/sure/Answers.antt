@@ -10,9 +10,6 @@ loop-p-init c = best-start (λ q i z. omega (arith, z))
 pub far_row-far-requires : goal.far_row-far-requires
 far_row-far-requires c = (c.requires, c.loop-p-test.true)
 
-pub overflow_add-p : goal.overflow_add-p
-overflow_add-p c = omega (arith, c.loop-p-test.true, c.requires.tokened.shape.small)
-
 pub loop-p-smaller : goal.loop-p-smaller
 loop-p-smaller c = omega (arith, c.loop-p-test.true)
 

@@ -13,9 +13,6 @@ loop-i-init c = (omega arith, refl)
 pub bounds-digits-i : goal.bounds-digits-i
 bounds-digits-i c = omega arith
 
-pub overflow_add-i : goal.overflow_add-i
-overflow_add-i c = omega arith
-
 pub loop-i-smaller : goal.loop-i-smaller
 loop-i-smaller c = omega arith
 

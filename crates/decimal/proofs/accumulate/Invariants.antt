@@ -7,5 +7,3 @@ use Rattle.decimal.proofs.accumulate.Given as goal
 abbrev pub invariant-loop-i : goal.invariant-loop-i
 invariant-loop-i l = (l.i ≤ length l.digits) × (digits_from l.value l.digits ≡ digits_from l.v (drop l.i l.digits))
 
-abbrev pub decreases-loop-i : goal.decreases-loop-i
-decreases-loop-i l = length l.digits - l.i

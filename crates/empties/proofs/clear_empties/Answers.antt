@@ -15,9 +15,6 @@ offset_bounds-notes-p c = omega (arith, c.loop-p-test.true, c.requires.1)
 pub bounds-notes-p : goal.bounds-notes-p
 bounds-notes-p c = omega (arith, c.loop-p-test.true, c.requires.0, c.requires.1, c.loop-p.invariant.cleared.long)
 
-pub overflow_add-p : goal.overflow_add-p
-overflow_add-p c = omega (arith, c.loop-p-test.true, c.requires.1)
-
 pub loop-p-smaller : goal.loop-p-smaller
 loop-p-smaller c = omega (arith, c.loop-p-test.true)
 

@@ -5,5 +5,3 @@ use Rattle.empties.proofs.clear_empties.Given as goal
 abbrev pub invariant-loop-p : goal.invariant-loop-p
 invariant-loop-p l = ClearTo l.size l.initial.notes l.notes l.p
 
-abbrev pub decreases-loop-p : goal.decreases-loop-p
-decreases-loop-p l = l.size - l.p

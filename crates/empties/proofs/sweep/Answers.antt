@@ -9,9 +9,6 @@ loop-p-init c =
     let a = c.args in
     (omega arith, stay (from_end a.code.now a.size a.notes.now))
 
-pub overflow_sub-p : goal.overflow_sub-p
-overflow_sub-p c = omega (arith, c.loop-p-test.true)
-
 pub lower_on-here-requires : goal.lower_on-here-requires
 lower_on-here-requires c =
     (c.requires.0, c.loop-p.invariant.1.long ∙ c.requires.1, omega (arith, c.loop-p.invariant.0, c.loop-p-test.true))

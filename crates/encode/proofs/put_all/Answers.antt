@@ -15,9 +15,6 @@ bounds-s-i c = omega arith
 pub put-at-requires : goal.put-at-requires
 put-at-requires c = omega arith
 
-pub overflow_add-i : goal.overflow_add-i
-overflow_add-i c = omega arith
-
 pub loop-i-smaller : goal.loop-i-smaller
 loop-i-smaller c = omega arith
 

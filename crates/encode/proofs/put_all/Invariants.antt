@@ -7,5 +7,3 @@ use Rattle.encode.proofs.put_all.Given as goal
 abbrev pub invariant-loop-i : goal.invariant-loop-i
 invariant-loop-i l = (length l.out ≡ length l.initial.out) × (l.i ≤ length l.s) × (puts l.limit.0 (state l.at.0 l.out) (drop l.i l.s) ≡ puts l.limit.0 (state l.initial.at.0 l.initial.out) l.s)
 
-abbrev pub decreases-loop-i : goal.decreases-loop-i
-decreases-loop-i l = length l.s - l.i

@@ -20,10 +20,6 @@ begin_at-one-requires c =
       on = c.requires.3;
     }
 
-pub overflow_add-rule : goal.overflow_add-rule
-overflow_add-rule c =
-    omega (arith, c.loop-rule-test.true, c.requires.1)
-
 pub loop-rule-smaller : goal.loop-rule-smaller
 loop-rule-smaller c =
     omega (arith, c.loop-rule-test.true)

@@ -5,5 +5,3 @@ use Rattle.ends.proofs.clear_row.Given as goal
 abbrev pub invariant-loop-w : goal.invariant-loop-w
 invariant-loop-w l = (l.m / 32 ≤ l.w) × Clearing l.n l.initial.main l.main l.rule l.m l.w
 
-abbrev pub decreases-loop-w : goal.decreases-loop-w
-decreases-loop-w l = l.last + 1 - l.w

@@ -6,15 +6,8 @@ use Rattle.ends.proofs.Laws.{ground-as}
 use Rattle.ends.proofs.Rounds.{exact_none, opened-sound, exact-closed, exact-empty, exact-filled}
 use Rattle.ends.proofs.fill.Goals as goal
 
-pub overflow_add-m : goal.overflow_add-m
-overflow_add-m c =
-    omega (arith, c.requires.0.short)
-
 pub loop-m-init : goal.loop-m-init
 loop-m-init c = (omega arith, refl, exact_none)
-
-pub overflow_sub-m : goal.overflow_sub-m
-overflow_sub-m c = omega (arith, c.loop-m-test.true)
 
 pub begin-requires : goal.begin-requires
 begin-requires c = (

@@ -10,9 +10,6 @@ pub loop-rule-init : goal.loop-rule-init
 loop-rule-init c =
     (omega arith, rounded-start c.requires)
 
-pub overflow_sub-rule : goal.overflow_sub-rule
-overflow_sub-rule c = omega (arith, c.loop-rule-test.true)
-
 pub redo-more-requires : goal.redo-more-requires
 redo-more-requires c =
     (settling-as c.requires c.loop-rule.invariant.1.settled, omega (arith, c.loop-rule.invariant.0, c.loop-rule-test.true))

@@ -5,5 +5,3 @@ use Rattle.ends.proofs.settle.Given as goal
 abbrev pub invariant-loop-turns : goal.invariant-loop-turns
 invariant-loop-turns l = Settled l.code l.firsts l.marks l.size l.n l.m l.initial.main l.main
 
-abbrev pub decreases-loop-turns : goal.decreases-loop-turns
-decreases-loop-turns l = 65536 - l.turns

@@ -19,9 +19,6 @@ offset_bounds-to-i c = omega (arith, c.requires.1, c.loop-i-test.true)
 pub bounds-to-i : goal.bounds-to-i
 bounds-to-i c = omega (arith, c.requires.1, c.loop-i-test.true, c.loop-i.invariant.long)
 
-pub overflow_add-i : goal.overflow_add-i
-overflow_add-i c = omega (arith, c.requires.1, c.loop-i-test.true)
-
 pub loop-i-smaller : goal.loop-i-smaller
 loop-i-smaller c = omega (arith, c.loop-i-test.true)
 

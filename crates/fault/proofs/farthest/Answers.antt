@@ -7,10 +7,7 @@ pub loop-i-init : goal.loop-i-init
 loop-i-init c = (reach-none, omega arith)
 
 pub farthest_at-far-requires : goal.farthest_at-far-requires
-farthest_at-far-requires c = (ranging-at _ c.requires.0 c.loop-i-test.true, c.requires.1)
-
-pub overflow_add-i : goal.overflow_add-i
-overflow_add-i c = omega (arith, c.loop-i-test.true, c.requires.0.short)
+farthest_at-far-requires c = (ranging-at _ c.requires.0 (omega (arith, c.loop-i-test.true)), c.requires.1)
 
 pub loop-i-smaller : goal.loop-i-smaller
 loop-i-smaller c = omega (arith, c.loop-i-test.true)

@@ -9,9 +9,6 @@ loop-p-init c = (ranged-none, omega arith)
 pub farther-far-requires : goal.farther-far-requires
 farther-far-requires c = (c.requires.0, c.loop-p-test.true, c.requires.1)
 
-pub overflow_add-p : goal.overflow_add-p
-overflow_add-p c = omega (arith, c.loop-p-test.true, c.requires.0.tokened.shape.small)
-
 pub loop-p-smaller : goal.loop-p-smaller
 loop-p-smaller c = omega (arith, c.loop-p-test.true)
 

@@ -6,9 +6,6 @@ use Rattle.fault.proofs.put_keys.Goals as goal
 pub loop-p-init : goal.loop-p-init
 loop-p-init c = keying-start c.requires.1 c.requires.2
 
-pub overflow_sub-p : goal.overflow_sub-p
-overflow_sub-p c = omega (arith, c.loop-p-test.true)
-
 pub finishes-alive-requires : goal.finishes-alive-requires
 finishes-alive-requires c =
     (c.requires.0, omega (arith, c.loop-p.invariant.low, c.loop-p-test.true), keying-tells c.requires.0.shape c.loop-p.invariant c.loop-p-test.true)

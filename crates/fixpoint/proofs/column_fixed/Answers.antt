@@ -18,10 +18,6 @@ returns-then-not-stretch_fixed c =
     c.loop-i.i (c.args.j + 1) (omega (arith, c.loop-i-test.true))
     (not_so c.stretch_fixed.ensures c.if-not-stretch_fixed.true)
 
-pub overflow_add-i : goal.overflow_add-i
-overflow_add-i c =
-    omega (arith, c.loop-i-test.true, c.requires.1, c.requires.0.shape.cells.short)
-
 pub loop-i-smaller : goal.loop-i-smaller
 loop-i-smaller c =
     omega (arith, c.loop-i-test.true)

@@ -17,10 +17,6 @@ returns-then-not-column_fixed c =
     miss (λ a. not_so c.column_fixed.ensures c.if-not-column_fixed.true
     (fixed-ends _ _ _ _ _ a c.loop-j.j (omega (arith, c.loop-j-test.true))))
 
-pub overflow_add-j : goal.overflow_add-j
-overflow_add-j c =
-    omega (arith, c.loop-j-test.true, c.requires.shape.cells.short)
-
 pub loop-j-smaller : goal.loop-j-smaller
 loop-j-smaller c =
     omega (arith, c.loop-j-test.true)

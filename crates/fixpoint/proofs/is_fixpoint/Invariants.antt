@@ -5,5 +5,3 @@ use Rattle.fixpoint.proofs.is_fixpoint.Given as goal
 abbrev pub invariant-loop-j : goal.invariant-loop-j
 invariant-loop-j l = (l.j ≤ l.n + 1) × EndsFixed l.code l.fits l.size l.n l.main l.j
 
-abbrev pub decreases-loop-j : goal.decreases-loop-j
-decreases-loop-j l = l.n + 1 - l.j

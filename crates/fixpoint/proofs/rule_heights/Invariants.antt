@@ -8,5 +8,3 @@ abbrev pub invariant-loop-p : goal.invariant-loop-p
 invariant-loop-p l =
     (l.p ≤ l.size) × (length l.heights ≡ length l.initial.heights) × Leasts l.code l.main l.size l.at.n l.at.i l.at.j l.p l.heights
 
-abbrev pub decreases-loop-p : goal.decreases-loop-p
-decreases-loop-p l = l.size - l.p

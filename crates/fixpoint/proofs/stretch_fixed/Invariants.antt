@@ -5,5 +5,3 @@ use Rattle.fixpoint.proofs.stretch_fixed.Given as goal
 abbrev pub invariant-loop-p : goal.invariant-loop-p
 invariant-loop-p l = (l.p ≤ l.size) × DotsFixed l.code l.fits l.size l.at.n l.main l.at.i l.at.j l.p
 
-abbrev pub decreases-loop-p : goal.decreases-loop-p
-decreases-loop-p l = l.size - l.p

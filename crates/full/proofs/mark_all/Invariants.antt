@@ -5,5 +5,3 @@ use Rattle.full.proofs.mark_all.Given as goal
 abbrev pub invariant-loop-i : goal.invariant-loop-i
 invariant-loop-i l = Marked l.code l.fits l.size l.i l.marks × (l.i ≤ l.n + 1)
 
-abbrev pub decreases-loop-i : goal.decreases-loop-i
-decreases-loop-i l = l.n + 1 - l.i

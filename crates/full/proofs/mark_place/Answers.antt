@@ -48,9 +48,6 @@ bounds-marks-base-in-loop-p-2 c =
     Below-set _ (set c.loop-p.marks _ _) _ _ _ (Below-set _ c.loop-p.marks _ _ _
     (omega (arith, c.requires.0.short, c.requires.0.small, c.requires.1, c.loop-p.invariant.1, c.loop-p.invariant.0.long, c.loop-p-test.true)))
 
-pub overflow_add-p : goal.overflow_add-p
-overflow_add-p c = omega (arith, c.requires.0.small, c.loop-p-test.true)
-
 pub loop-p-smaller : goal.loop-p-smaller
 loop-p-smaller c = omega (arith, c.loop-p-test.true)
 

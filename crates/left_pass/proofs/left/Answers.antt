@@ -74,14 +74,6 @@ shift-requires c =
       on,
     )
 
-pub overflow_add-i : goal.overflow_add-i
-overflow_add-i c = omega (
-  arith,
-  c.loop-i-test.true,
-  c.loop-i.invariant.2,
-  c.requires.given.short,
-)
-
 pub loop-i-smaller : goal.loop-i-smaller
 loop-i-smaller c = omega (arith, c.loop-i-test.true)
 

@@ -7,5 +7,3 @@ use Rattle.left_pass.proofs.left.Given as goal
 abbrev pub invariant-loop-i : goal.invariant-loop-i
 invariant-loop-i l = Passing l.table l.code l.text l.size l.top (length l.initial.marks) l.marks l.work l.i × (l.i ≤ l.n + 1) × (l.n ≡ length l.text)
 
-abbrev pub decreases-loop-i : goal.decreases-loop-i
-decreases-loop-i l = l.n + 1 - l.i

@@ -5,5 +5,3 @@ use Rattle.left_pass.proofs.shift.Given as goal
 abbrev pub invariant-loop-p : goal.invariant-loop-p
 invariant-loop-p l = Shifted l.table l.code l.text l.size l.initial.marks l.marks l.i 0 l.p × (l.p ≤ l.size)
 
-abbrev pub decreases-loop-p : goal.decreases-loop-p
-decreases-loop-p l = l.size - l.p

@@ -7,5 +7,3 @@ use Rattle.listing.proofs.note_units.Given as goal
 abbrev pub invariant-loop-p : goal.invariant-loop-p
 invariant-loop-p l = (l.p ≤ l.size) × UnitsTo l.code l.notes l.p l.column × (length l.column ≡ 3789)
 
-abbrev pub decreases-loop-p : goal.decreases-loop-p
-decreases-loop-p l = l.size - l.p

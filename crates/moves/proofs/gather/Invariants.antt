@@ -5,5 +5,3 @@ use Rattle.moves.proofs.gather.Given as goal
 abbrev pub invariant-loop-b : goal.invariant-loop-b
 invariant-loop-b l = (l.b ≤ l.count) × Gathered l.main l.at l.on l.b l.acc
 
-abbrev pub decreases-loop-b : goal.decreases-loop-b
-decreases-loop-b l = l.count - l.b

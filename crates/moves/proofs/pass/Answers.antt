@@ -1,3 +1,4 @@
+use native.Mathlib.Omega.{arith}
 use mathlib.Core.Bool.{true, false}
 use Prim.Native.Nat.{◌-◌}
 use Rattle.moves.proofs.Cells.{passed_start, passed-next, passed-end}
@@ -7,11 +8,11 @@ pub loop-v-init : goal.loop-v-init
 loop-v-init c = passed_start
 
 pub add_word-requires : goal.add_word-requires
-add_word-requires c = (c.requires, c.loop-v-test.true)
+add_word-requires c = (c.requires, (omega (arith, c.loop-v-test.true)))
 
 pub loop-v-preserved : goal.loop-v-preserved
 loop-v-preserved c =
     passed-next c.args.cur.now c.loop-v.invariant c.add_word.ensures
 
 pub returns : goal.returns
-returns c = passed-end c.args.cur.now c.loop-v-test.false c.loop-v.invariant
+returns c = passed-end c.args.cur.now (omega (arith, c.loop-v-test.false)) c.loop-v.invariant

@@ -15,4 +15,4 @@ loop-v-preserved c =
     shifted_next c.args.cur.now c.loop-v.invariant c.shift_word.ensures
 
 pub returns : goal.returns
-returns c = shifted_end c.args.cur.now c.loop-v-test.false c.loop-v.invariant
+returns c = shifted_end c.args.cur.now (omega (arith, c.loop-v-test.false)) c.loop-v.invariant

@@ -19,10 +19,6 @@ fit_item-requires c = (
   c.loop-p-test.true,
 )
 
-pub overflow_add-p : goal.overflow_add-p
-overflow_add-p c =
-    omega (arith, c.requires.small, c.loop-p.invariant.low, c.loop-p.invariant.long, c.loop-p-test.true)
-
 pub loop-p-smaller : goal.loop-p-smaller
 loop-p-smaller c =
     omega (arith, c.requires.small, c.loop-p.invariant.low, c.loop-p.invariant.long, c.loop-p-test.true)

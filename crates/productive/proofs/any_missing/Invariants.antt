@@ -5,5 +5,3 @@ use Rattle.productive.proofs.any_missing.Given as goal
 abbrev pub invariant-loop-dot : goal.invariant-loop-dot
 invariant-loop-dot l = Scanned l.code l.missing l.dot
 
-abbrev pub decreases-loop-dot : goal.decreases-loop-dot
-decreases-loop-dot l = l.size - l.dot

@@ -12,10 +12,6 @@ pub begin_at-requires : goal.begin_at-requires
 begin_at-requires c =
     record { kept = c.loop-p.invariant.0.moved.kept; inside = c.loop-p-test.true }
 
-pub overflow_add-p : goal.overflow_add-p
-overflow_add-p c =
-    omega (arith, c.loop-p-test.true)
-
 pub loop-p-smaller : goal.loop-p-smaller
 loop-p-smaller c =
     omega (arith, c.loop-p-test.true)

@@ -11,10 +11,6 @@ pub mark_item-requires : goal.mark_item-requires
 mark_item-requires c =
     (marking-terminals c.requires.0 c.loop-p.invariant, c.loop-p-test.true)
 
-pub overflow_add-p : goal.overflow_add-p
-overflow_add-p c =
-    omega (arith, c.loop-p-test.true)
-
 pub loop-p-smaller : goal.loop-p-smaller
 loop-p-smaller c =
     omega (arith, c.loop-p-test.true)

@@ -5,5 +5,3 @@ use Rattle.productive.proofs.mark_live.Given as goal
 abbrev pub invariant-loop-p : goal.invariant-loop-p
 invariant-loop-p l = Marking l.table l.code l.size l.initial.marks l.marks l.p
 
-abbrev pub decreases-loop-p : goal.decreases-loop-p
-decreases-loop-p l = l.size - l.p

@@ -24,10 +24,6 @@ pub bounds-column-y : goal.bounds-column-y
 bounds-column-y c =
     omega (arith, c.loop-y-test.true, c.requires.0, c.requires.1, c.loop-y.invariant.1.long)
 
-pub overflow_add-y : goal.overflow_add-y
-overflow_add-y c =
-    omega (arith, c.loop-y-test.true, c.requires.1)
-
 pub loop-y-smaller : goal.loop-y-smaller
 loop-y-smaller c = omega (arith, c.loop-y-test.true)
 

@@ -5,5 +5,3 @@ use Rattle.quick.proofs.forget.Given as goal
 abbrev pub invariant-loop-y : goal.invariant-loop-y
 invariant-loop-y l = (l.y ≤ l.size) × Unnoted l.j l.y l.initial.column l.column
 
-abbrev pub decreases-loop-y : goal.decreases-loop-y
-decreases-loop-y l = l.size - l.y

@@ -4,5 +4,3 @@ use Rattle.quick.proofs.is_idle.Given as goal
 abbrev pub invariant-loop-x : goal.invariant-loop-x
 invariant-loop-x l = l.x ≤ l.s.size
 
-abbrev pub decreases-loop-x : goal.decreases-loop-x
-decreases-loop-x l = l.s.size - l.x

@@ -7,5 +7,3 @@ invariant-loop-x l =
     (l.x ≤ l.s.size) × ListedTo l.code l.marks l.s.n.0 l.s.j.0 l.x l.column × ClearedTo l.code l.marks l.s.n.0 l.s.j.0 l.x l.initial.main l.main
     × AfterDots l.initial.column l.column
 
-abbrev pub decreases-loop-x : goal.decreases-loop-x
-decreases-loop-x l = l.s.size - l.x

@@ -5,5 +5,3 @@ use Rattle.quick.proofs.untouch.Given as goal
 abbrev pub invariant-loop-i : goal.invariant-loop-i
 invariant-loop-i l = (l.i ≤ l.j) × Untouched l.i l.initial.column l.column
 
-abbrev pub decreases-loop-i : goal.decreases-loop-i
-decreases-loop-i l = l.j - l.i

@@ -42,19 +42,10 @@ wake-requires c = want-waking c.requires c.homes.ensures
     c.open_dots.ensures (all-zero 1537) (length-replicate {A = ℕ} 1537 0)
     c.list_dots-2.ensures
 
-pub overflow_add-rest : goal.overflow_add-rest
-overflow_add-rest c = omega (
-  arith,
-  c.requires.short,
-)
-
 pub loop-rest-init : goal.loop-rest-init
 loop-rest-init c =
     let p = back_start c.requires c.homes.ensures c.open_dots.ensures (all-zero 1537) (length-replicate {A = ℕ} 1537 0) c.list_dots-2.ensures c.wake.ensures in
     (p, omega arith, refl)
-
-pub overflow_sub-rest : goal.overflow_sub-rest
-overflow_sub-rest c = omega (arith, c.loop-rest-test.true)
 
 pub collect-requires : goal.collect-requires
 collect-requires c = back-collects c.requires (back_at c.loop-rest.invariant.0

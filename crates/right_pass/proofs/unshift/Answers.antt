@@ -9,9 +9,6 @@ loop-p-init c = (unshift-start _ _ _ _, omega arith)
 pub unshift_at-requires : goal.unshift_at-requires
 unshift_at-requires c = (unshifting-next c.requires c.loop-p.invariant.0.long, c.loop-p-test.true)
 
-pub overflow_add-p : goal.overflow_add-p
-overflow_add-p c = omega (arith, c.loop-p-test.true, c.requires.shape.small)
-
 pub loop-p-smaller : goal.loop-p-smaller
 loop-p-smaller c = omega (arith, c.loop-p-test.true)
 

@@ -5,5 +5,3 @@ use Rattle.right_pass.proofs.unshift.Given as goal
 abbrev pub invariant-loop-p : goal.invariant-loop-p
 invariant-loop-p l = Unshifted l.code l.size l.initial.marks l.marks l.j 0 l.p × (l.p ≤ l.size)
 
-abbrev pub decreases-loop-p : goal.decreases-loop-p
-decreases-loop-p l = l.size - l.p

@@ -16,10 +16,6 @@ code_item-requires c =
       reach = c.requires.reach c.loop-p.p c.loop-p-test.true;
     }
 
-pub overflow_add-p : goal.overflow_add-p
-overflow_add-p c =
-    omega (arith, c.requires.long, c.requires.small, c.requires.room, c.loop-p.invariant.low, c.loop-p.invariant.long, c.loop-p-test.true)
-
 pub loop-p-smaller : goal.loop-p-smaller
 loop-p-smaller c =
     omega (arith, c.requires.long, c.requires.small, c.requires.room, c.loop-p.invariant.low, c.loop-p.invariant.long, c.loop-p-test.true)

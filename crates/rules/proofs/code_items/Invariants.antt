@@ -5,5 +5,3 @@ use Rattle.rules.proofs.code_items.Given as goal
 abbrev pub invariant-loop-p : goal.invariant-loop-p
 invariant-loop-p l = Coding l.table l.size l.initial.code l.code l.p
 
-abbrev pub decreases-loop-p : goal.decreases-loop-p
-decreases-loop-p l = l.size - l.p

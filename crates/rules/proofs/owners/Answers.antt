@@ -6,10 +6,6 @@ use Rattle.rules.proofs.owners.Goals as goal
 pub loop-p-init : goal.loop-p-init
 loop-p-init c = own-start c.args.table.now c.args.size c.args.code.now
 
-pub overflow_sub-p : goal.overflow_sub-p
-overflow_sub-p c =
-    omega (arith, c.requires.long, c.requires.small, c.requires.room, c.loop-p.invariant.low, c.loop-p.invariant.long, c.loop-p.invariant.small, c.loop-p-test.true)
-
 pub last_at-last-requires : goal.last_at-last-requires
 last_at-last-requires c = (c.requires.long, omega (arith, c.requires.small, c.loop-p.invariant.low, c.loop-p-test.true))
 

@@ -5,5 +5,3 @@ use Rattle.rules.proofs.owners.Given as goal
 abbrev pub invariant-loop-p : goal.invariant-loop-p
 invariant-loop-p l = Owning l.table l.size l.initial.code l.code l.p l.last
 
-abbrev pub decreases-loop-p : goal.decreases-loop-p
-decreases-loop-p l = l.p

@@ -10,5 +10,3 @@ invariant-loop-i l =
     (l.i ≤ l.k) × (length l.main ≡ length l.initial.main)
     × ((o M F : List ℕ) (size n m j p : ℕ) → Merging o M F size n m j l.initial.main p l.x l.y l.k l.h → Merged o M F size n m j l.initial.main p l.i l.main)
 
-abbrev pub decreases-loop-i : goal.decreases-loop-i
-decreases-loop-i l = l.k - l.i

@@ -22,10 +22,6 @@ pub bounds-main-x : goal.bounds-main-x
 bounds-main-x c =
     omega (arith, c.loop-i-test.true, c.requires.0)
 
-pub overflow_add-i : goal.overflow_add-i
-overflow_add-i c =
-    omega (arith, c.loop-i-test.true, c.requires.1)
-
 pub offset_bounds-column-i : goal.offset_bounds-column-i
 offset_bounds-column-i c =
     omega (arith, c.loop-i-test.true, c.requires.1)

@@ -22,10 +22,6 @@ pub redo_rule-rules-requires : goal.redo_rule-rules-requires
 redo_rule-rules-requires c =
     (c.requires.linked, c.requires.shape.small, c.loop-p-test.true)
 
-pub overflow_add-p : goal.overflow_add-p
-overflow_add-p c =
-    omega (arith, c.loop-p-test.true, c.requires.shape.small)
-
 pub loop-p-smaller : goal.loop-p-smaller
 loop-p-smaller c =
     omega (arith, c.loop-p-test.true)

@@ -5,5 +5,3 @@ use Rattle.standing.proofs.run.Given as goal
 abbrev pub invariant-loop-turns : goal.invariant-loop-turns
 invariant-loop-turns l = Ran l.code l.firsts l.marks l.size l.n l.main l.initial.sets l.sets
 
-abbrev pub decreases-loop-turns : goal.decreases-loop-turns
-decreases-loop-turns l = 262144 - l.turns

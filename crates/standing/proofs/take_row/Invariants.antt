@@ -9,5 +9,3 @@ abbrev pub invariant-loop-v : goal.invariant-loop-v
 invariant-loop-v l = (l.v ≤ 8) × ((x : ℕ) → x / 32 < l.v → Has l.cur x → Member l.sets l.row x) × (length l.cur ≡ length l.initial.cur)
     × (length l.initial.cur ≡ 8 → (x : ℕ) → x / 32 < l.v → Member l.sets l.row x → Has l.cur x)
 
-abbrev pub decreases-loop-v : goal.decreases-loop-v
-decreases-loop-v l = 8 - l.v

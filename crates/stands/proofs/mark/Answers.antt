@@ -21,21 +21,17 @@ loop-i-init c =
 
 pub close-requires : goal.close-requires
 close-requires c =
-    marks-standing c.requires.0 c.loop-i.invariant c.loop-i-test.true
-
-pub overflow_add-i : goal.overflow_add-i
-overflow_add-i c =
-    omega (arith, c.loop-i-test.true, c.requires.0.ground.tables.short)
+    marks-standing c.requires.0 c.loop-i.invariant (omega (arith, c.loop-i-test.true))
 
 pub loop-i-smaller : goal.loop-i-smaller
 loop-i-smaller c = omega (arith, c.loop-i-test.true)
 
 pub loop-i-preserved : goal.loop-i-preserved
-loop-i-preserved c = marks-next c.loop-i.invariant c.loop-i-test.true c.close.ensures
+loop-i-preserved c = marks-next c.loop-i.invariant (omega (arith, c.loop-i-test.true)) c.close.ensures
 
 pub shape_of-flags : goal.shape_of-flags
 shape_of-flags c = c.loop-i.invariant.long ∙ sym c.requires.0.long
 
 pub returns : goal.returns
 returns c =
-    marks-end c.requires.2 c.requires.0.ground c.loop-i.invariant c.loop-i-test.false
+    marks-end c.requires.2 c.requires.0.ground c.loop-i.invariant (omega (arith, c.loop-i-test.false))

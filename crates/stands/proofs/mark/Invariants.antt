@@ -5,5 +5,3 @@ use Rattle.stands.proofs.mark.Given as goal
 abbrev pub invariant-loop-i : goal.invariant-loop-i
 invariant-loop-i l = Marks l.code l.firsts l.marks l.notes l.main l.flags l.size l.n.0 l.p l.i
 
-abbrev pub decreases-loop-i : goal.decreases-loop-i
-decreases-loop-i l = l.n.0 + 1 - l.i

@@ -11,11 +11,8 @@ pass_at-requires c =
     let pre = c.requires in (
       record { reads = pre.reads; inside = pre.inside; next = pre.next; on = pre.on; long = omega (arith, pre.long, (c.loop-m.invariant.0.added c.args.notes.now).long) },
       c.loop-m.invariant.1,
-      c.loop-m-test.true,
+      (omega (arith, c.loop-m-test.true)),
     )
-
-pub overflow_add-m : goal.overflow_add-m
-overflow_add-m c = omega (arith, c.loop-m-test.true, c.requires.reads.short)
 
 pub loop-m-smaller : goal.loop-m-smaller
 loop-m-smaller c = omega (arith, c.loop-m-test.true)

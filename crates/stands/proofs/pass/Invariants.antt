@@ -5,5 +5,3 @@ use Rattle.stands.proofs.pass.Given as goal
 abbrev pub invariant-loop-m : goal.invariant-loop-m
 invariant-loop-m l = Passed l.marks l.notes l.main l.initial.flags l.flags l.rule l.s.n.0 l.s.i.0 l.s.p l.m × (l.s.i.0 ≤ l.m) × (l.m ≤ l.s.n.0 + 1)
 
-abbrev pub decreases-loop-m : goal.decreases-loop-m
-decreases-loop-m l = l.s.n.0 + 1 - l.m

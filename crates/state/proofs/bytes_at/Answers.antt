@@ -23,10 +23,6 @@ returns-then-state-at c =
     bytes-differ c.args.state.now c.args.bytes.now c.args.at c.loop-i.i c.wide_byte.result c.loop-i-test.true
     c.wide_byte.ensures c.if-state-at.true
 
-pub overflow_add-i : goal.overflow_add-i
-overflow_add-i c =
-    omega (arith, c.loop-i-test.true, c.requires.0, c.requires.1)
-
 pub loop-i-smaller : goal.loop-i-smaller
 loop-i-smaller c =
     omega (arith, c.loop-i-test.true)

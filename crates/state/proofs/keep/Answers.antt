@@ -18,10 +18,6 @@ pub bounds-state-at : goal.bounds-state-at
 bounds-state-at c =
     omega (arith, c.loop-i-test.true, c.requires.0, c.loop-i.invariant.long)
 
-pub overflow_add-i : goal.overflow_add-i
-overflow_add-i c =
-    omega (arith, c.loop-i-test.true, c.requires.0, c.requires.1)
-
 pub loop-i-smaller : goal.loop-i-smaller
 loop-i-smaller c =
     omega (arith, c.loop-i-test.true)

@@ -6,5 +6,3 @@ use Rattle.state.proofs.wipe.Given as goal
 abbrev pub invariant-loop-x : goal.invariant-loop-x
 invariant-loop-x l = (l.x ≤ length l.state) × (length l.state ≡ length l.initial.state) × ((y : ℕ) → y < l.x → get_or l.state y 0 ≡ 0)
 
-abbrev pub decreases-loop-x : goal.decreases-loop-x
-decreases-loop-x l = length l.state - l.x

@@ -22,9 +22,6 @@ returns-then-same_name c =
     law.found_here c.args.table.now c.args.a c.args.index.now c.args.from c.args.n c.loop-i.i c.requires.listing.few c.loop-i.invariant c.loop-i-test.true
     c.wide.result c.wide.ensures c.same_name.result c.same_name.ensures c.if-same_name.true
 
-pub overflow_add-i : goal.overflow_add-i
-overflow_add-i c = let l = c.loop-i-test.true in let h = c.requires.listing.few in omega arith
-
 pub loop-i-smaller : goal.loop-i-smaller
 loop-i-smaller c = let l = c.loop-i-test.true in omega arith
 

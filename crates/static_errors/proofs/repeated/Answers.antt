@@ -13,9 +13,6 @@ offset_bounds-index-i c = let l = c.loop-i-test.true in let h = c.requires.few i
 pub bounds-index-i : goal.bounds-index-i
 bounds-index-i c = let l = c.loop-i-test.true in let h = c.requires.few in omega arith
 
-pub overflow_add-i : goal.overflow_add-i
-overflow_add-i c = let l = c.loop-i-test.true in let h = c.requires.few in omega arith
-
 pub found-requires : goal.found-requires
 found-requires c =
     record { name = rw c.wide.ensures (c.requires.each c.loop-i.i c.loop-i-test.true); listing = c.requires; low = (let l = c.loop-i-test.true in omega arith) }
@@ -25,9 +22,6 @@ returns-then-found c =
     law.repeat-here c.args.table.now c.args.index.now c.args.n c.loop-i.i c.requires.few
     c.loop-i.invariant c.loop-i-test.true c.wide.result c.wide.ensures c.found.result
     c.found.ensures c.if-found.true
-
-pub overflow_add-i-in-loop-i : goal.overflow_add-i-in-loop-i
-overflow_add-i-in-loop-i c = let l = c.loop-i-test.true in let h = c.requires.few in omega arith
 
 pub loop-i-smaller : goal.loop-i-smaller
 loop-i-smaller c = let l = c.loop-i-test.true in omega arith

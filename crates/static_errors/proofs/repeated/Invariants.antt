@@ -5,5 +5,3 @@ use Rattle.static_errors.proofs.repeated.Given as goal
 abbrev pub invariant-loop-i : goal.invariant-loop-i
 invariant-loop-i l = law.RepeatsAt l.table l.index l.n l.i
 
-abbrev pub decreases-loop-i : goal.decreases-loop-i
-decreases-loop-i l = l.n - l.i

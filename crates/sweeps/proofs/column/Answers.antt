@@ -5,17 +5,10 @@ use Rattle.sweeps.proofs.Visits.{told}
 use Rattle.sweeps.proofs.Passes.{starts-start, starts-next, starts-all}
 use Rattle.sweeps.proofs.column.Goals as goal
 
-pub overflow_add-i : goal.overflow_add-i
-overflow_add-i c =
-    omega (arith, c.requires.1, c.requires.0.shape.cells.short)
-
 pub loop-i-init : goal.loop-i-init
 loop-i-init c =
     let a = c.args in
     (omega arith, refl, starts-start a.code.now a.fits.now a.layer.size a.layer.n a.layer.height a.j)
-
-pub overflow_sub-i : goal.overflow_sub-i
-overflow_sub-i c = omega (arith, c.loop-i-test.true)
 
 pub stretch-here-requires : goal.stretch-here-requires
 stretch-here-requires c =

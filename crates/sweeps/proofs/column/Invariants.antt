@@ -12,5 +12,3 @@ invariant-loop-i l =
     × (Running l.code l.fits l.layer.size l.layer.n l.layer.height l.initial.main
     → Passed l.code l.fits l.layer.size l.layer.n l.layer.height (EndsAt l.j) (FromStart l.code l.fits l.layer.size l.layer.n l.layer.height l.j l.i) l.initial.main l.added l.main)
 
-abbrev pub decreases-loop-i : goal.decreases-loop-i
-decreases-loop-i l = l.i

@@ -10,9 +10,6 @@ loop-p-init c =
     let a = c.args in
     (omega arith, refl, dots-start a.code.now a.fits.now a.layer.size a.layer.n a.layer.height a.i a.j)
 
-pub overflow_sub-p : goal.overflow_sub-p
-overflow_sub-p c = omega (arith, c.loop-p-test.true)
-
 pub visit-here-requires : goal.visit-here-requires
 visit-here-requires c =
     (rw c.loop-p.invariant.1 c.requires.0, record { inside = omega (arith, c.loop-p.invariant.0, c.loop-p-test.true); order = c.requires.1; stop = c.requires.2 })

@@ -12,5 +12,3 @@ invariant-loop-p l =
     × (Running l.code l.fits l.layer.size l.layer.n l.layer.height l.initial.main
     → Passed l.code l.fits l.layer.size l.layer.n l.layer.height (Only l.i l.j) (FromDot l.code l.fits l.layer.size l.layer.n l.layer.height l.i l.j l.p) l.initial.main l.added l.main)
 
-abbrev pub decreases-loop-p : goal.decreases-loop-p
-decreases-loop-p l = l.p

@@ -14,10 +14,6 @@ pub column-here-requires : goal.column-here-requires
 column-here-requires c =
     (rw c.loop-j.invariant.1 c.requires, omega (arith, c.loop-j-test.true))
 
-pub overflow_add-j : goal.overflow_add-j
-overflow_add-j c =
-    omega (arith, c.loop-j-test.true, c.requires.shape.cells.short)
-
 pub loop-j-smaller : goal.loop-j-smaller
 loop-j-smaller c =
     omega (arith, c.loop-j-test.true)

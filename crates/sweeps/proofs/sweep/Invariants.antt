@@ -11,5 +11,3 @@ invariant-loop-j l =
     (l.j ≤ l.n + 1) × (length l.main ≡ length l.initial.main)
     × (Running l.code l.fits l.size l.n l.height l.initial.main → Passed l.code l.fits l.size l.n l.height Any (BeforeEnd l.code l.fits l.size l.n l.height l.j) l.initial.main l.added l.main)
 
-abbrev pub decreases-loop-j : goal.decreases-loop-j
-decreases-loop-j l = l.n + 1 - l.j

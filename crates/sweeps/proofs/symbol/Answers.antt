@@ -17,10 +17,6 @@ returns-then-split c =
     λ f. symbol-yes a.code.now f a.layer.size a.layer.n a.layer.height _ c.requires.0 a.main.now a.p a.i a.j c.requires.2
     c.loop-m.m c.split.result c.loop-m.invariant.0 (omega (arith, c.loop-m-test.true)) c.split.ensures c.if-split.true
 
-pub overflow_add-m : goal.overflow_add-m
-overflow_add-m c =
-    omega (arith, c.loop-m-test.true, c.requires.1.stop, c.requires.0.cells.short)
-
 pub loop-m-smaller : goal.loop-m-smaller
 loop-m-smaller c = omega (arith, c.loop-m-test.true)
 

@@ -7,5 +7,3 @@ abbrev pub invariant-loop-m : goal.invariant-loop-m
 invariant-loop-m it =
     (it.i ≤ it.m) × (it.m ≤ it.j + 1) × ((l : ℕ) → it.i ≤ l → l < it.m → it.layer.height < none → it.layer.height < split_of it.code it.main it.layer.n it.p it.i it.j l)
 
-abbrev pub decreases-loop-m : goal.decreases-loop-m
-decreases-loop-m l = l.j + 1 - l.m

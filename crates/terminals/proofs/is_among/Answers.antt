@@ -22,9 +22,6 @@ pub returns-then-table-at : goal.returns-then-table-at
 returns-then-table-at c =
     seek-here c.requires (eqb c.args.c) c.loop-k.invariant c.loop-k-test.true (eq-eqb _ _ (sym c.if-table-at.true))
 
-pub overflow_add-k : goal.overflow_add-k
-overflow_add-k c = omega (arith, c.requires.small, c.requires.inside, c.loop-k.invariant.low, c.loop-k-test.true)
-
 pub loop-k-smaller : goal.loop-k-smaller
 loop-k-smaller c =
     omega (arith, c.requires.small, c.requires.inside, c.loop-k.invariant.low, c.loop-k-test.true)

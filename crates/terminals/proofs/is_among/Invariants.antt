@@ -6,5 +6,3 @@ use Rattle.terminals.proofs.is_among.Given as goal
 abbrev pub invariant-loop-k : goal.invariant-loop-k
 invariant-loop-k l = Seeking (eqb l.c) l.table l.at l.n l.k
 
-abbrev pub decreases-loop-k : goal.decreases-loop-k
-decreases-loop-k l = l.n - l.k

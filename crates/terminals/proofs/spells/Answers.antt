@@ -41,10 +41,6 @@ returns-then-table-at c =
     spell-differs c.requires c.loop-k.invariant
     c.loop-k-test.true c.if-table-at.true
 
-pub overflow_add-k : goal.overflow_add-k
-overflow_add-k c =
-    omega (arith, c.requires.small, c.requires.inside, c.requires.short, c.requires.on, c.loop-k.invariant.low, c.loop-k.invariant.enough, c.loop-k-test.true)
-
 pub loop-k-smaller : goal.loop-k-smaller
 loop-k-smaller c =
     omega (arith, c.requires.small, c.requires.inside, c.requires.short, c.requires.on, c.loop-k.invariant.low, c.loop-k.invariant.enough, c.loop-k-test.true)

@@ -5,5 +5,3 @@ use Rattle.terminals.proofs.spells.Given as goal
 abbrev pub invariant-loop-k : goal.invariant-loop-k
 invariant-loop-k l = Spelling l.table l.at l.n l.text l.i.0 l.k
 
-abbrev pub decreases-loop-k : goal.decreases-loop-k
-decreases-loop-k l = l.n - l.k

@@ -104,10 +104,6 @@ pub returns-then-table-a-2 : goal.returns-then-table-a-2
 returns-then-table-a-2 c =
     law.parts c.args.table.now c.args.a c.args.b c.requires c.wide-count.result c.loop-i.i c.loop-i.invariant c.loop-i-test.true c.if-table-a-2.true
 
-pub overflow_add-i : goal.overflow_add-i
-overflow_add-i c =
-    let h = c.requires.left in let g = c.requires.right in let l = c.loop-i-test.true in let x = c.loop-i.invariant.left in let y = c.loop-i.invariant.right in omega arith
-
 pub loop-i-smaller : goal.loop-i-smaller
 loop-i-smaller c = let l = c.loop-i-test.true in omega arith
 

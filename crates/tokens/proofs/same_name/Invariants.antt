@@ -5,5 +5,3 @@ use Rattle.tokens.proofs.same_name.Given as goal
 abbrev pub invariant-loop-i : goal.invariant-loop-i
 invariant-loop-i l = law.SameAt l.table l.a l.b l.count l.i
 
-abbrev pub decreases-loop-i : goal.decreases-loop-i
-decreases-loop-i l = l.count - l.i

@@ -7,9 +7,6 @@ use Rattle.xml_shape.proofs.is_seen.Goals as goal
 pub loop-i-init : goal.loop-i-init
 loop-i-init c = searched-begin c.args.table.now c.args.seen.now c.args.count c.args.token
 
-pub overflow_sub-i : goal.overflow_sub-i
-overflow_sub-i c = omega (arith, c.loop-i-test.true)
-
 pub look-other-requires : goal.look-other-requires
 look-other-requires c = tt
 

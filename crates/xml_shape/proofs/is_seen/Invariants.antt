@@ -5,5 +5,3 @@ use Rattle.xml_shape.proofs.is_seen.Given as goal
 abbrev pub invariant-loop-i : goal.invariant-loop-i
 invariant-loop-i l = Searched l.table l.seen l.count l.token l.i
 
-abbrev pub decreases-loop-i : goal.decreases-loop-i
-decreases-loop-i l = l.i

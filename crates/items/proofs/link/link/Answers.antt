@@ -11,9 +11,6 @@ pub resolve-requires : goal.resolve-requires
 resolve-requires c =
     record { size = c.loop-p.invariant.0.size ∙ c.requires.size; few-items = omega (arith, c.requires.few-items, c.loop-p-test.true); few-rules = c.requires.few-rules }
 
-pub overflow_add-p : goal.overflow_add-p
-overflow_add-p c = omega (arith, c.requires.few-items, c.loop-p-test.true)
-
 pub loop-p-smaller : goal.loop-p-smaller
 loop-p-smaller c = omega (arith, c.loop-p-test.true)
 

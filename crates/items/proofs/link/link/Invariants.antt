@@ -5,5 +5,3 @@ use Rattle.items.proofs.link.link.Given as goal
 abbrev pub invariant-loop-p : goal.invariant-loop-p
 invariant-loop-p l = Linking l.initial.table l.rules l.table l.p × (l.p ≤ l.items)
 
-abbrev pub decreases-loop-p : goal.decreases-loop-p
-decreases-loop-p l = l.items - l.p

@@ -10,9 +10,6 @@ loop-q-init c = (copy_start _ _ _, omega (arith, c.requires.deep))
 pub overflow_mul-q : goal.overflow_mul-q
 overflow_mul-q c = omega (arith, c.requires.high, c.loop-q.invariant.1)
 
-pub overflow_add-q : goal.overflow_add-q
-overflow_add-q c = omega (arith, c.requires.high, c.loop-q.invariant.1)
-
 pub copy-requires : goal.copy-requires
 copy-requires c =
     record {
@@ -34,9 +31,6 @@ copy-requires c =
 pub overflow_add-p : goal.overflow_add-p
 overflow_add-p c =
     omega (arith, c.requires.fits, c.requires.deep, c.loop-q.invariant.0.read, c.loop-q.invariant.0.wrote, c.loop-q-test.true)
-
-pub overflow_add-q-in-loop-q : goal.overflow_add-q-in-loop-q
-overflow_add-q-in-loop-q c = omega (arith, c.requires.high, c.loop-q-test.true)
 
 pub loop-q-smaller : goal.loop-q-smaller
 loop-q-smaller c = omega (arith, c.loop-q-test.true)

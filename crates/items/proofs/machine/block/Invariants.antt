@@ -5,5 +5,3 @@ use Rattle.items.proofs.machine.block.Given as goal
 abbrev pub invariant-loop-q : goal.invariant-loop-q
 invariant-loop-q l = Copying l.initial.table l.i l.j l.table l.p l.q × (l.q ≤ l.depth)
 
-abbrev pub decreases-loop-q : goal.decreases-loop-q
-decreases-loop-q l = l.depth - l.q

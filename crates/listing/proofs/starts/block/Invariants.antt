@@ -5,5 +5,3 @@ use Rattle.listing.proofs.starts.block.Given as goal
 abbrev pub invariant-loop-k : goal.invariant-loop-k
 invariant-loop-k l = AtMost l.column l.y l.k l.all
 
-abbrev pub decreases-loop-k : goal.decreases-loop-k
-decreases-loop-k l = 8 - l.k

@@ -7,5 +7,3 @@ use Rattle.locate.proofs.spots.locate.Given as goal
 abbrev pub invariant-loop-i : goal.invariant-loop-i
 invariant-loop-i l = law.Walked l.text l.initial.places l.places l.n l.i (shown l.mode l.of)
 
-abbrev pub decreases-loop-i : goal.decreases-loop-i
-decreases-loop-i l = length l.text - l.i

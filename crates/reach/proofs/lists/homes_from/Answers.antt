@@ -22,10 +22,6 @@ pub bounds-table-from : goal.bounds-table-from
 bounds-table-from c =
     omega (arith, c.loop-p-test.true, c.requires.3, c.loop-p.invariant.long)
 
-pub overflow_add-p : goal.overflow_add-p
-overflow_add-p c =
-    omega (arith, c.loop-p-test.true, c.requires.0)
-
 pub loop-p-smaller : goal.loop-p-smaller
 loop-p-smaller c = omega (arith, c.loop-p-test.true)
 

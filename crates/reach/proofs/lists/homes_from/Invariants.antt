@@ -5,5 +5,3 @@ use Rattle.reach.proofs.lists.homes_from.Given as goal
 abbrev pub invariant-loop-p : goal.invariant-loop-p
 invariant-loop-p l = HomesTo l.code l.size l.from l.initial.table l.table l.p l.last
 
-abbrev pub decreases-loop-p : goal.decreases-loop-p
-decreases-loop-p l = l.size - l.p

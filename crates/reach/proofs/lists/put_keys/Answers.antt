@@ -20,9 +20,6 @@ put_key-requires c = (
   omega (arith, c.loop-p-test.true, c.requires.0.shape.small),
 )
 
-pub overflow_add-p : goal.overflow_add-p
-overflow_add-p c = omega (arith, c.loop-p-test.true, c.requires.0.shape.small)
-
 pub loop-p-smaller : goal.loop-p-smaller
 loop-p-smaller c = omega (arith, c.loop-p-test.true)
 

@@ -5,5 +5,3 @@ use Rattle.reach.proofs.lists.put_keys.Given as goal
 abbrev pub invariant-loop-p : goal.invariant-loop-p
 invariant-loop-p l = KeysTo l.code l.size l.which l.initial.keys l.keys l.p
 
-abbrev pub decreases-loop-p : goal.decreases-loop-p
-decreases-loop-p l = l.size - l.p

@@ -13,9 +13,6 @@ loop-p-init c = collect-here (collect-start c.requires)
 pub gather-requires : goal.gather-requires
 gather-requires c = (collect-here c.loop-p.invariant, c.loop-p-test.true)
 
-pub overflow_add-p : goal.overflow_add-p
-overflow_add-p c = omega (arith, c.loop-p-test.true, c.requires.small)
-
 pub loop-p-smaller : goal.loop-p-smaller
 loop-p-smaller c = omega (arith, c.loop-p-test.true)
 

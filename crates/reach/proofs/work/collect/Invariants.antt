@@ -5,5 +5,3 @@ use Rattle.reach.proofs.work.collect.Given as goal
 abbrev pub invariant-loop-p : goal.invariant-loop-p
 invariant-loop-p l = Collecting l.size l.low l.marks l.initial.work l.work l.i l.p
 
-abbrev pub decreases-loop-p : goal.decreases-loop-p
-decreases-loop-p l = l.size - l.p

@@ -26,10 +26,6 @@ returns-then-not-known c =
     (seek-here c.requires (λ x. not (known x)) c.loop-k.invariant c.loop-k-test.true (ap not (sym c.known.ensures ∙ c.if-not-known.true)))
     ∙ all_none known (take c.args.n (drop c.args.at c.args.table.now))
 
-pub overflow_add-k : goal.overflow_add-k
-overflow_add-k c =
-    omega (arith, c.requires.small, c.requires.inside, c.loop-k.invariant.low, c.loop-k-test.true)
-
 pub loop-k-smaller : goal.loop-k-smaller
 loop-k-smaller c =
     omega (arith, c.requires.small, c.requires.inside, c.loop-k.invariant.low, c.loop-k-test.true)

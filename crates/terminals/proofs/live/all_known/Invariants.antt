@@ -7,5 +7,3 @@ use Rattle.terminals.proofs.live.all_known.Given as goal
 abbrev pub invariant-loop-k : goal.invariant-loop-k
 invariant-loop-k l = Seeking (λ x. not (known x)) l.table l.at l.n l.k
 
-abbrev pub decreases-loop-k : goal.decreases-loop-k
-decreases-loop-k l = l.n - l.k

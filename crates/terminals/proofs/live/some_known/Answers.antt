@@ -22,10 +22,6 @@ pub returns-then-known : goal.returns-then-known
 returns-then-known c =
     seek-here c.requires known c.loop-k.invariant c.loop-k-test.true (sym c.known.ensures ∙ c.if-known.true)
 
-pub overflow_add-k : goal.overflow_add-k
-overflow_add-k c =
-    omega (arith, c.requires.small, c.requires.inside, c.loop-k.invariant.low, c.loop-k-test.true)
-
 pub loop-k-smaller : goal.loop-k-smaller
 loop-k-smaller c =
     omega (arith, c.requires.small, c.requires.inside, c.loop-k.invariant.low, c.loop-k-test.true)

@@ -9,9 +9,6 @@ loop-k-init c = step_start c.args.marks.now c.args.from c.args.past
 pub bounds-marks-k : goal.bounds-marks-k
 bounds-marks-k c = omega (arith, c.loop-k-test.true, c.requires, c.loop-k.invariant.spanned.long)
 
-pub overflow_add-k : goal.overflow_add-k
-overflow_add-k c = omega (arith, c.loop-k-test.true, c.requires)
-
 pub loop-k-smaller : goal.loop-k-smaller
 loop-k-smaller c = omega (arith, c.loop-k-test.true)
 

@@ -5,5 +5,3 @@ use Rattle.terminals.proofs.marks.mark.Given as goal
 abbrev pub invariant-loop-k : goal.invariant-loop-k
 invariant-loop-k l = Stepping l.initial.marks l.marks l.from l.past l.k
 
-abbrev pub decreases-loop-k : goal.decreases-loop-k
-decreases-loop-k l = l.past - l.k

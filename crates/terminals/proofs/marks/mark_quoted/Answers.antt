@@ -22,10 +22,6 @@ bounds-table-at c =
 pub mark_range-requires : goal.mark_range-requires
 mark_range-requires c = c.loop-k.invariant.placed.long ∙ c.requires.1
 
-pub overflow_add-k : goal.overflow_add-k
-overflow_add-k c =
-    omega (arith, c.requires.0.small, c.requires.0.inside, c.loop-k.invariant.low, c.loop-k-test.true)
-
 pub loop-k-smaller : goal.loop-k-smaller
 loop-k-smaller c =
     omega (arith, c.requires.0.small, c.requires.0.inside, c.loop-k.invariant.low, c.loop-k-test.true)

@@ -5,5 +5,3 @@ use Rattle.terminals.proofs.marks.mark_quoted.Given as goal
 abbrev pub invariant-loop-k : goal.invariant-loop-k
 invariant-loop-k l = Quoting l.table l.at l.n l.initial.places l.places l.k
 
-abbrev pub decreases-loop-k : goal.decreases-loop-k
-decreases-loop-k l = l.n - l.k
