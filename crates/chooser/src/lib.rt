@@ -5,7 +5,7 @@ ghost use Rattle.std.specs.Prelude.{◌≤◌, length};
 ghost use Rattle.text.specs.Limits.{reading_numbers};
 ghost use Rattle.reading.specs.Answer.{Finished, Answers};
 
-use reading::{Root, Walked};
+use reading::{Found, Root, Unread};
 
 // The stack of the walk: three numbers for each of a reading's. It takes 49,152 bytes.
 const STACK_LENGTH: usize = reading::STACK_COLUMNS * text::limits::READING_NUMBERS;
@@ -17,7 +17,7 @@ pub fn walk(
     main: &[u32],
     root: Root,
     parse: &mut [u32],
-) -> Walked
+) -> Result<Found, Unread>
     requires { Finished code.now marks.now notes.now main.now root.size root.n.0 root.rule.name root.rule.first × (reading_numbers ≤ length parse.old) }
     ensures { (t : Finished code.now marks.now notes.now main.now root.size root.n.0 root.rule.name root.rule.first)
         → Answers t.g t.r parse.new result }

@@ -9,8 +9,8 @@ ghost use Rattle.chooser.specs.Choose.{Choosable};
 ghost use Rattle.parser.specs.Chosen.{Chooses};
 ghost use Rattle.finish.specs.Ended.{Settled, Ends};
 
-use parser::Chosen;
-use reading::{Root, Rule, Walked};
+use parser::Failure;
+use reading::{Found, Root, Rule, Unread};
 use text::CharPlace;
 
 // The rules of a code: how many dots they have, the name of the root's rule and its first dot.
@@ -30,7 +30,7 @@ fn read_off(
     main: &[u32],
     rules: Rules,
     parse: &mut [u32],
-) -> Chosen
+) -> Result<Found, Failure>
     requires { Settled table.now code.now fits.now text.now rules.size rules.top rules.first main.now (length parse.old) }
     ensures { (g : Grammar) → Ruled (Token table.now) code.now g rules.size rules.top rules.first
         → Chooses g text.now parse.new result }
@@ -48,26 +48,23 @@ fn read_off(
         n: CharPlace(n),
         rule,
     };
-    let walked = plain_reading::walk_filled(code, fits, main, root, &mut marks, &mut notes, parse);
-    let Walked::NoReading = walked else {
-        return parser::of_walked(walked);
-    };
-    let start = fault::Root {
-        size,
-        n: CharPlace(n),
-        rule: rules.top,
-    };
-    Chosen::NoReading(fault::place(table, text, code, &marks, &notes, main, start))
+    match plain_reading::walk_filled(code, fits, main, root, &mut marks, &mut notes, parse) {
+        Ok(found) => Ok(found),
+        Err(Unread::TooLong) => Err(Failure::TooLong),
+        Err(Unread::NoReading) => {
+            let start = fault::Root {
+                size,
+                n: CharPlace(n),
+                rule: rules.top,
+            };
+            let place = fault::place(table, text, code, &marks, &notes, main, start);
+            Err(Failure::NoReading(place))
+        }
+    }
 }
 
-// What a table gives at the end of a read.
-#[derive(Clone, Copy)]
-pub enum Ended {
-    Found(Chosen),
-    Altered,
-}
-
-// The same of the grammar whose items the table has, by a main table that anyone may have filled. Local are 111,104 bytes.
+// The same of the grammar whose items the table has, by a main table that anyone may have filled; none where that is not the table of
+// a finished read. Local are 111,104 bytes.
 pub fn finish(
     table: &[u32],
     size: usize,
@@ -75,7 +72,7 @@ pub fn finish(
     text: &[u32],
     main: &[u32],
     parse: &mut [u32],
-) -> Ended
+) -> Option<Result<Found, Failure>>
     requires { Choosable table.now size root text.now (length main.now) (length parse.old) }
     ensures { (g : Grammar) → Ready table.now g size root → Ends g text.now main.now parse.new result }
 {
@@ -85,12 +82,12 @@ pub fn finish(
     prepare::fit_rows(table, size, text, &mut fits);
     let n = text.len();
     if !fixpoint::is_fixpoint(&code, &fits, main, size, n) {
-        return Ended::Altered;
+        return None;
     }
     let rules = Rules {
         size,
         top,
         first: root,
     };
-    Ended::Found(read_off(table, text, &code, &fits, main, rules, parse))
+    Some(read_off(table, text, &code, &fits, main, rules, parse))
 }

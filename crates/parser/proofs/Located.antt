@@ -5,8 +5,6 @@ use mathlib.Core.Logic.{◌⊎◌, ⊎_elim}
 use mathlib.Core.Path.{◌≡◌, refl, sym, subst}
 use Prim.Native.Nat.{ℕ, ◌+◌, ◌*◌, ◌≤◌}
 use native.Mathlib.Omega.{arith}
-use denote.Enum.Declared.{tag_of}
-use types.Run.{OneOf}
 use lib.ListN.{length, replicate, length-replicate}
 use borrow.Author.Tests.{ltb-true}
 use Rattle.text.specs.Lists.{Text}
@@ -17,16 +15,15 @@ use Rattle.chart.specs.Code.{Ruled}
 use Rattle.chart.proofs.Users.{all-zero}
 use Rattle.rules.specs.Ready.{Token}
 use Rattle.right_pass.specs.Right.{Righted}
-use Rattle.quick_reading.specs.declared.Tried.{Tried}
-use Rattle.quick_reading.specs.declared.Tried.TheVariants as tried
+use Rattle.std.specs.Prelude.{Option, Some, None, Result, Ok, Err}
 use Rattle.quick_reading.specs.Readable.{Flaggable, Flagged, Staged, Tries, is_answer, is_refused}
 use Rattle.right_pass.proofs.Given.{given-of}
 use Rattle.sparse.specs.Cells.{Shape, Noted}
 use Rattle.sparse.specs.Steps.{Empties}
 use Rattle.sparse.proofs.Coded.{shape_of}
-use Rattle.reading.specs.declared.Walked.{Walked}
-use Rattle.reading.specs.declared.Walked.TheVariants as walked
-use Rattle.reading.specs.contracts.Walked.{the_type}
+use Rattle.reading.specs.declared.Found.{Found}
+use Rattle.reading.specs.declared.Unread.{Unread}
+use Rattle.reading.specs.declared.Unread.TheVariants as unread
 use Rattle.reading.specs.Answer.{IsLong, NotRead, no-reading, too_long, Answers}
 use Rattle.fault.specs.Firsts.{Tokened}
 use Rattle.chooser.specs.Choose.{Choosable}
@@ -34,8 +31,8 @@ use Rattle.parser.specs.Choose.{Coded, Blank, LocatableAnew}
 use Rattle.confirm.specs.Find.{Confirming, Confirmed}
 use Rattle.confirm.proofs.Standing.{flows-of}
 use Rattle.confirm.proofs.Found.{confirmed-fault}
-use Rattle.parser.specs.declared.Chosen.{Chosen}
-use Rattle.parser.specs.Chosen.{Fault, chosen_of, tried_of, Fails, Chooses}
+use Rattle.parser.specs.declared.Failure.{Failure}
+use Rattle.parser.specs.Chosen.{Fault, tried_of, Fails, Chooses}
 use Rattle.parser.proofs.Early.{early-underived}
 
 -- what the search is given, and what it says
@@ -64,58 +61,39 @@ module _ {Tb c M F : List ℕ} {R : Text} {size n top root main : ℕ} {g : Gram
   fault-found w prod held = confirmed-fault k code-tokened.shape f.closed f.only code-tokened a.short prod held w
 
 module _ (g : Grammar) (R : Text) where
-  is-long : NotRead g R 29 → IsLong g R
+  pub is-long : NotRead g R 29 → IsLong g R
   is-long (too_long l) = l
 
   pub refusal : {k : ℕ} → NotRead g R 16 → Fault g R k → Fails g R k
   refusal (no-reading n) f = record { none = λ _ _. n; fault = f }
 
   module _ (out : List ℕ) where
-    -- what the walk answers, where it is not that there is no reading
-    pub as-walked : (w : Walked) (c : Chosen) → c ≡ chosen_of w → OneOf (0 ∷ 1 ∷ []) (tag_of the_type w) → Answers g R out w → Chooses g R out c
-    as-walked w c e h a = subst (Chooses g R out) (sym e) (go w h a)
-      where
-        go : (w : Walked) → OneOf (0 ∷ 1 ∷ []) (tag_of the_type w) → Answers g R out w → Chooses g R out (chosen_of w)
-        go (walked.Reading n m) h a = a
-        go walked.TooLong h a = is-long a
-        go walked.NoReading h a = absurd (⊎_elim (λ q. omega arith) (λ q. omega arith) h)
-
-    -- and where it is
-    pub fails : (w : Walked) {k : ℕ} → w ≡ walked.NoReading → Answers g R out w → Fault g R k → Fails g R k
-    fails w e a f = refusal (subst (Answers g R out) e a) f
-
     -- what the quick engine comes to, where that needs no place
-    pub as-answer : (stops : Bool) (t : Tried) (k : CharPlace) {c : Chosen} → c ≡ tried_of t k → is_answer t ≡ true → Tries stops g R out t → Chooses g R out c
+    pub as-answer : (stops : Bool) (t : Option (Result Found Unread)) (k : CharPlace) {c : Result Found Failure} → c ≡ tried_of t k → is_answer t ≡ true → Tries stops g R out t → Chooses g R out c
     as-answer stops t k e h a = subst (Chooses g R out) (sym e) (go t h a)
       where
-        go : (t : Tried) → is_answer t ≡ true → Tries stops g R out t → Chooses g R out (tried_of t k)
-        go (tried.Walked (walked.Reading n m)) h a = a
-        go (tried.Walked walked.TooLong) h a = is-long a
-        go (tried.Walked walked.NoReading) h a = absurd (clash refl h)
-        go tried.Doubtful h a = absurd (clash refl h)
+        go : (t : Option (Result Found Unread)) → is_answer t ≡ true → Tries stops g R out t → Chooses g R out (tried_of t k)
+        go (Some (Ok f)) h a = a
+        go (Some (Err unread.TooLong)) h a = is-long a
+        go (Some (Err unread.NoReading)) h a = absurd (clash refl h)
+        go None h a = absurd (clash refl h)
 
     -- where there is no reading
-    pub as-refused : (t : Tried) (k : CharPlace) → is_answer t ≡ false → is_refused t k (length R) ≡ true → Tries true g R out t → Fault g R k.0 → Fails g R k.0
-    as-refused (tried.Walked (walked.Reading n m)) k h e a f = absurd (clash h refl)
-    as-refused (tried.Walked walked.TooLong) k h e a f = absurd (clash h refl)
-    as-refused (tried.Walked walked.NoReading) k h e a f = refusal a f
-    as-refused tried.Doubtful k h e a f = record { none = λ p held. early-underived (f p held) (ltb-true k.0 (length R) e); fault = f }
+    pub as-refused : (t : Option (Result Found Unread)) (k : CharPlace) → is_answer t ≡ false → is_refused t k (length R) ≡ true → Tries true g R out t → Fault g R k.0 → Fails g R k.0
+    as-refused (Some (Ok w)) k h e a f = absurd (clash h refl)
+    as-refused (Some (Err unread.TooLong)) k h e a f = absurd (clash h refl)
+    as-refused (Some (Err unread.NoReading)) k h e a f = refusal a f
+    as-refused None k h e a f = record { none = λ p held. early-underived (f p held) (ltb-true k.0 (length R) e); fault = f }
 
     -- where it went to its end
-    pub as-tried : (t : Tried) (k : CharPlace) {c : Chosen} → c ≡ tried_of t k → Tries false g R out t → Fault g R k.0 → Chooses g R out c
+    pub as-tried : (t : Option (Result Found Unread)) (k : CharPlace) {c : Result Found Failure} → c ≡ tried_of t k → Tries false g R out t → Fault g R k.0 → Chooses g R out c
     as-tried t k e a f = subst (Chooses g R out) (sym e) (go t a)
       where
-        go : (t : Tried) → Tries false g R out t → Chooses g R out (tried_of t k)
-        go (tried.Walked (walked.Reading n m)) a = a
-        go (tried.Walked walked.TooLong) a = is-long a
-        go (tried.Walked walked.NoReading) a = refusal a f
-        go tried.Doubtful a = absurd (clash refl a)
-
--- a walk that does not say that there is no reading
-pub walked-tried : (w : Walked) (k : CharPlace) → OneOf (0 ∷ 1 ∷ []) (tag_of the_type w) → chosen_of w ≡ tried_of (tried.Walked w) k
-walked-tried (walked.Reading n m) k h = refl
-walked-tried walked.TooLong k h = refl
-walked-tried walked.NoReading k h = absurd (⊎_elim (λ q. omega arith) (λ q. omega arith) h)
+        go : (t : Option (Result Found Unread)) → Tries false g R out t → Chooses g R out (tried_of t k)
+        go (Some (Ok w)) a = a
+        go (Some (Err unread.TooLong)) a = is-long a
+        go (Some (Err unread.NoReading)) a = refusal a f
+        go None a = absurd (clash refl a)
 
 pub locatable-anew : {T : List ℕ} {size root main main' parse : ℕ} {r : Text} → Choosable T size root r main parse → main' ≡ main → LocatableAnew T size root r main'
 locatable-anew a e = record { grammar = a.grammar; ready = a.ready; long = a.long; small = a.small; short = a.short; room = omega (arith, a.room) }

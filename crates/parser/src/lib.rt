@@ -1,7 +1,7 @@
 // The chosen reading of a record by the items of a grammar, or the place of the fault.
 #![tactic(auto)]
 
-ghost use Rattle.std.specs.Prelude.{◌≤◌, length, ◌≡◌};
+ghost use Rattle.std.specs.Prelude.{◌+◌, ◌*◌, ◌≤◌, length, ◌≡◌};
 ghost use Rattle.text.specs.Limits.{reading_numbers};
 ghost use Rattle.tree.specs.Tree.{Grammar};
 ghost use Rattle.chart.specs.Code.{Ruled};
@@ -11,42 +11,27 @@ ghost use Rattle.sparse.specs.Steps.{Empties};
 ghost use Rattle.quick_reading.specs.Readable.{Flagged};
 ghost use Rattle.chooser.specs.Choose.{Choosable};
 ghost use Rattle.parser.specs.Choose.{Coded, Blank, LocatableAnew};
-ghost use Rattle.parser.specs.Chosen.{Fault, chosen_of, tried_of, Chooses};
+ghost use Rattle.parser.specs.Chosen.{Fault, tried_of, Chooses};
 
-use quick_reading::Tried;
-use reading::{Root, Rule, Walked};
+use reading::{Found, Root, Rule, Unread};
 use text::CharPlace;
 
-// The chosen reading, as the walk answers it; or the place of the fault.
+// Why there is no reading to answer: it is too long, or there is none, and the fault is at the place.
 #[derive(Clone, Copy)]
-pub enum Chosen {
-    Reading(usize, bool),
+pub enum Failure {
     TooLong,
     NoReading(CharPlace),
 }
 
-// What the walk answers, but for a record without a reading.
-pub fn of_walked(walked: Walked) -> Chosen
-    ensures { result ≡ chosen_of walked }
-{
-    match walked {
-        Walked::Reading(count, ambiguous) => Chosen::Reading(count, ambiguous),
-        Walked::TooLong => Chosen::TooLong,
-        Walked::NoReading => Chosen::NoReading(CharPlace(0)),
-    }
-}
-
 // What the quick engine comes to, if the place is that of the fault.
-fn of_tried(tried: Tried, place: CharPlace) -> Chosen
+fn of_tried(tried: Option<Result<Found, Unread>>, place: CharPlace) -> Result<Found, Failure>
     ensures { result ≡ tried_of tried place }
 {
-    let Tried::Walked(walked) = tried else {
-        return Chosen::NoReading(place);
-    };
-    let Walked::NoReading = walked else {
-        return of_walked(walked);
-    };
-    Chosen::NoReading(place)
+    match tried {
+        Some(Ok(found)) => Ok(found),
+        Some(Err(Unread::TooLong)) => Err(Failure::TooLong),
+        Some(Err(Unread::NoReading)) | None => Err(Failure::NoReading(place)),
+    }
 }
 
 // The place of the fault in a record, by what the pass from the left flags.
@@ -83,7 +68,7 @@ fn choose_coded(
     main: &mut [u32],
     parse: &mut [u32],
     root: Root,
-) -> Chosen
+) -> Result<Found, Failure>
     requires { Coded table.now code.now text.now root.size root.n.0 root.rule.name root.rule.first (length main.old)
         × Blank root.n.0 marks.old × (reading_numbers ≤ length parse.old) }
     ensures { (g : Grammar) → Ruled (Token table.now) code.now g root.size root.rule.name root.rule.first
@@ -92,7 +77,9 @@ fn choose_coded(
     let mut notes = [0u32; sparse::NOTES];
     empties::note_rules(code, &mut notes, root.size);
     if !quick_reading::flag(table, text, code, marks, root) {
-        return Chosen::NoReading(locate(table, text, code, marks, &notes, main, root));
+        return Err(Failure::NoReading(locate(
+            table, text, code, marks, &notes, main, root,
+        )));
     }
     let tried = quick_reading::attempt(code, marks, &notes, main, root, parse, true);
     if quick_reading::is_answer(tried) {
@@ -100,7 +87,7 @@ fn choose_coded(
     }
     let place = locate(table, text, code, marks, &notes, main, root);
     if quick_reading::is_refused(tried, place, text.len()) {
-        return Chosen::NoReading(place);
+        return Err(Failure::NoReading(place));
     }
     let again = quick_reading::attempt(code, marks, &notes, main, root, parse, false);
     of_tried(again, place)
@@ -115,57 +102,21 @@ const SHORT_MARKS: usize = reach::PLACE * (SHORT + 1);
 
 const MIDDLE_MARKS: usize = reach::PLACE * (MIDDLE + 1);
 
-// Local are 38,400 bytes.
-fn choose_short(
+// The same with flags of its own, for a record that they have room for. Local are LENGTH bytes.
+fn choose_flagged<const LENGTH: usize>(
     table: &[u32],
     text: &[u32],
     code: &[u32],
     main: &mut [u32],
     parse: &mut [u32],
     root: Root,
-) -> Chosen
+) -> Result<Found, Failure>
     requires { Coded table.now code.now text.now root.size root.n.0 root.rule.name root.rule.first (length main.old)
-        × (reading_numbers ≤ length parse.old) × (root.n.0 ≤ 24) }
+        × (reading_numbers ≤ length parse.old) × (1536 * root.n.0 + 1536 ≤ LENGTH) × (LENGTH ≤ 308736) }
     ensures { (g : Grammar) → Ruled (Token table.now) code.now g root.size root.rule.name root.rule.first
         → Chooses g text.now parse.new result }
 {
-    let mut marks = [0u8; SHORT_MARKS];
-    choose_coded(table, text, code, &mut marks, main, parse, root)
-}
-
-// Local are 148,992 bytes.
-fn choose_middle(
-    table: &[u32],
-    text: &[u32],
-    code: &[u32],
-    main: &mut [u32],
-    parse: &mut [u32],
-    root: Root,
-) -> Chosen
-    requires { Coded table.now code.now text.now root.size root.n.0 root.rule.name root.rule.first (length main.old)
-        × (reading_numbers ≤ length parse.old) × (root.n.0 ≤ 96) }
-    ensures { (g : Grammar) → Ruled (Token table.now) code.now g root.size root.rule.name root.rule.first
-        → Chooses g text.now parse.new result }
-{
-    let mut marks = [0u8; MIDDLE_MARKS];
-    choose_coded(table, text, code, &mut marks, main, parse, root)
-}
-
-// Local are 308,736 bytes.
-fn choose_long(
-    table: &[u32],
-    text: &[u32],
-    code: &[u32],
-    main: &mut [u32],
-    parse: &mut [u32],
-    root: Root,
-) -> Chosen
-    requires { Coded table.now code.now text.now root.size root.n.0 root.rule.name root.rule.first (length main.old)
-        × (reading_numbers ≤ length parse.old) }
-    ensures { (g : Grammar) → Ruled (Token table.now) code.now g root.size root.rule.name root.rule.first
-        → Chooses g text.now parse.new result }
-{
-    let mut marks = [0u8; sparse::MARKS];
+    let mut marks = [0u8; LENGTH];
     choose_coded(table, text, code, &mut marks, main, parse, root)
 }
 
@@ -177,7 +128,7 @@ fn choose_quick(
     text: &[u32],
     main: &mut [u32],
     parse: &mut [u32],
-) -> Chosen
+) -> Result<Found, Failure>
     requires { Choosable table.now size root text.now (length main.old) (length parse.old) }
     ensures { (g : Grammar) → Ready table.now g size root → Chooses g text.now parse.new result }
 {
@@ -193,12 +144,12 @@ fn choose_quick(
         },
     };
     if n <= SHORT {
-        return choose_short(table, text, &code, main, parse, start);
+        return choose_flagged::<SHORT_MARKS>(table, text, &code, main, parse, start);
     }
     if n <= MIDDLE {
-        return choose_middle(table, text, &code, main, parse, start);
+        return choose_flagged::<MIDDLE_MARKS>(table, text, &code, main, parse, start);
     }
-    choose_long(table, text, &code, main, parse, start)
+    choose_flagged::<{ sparse::MARKS }>(table, text, &code, main, parse, start)
 }
 
 // The place of the fault in a record that has no reading, with a pass from the left of its own. Local are 325,120 bytes.
@@ -231,15 +182,18 @@ fn choose_plain(
     text: &[u32],
     main: &mut [u32],
     parse: &mut [u32],
-) -> Chosen
+) -> Result<Found, Failure>
     requires { Choosable table.now size root text.now (length main.old) (length parse.old) }
     ensures { (g : Grammar) → Ready table.now g size root → Chooses g text.now parse.new result }
 {
-    let walked = plain_reading::read(table, size, root, text, main, parse);
-    let Walked::NoReading = walked else {
-        return of_walked(walked);
-    };
-    Chosen::NoReading(locate_anew(table, size, root, text, main))
+    match plain_reading::read(table, size, root, text, main, parse) {
+        Ok(found) => Ok(found),
+        Err(Unread::TooLong) => Err(Failure::TooLong),
+        Err(Unread::NoReading) => {
+            let place = locate_anew(table, size, root, text, main);
+            Err(Failure::NoReading(place))
+        }
+    }
 }
 
 // The chosen reading by the engine that is asked for, or the place of the fault.
@@ -251,7 +205,7 @@ pub fn choose_by(
     text: &[u32],
     main: &mut [u32],
     parse: &mut [u32],
-) -> Chosen
+) -> Result<Found, Failure>
     requires { Choosable table.now size root text.now (length main.old) (length parse.old) }
     ensures { (g : Grammar) → Ready table.now g size root → Chooses g text.now parse.new result }
 {

@@ -1,5 +1,5 @@
 -- A main table that is filled whole, and what reading it off takes and leaves.
-use Rattle.std.specs.Prelude.{List, ◌≡◌, ℕ, ◌+◌, ◌*◌, ◌≤◌, length, get_or}
+use Rattle.std.specs.Prelude.{Result, List, ◌≡◌, ℕ, ◌+◌, ◌*◌, ◌≤◌, length, get_or}
 use Rattle.text.specs.Limits.{most_size, record_chars, reading_numbers}
 use Rattle.text.specs.Lists.{Text}
 use Rattle.tree.specs.Tree.{Grammar}
@@ -9,7 +9,8 @@ use Rattle.heights.specs.Filling.{Filled}
 use Rattle.sparse.specs.Cells.{Noted}
 use Rattle.sparse.specs.Steps.{Empties}
 use Rattle.full.specs.Whole.{Marked}
-use Rattle.reading.specs.declared.Walked.{Walked}
+use Rattle.reading.specs.declared.Found.{Found}
+use Rattle.reading.specs.declared.Unread.{Unread}
 use Rattle.reading.specs.Answer.{Finished, Answers}
 
 -- a table for each stage, long enough
@@ -33,7 +34,7 @@ pub record Walkable (c f : List ℕ) (size n top first : ℕ) (H M F : List ℕ)
   pub numbers : reading_numbers ≤ parse
 
 -- they are made, and the walk answers by them
-pub record Walks (c f : List ℕ) (size n top first : ℕ) (H M F P : List ℕ) (r : Walked) : Type 0 where
+pub record Walks (c f : List ℕ) (size n top first : ℕ) (H M F P : List ℕ) (r : Result Found Unread) : Type 0 where
   pub marked : Marked c f size (n + 1) M
   pub noted : Noted c size F × Empties c F size
   pub answers : (t : Finished c M F H size n top first) → Answers t.g t.r P r

@@ -8,7 +8,7 @@ ghost use Rattle.reading.specs.Answer.{Answers};
 ghost use Rattle.chooser.specs.Choose.{Choosable};
 ghost use Rattle.plain_reading.specs.Filled.{Walkable, Walks};
 
-use reading::{Root, Rule, Walked};
+use reading::{Found, Root, Rule, Unread};
 use text::CharPlace;
 
 // The walk over a main table that is filled whole: every flag is set, and the rules are noted.
@@ -20,7 +20,7 @@ pub fn walk_filled(
     marks: &mut [u8],
     notes: &mut [u32],
     parse: &mut [u32],
-) -> Walked
+) -> Result<Found, Unread>
     requires { Walkable code.now fits.now root.size root.n.0 root.rule.name root.rule.first main.now marks.old notes.old (length parse.old) }
     ensures { Walks code.now fits.now root.size root.n.0 root.rule.name root.rule.first main.now
         marks.new notes.new parse.new result }
@@ -38,7 +38,7 @@ pub fn read(
     text: &[u32],
     main: &mut [u32],
     parse: &mut [u32],
-) -> Walked
+) -> Result<Found, Unread>
     requires { Choosable table.now size root text.now (length main.old) (length parse.old) }
     ensures { (g : Grammar) → Ready table.now g size root → Answers g text.now parse.new result }
 {

@@ -19,12 +19,8 @@ use Rattle.sparse.proofs.Coded.{shape_of, flag-code, flag-stays, flag-root}
 use Rattle.sparse.proofs.Empty.{least-all}
 use Rattle.text.proofs.Tests.{look, clash}
 use Rattle.quick.specs.Quick.{Filled}
-use Rattle.reading.specs.declared.Walked.{Walked}
-use Rattle.reading.specs.declared.Walked.TheVariants as walked
-use Rattle.reading.specs.contracts.Walked.{the_type}
 use Rattle.reading.specs.Answer.{Finished, no-reading}
-use Rattle.quick_reading.specs.declared.Tried.TheVariants as tried
-use Rattle.quick_reading.specs.Readable.{Flagged, Passed, Staged, is_answer}
+use Rattle.quick_reading.specs.Readable.{Flagged, Passed, Staged}
 
 -- what the pass from the left flags, and what the one from the right leaves of it
 pub left-flagged : {Tb c M : List ℕ} {R : Text} {size top : ℕ} {r : Bool} → Lefted Tb c R size top M r → Flagged Tb c R size top M
@@ -41,11 +37,6 @@ passed-both l e = record { left = record { long = l.long; closed = l.left; only 
 pub stopped : {stops r : Bool} → (stops ≡ false → r ≡ true) → r ≡ false → stops ≡ true
 stopped {stops} f e = ⊎_elim (λ q. q) (λ q. absurd (clash e (f q))) (look stops)
 
--- a walk that does not say that there is no reading
-pub walked-answer : (w : Walked) → OneOf (0 ∷ 1 ∷ []) (tag_of the_type w) → true ≡ is_answer (tried.Walked w)
-walked-answer (walked.Reading n m) h = refl
-walked-answer walked.TooLong h = refl
-walked-answer walked.NoReading h = absurd (⊎_elim (λ q. omega arith) (λ q. omega arith) h)
 
 module _ {c M F : List ℕ} {size n top first : ℕ} (s : Staged c M F size n top first) where
   pub tables-of : {main : ℕ} → size * stretches n ≤ main → Tables c M F size n main

@@ -1,5 +1,5 @@
 -- What the passes are given and leave in the flags; what the engine is given, and what is tried.
-use Rattle.std.specs.Prelude.{Bool, true, false, List, ◌≡◌, ℕ, ◌+◌, ◌*◌, ◌≤◌, ltb, length, get_or}
+use Rattle.std.specs.Prelude.{Bool, true, false, Option, Some, None, Result, Ok, Err, List, ◌≡◌, ℕ, ◌+◌, ◌*◌, ◌≤◌, ltb, length, get_or}
 use Rattle.text.specs.Limits.{most_size, record_chars, grammar_table}
 use Rattle.text.specs.Lists.{Text}
 use Rattle.tree.specs.Tree.{Grammar}
@@ -10,10 +10,10 @@ use Rattle.right_pass.specs.Right.{Righted}
 use Rattle.sparse.specs.Cells.{Noted}
 use Rattle.sparse.specs.Steps.{Empties}
 use Rattle.text.specs.declared.CharPlace.{CharPlace}
-use Rattle.reading.specs.declared.Walked.TheVariants as walked
+use Rattle.reading.specs.declared.Found.{Found}
+use Rattle.reading.specs.declared.Unread.{Unread}
+use Rattle.reading.specs.declared.Unread.TheVariants.{TooLong, NoReading}
 use Rattle.reading.specs.Answer.{NotRead, Answers}
-use Rattle.quick_reading.specs.declared.Tried.{Tried}
-use Rattle.quick_reading.specs.declared.Tried.TheVariants as tried
 
 -- the code of some grammar's rules, a record, and flags of which none is set
 pub record Flaggable (Tb c : List ℕ) (R : Text) (M : List ℕ) (size top first : ℕ) : Type 0 where
@@ -53,18 +53,18 @@ pub record Staged (c M F : List ℕ) (size n top first : ℕ) : Type 0 where
   pub empties : Empties c F size
 
 -- what the walk answers; there is a doubt only where the engine may stop
-abbrev pub Tries : Bool → Grammar → Text → List ℕ → Tried → Type 0
-Tries stops g r out (tried.Walked w) = Answers g r out w
-Tries stops g r out tried.Doubtful = stops ≡ true
+abbrev pub Tries : Bool → Grammar → Text → List ℕ → Option (Result Found Unread) → Type 0
+Tries stops g r out (Some w) = Answers g r out w
+Tries stops g r out None = stops ≡ true
 
 -- what was tried is an answer: a reading, or one that is too long
-abbrev pub is_answer : Tried → Bool
-is_answer (tried.Walked (walked.Reading n m)) = true
-is_answer (tried.Walked walked.TooLong) = true
-is_answer (tried.Walked walked.NoReading) = false
-is_answer tried.Doubtful = false
+abbrev pub is_answer : Option (Result Found Unread) → Bool
+is_answer (Some (Ok f)) = true
+is_answer (Some (Err TooLong)) = true
+is_answer (Some (Err NoReading)) = false
+is_answer None = false
 
 -- what is no answer says that there is no reading: the walk did, or the fault is before the record's end
-abbrev pub is_refused : Tried → CharPlace → ℕ → Bool
-is_refused (tried.Walked w) k n = true
-is_refused tried.Doubtful k n = ltb k.0 n
+abbrev pub is_refused : Option (Result Found Unread) → CharPlace → ℕ → Bool
+is_refused (Some w) k n = true
+is_refused None k n = ltb k.0 n

@@ -6,15 +6,8 @@ ghost use Rattle.text.specs.Limits.{reading_numbers};
 ghost use Rattle.chart.specs.Heights.{stretches};
 ghost use Rattle.quick_reading.specs.Readable.{Flaggable, Passed, Staged, Tries, is_answer, is_refused};
 
-use reading::{Root, Walked};
+use reading::{Found, Root, Unread};
 use text::CharPlace;
-
-// What the walk answers; or the engine stopped, since the record is likely to have no reading.
-#[derive(Clone, Copy)]
-pub enum Tried {
-    Walked(Walked),
-    Doubtful,
-}
 
 // Both passes: the engine goes by what they flag, and so does the search for the fault. False: the root's rule does not reach the record's end.
 pub fn flag(table: &[u32], text: &[u32], code: &[u32], marks: &mut [u8], root: Root) -> bool
@@ -30,7 +23,8 @@ pub fn flag(table: &[u32], text: &[u32], code: &[u32], marks: &mut [u8], root: R
     true
 }
 
-// The left parse goes to `parse`. The engine stops at a doubt only if it may.
+// What the walk answers; none where the engine stopped, since the record is likely to have no reading. It stops at a doubt only if it may.
+// The left parse goes to `parse`.
 pub fn attempt(
     code: &[u32],
     marks: &[u8],
@@ -39,37 +33,31 @@ pub fn attempt(
     root: Root,
     parse: &mut [u32],
     stops: bool,
-) -> Tried
+) -> Option<Result<Found, Unread>>
     requires { Staged code.now marks.now notes.now root.size root.n.0 root.rule.name root.rule.first
         × (root.size * stretches root.n.0 ≤ length main.old) × (reading_numbers ≤ length parse.old) }
     ensures { (t : Staged code.now marks.now notes.now root.size root.n.0 root.rule.name root.rule.first)
         → Tries stops t.g t.r parse.new result }
 {
     if !quick::fill(code, marks, notes, root.size, root.n, main, stops) {
-        return Tried::Doubtful;
+        return None;
     }
-    Tried::Walked(chooser::walk(code, marks, notes, main, root, parse))
+    Some(chooser::walk(code, marks, notes, main, root, parse))
 }
 
 // Whether what was tried is an answer: a reading, or one that is too long.
-pub fn is_answer(tried: Tried) -> bool
+pub fn is_answer(tried: Option<Result<Found, Unread>>) -> bool
     ensures { result ≡ is_answer tried }
 {
-    let Tried::Walked(walked) = tried else {
-        return false;
-    };
-    let Walked::NoReading = walked else {
-        return true;
-    };
-    false
+    !matches!(tried, None | Some(Err(Unread::NoReading)))
 }
 
 // Whether what is no answer says that there is no reading: the walk did; or the fault is at a place before the record's end, n.
-pub fn is_refused(tried: Tried, place: CharPlace, n: usize) -> bool
+pub fn is_refused(tried: Option<Result<Found, Unread>>, place: CharPlace, n: usize) -> bool
     ensures { result ≡ is_refused tried place n }
 {
-    let Tried::Doubtful = tried else {
-        return true;
-    };
-    place.0 < n
+    match tried {
+        Some(_) => true,
+        None => place.0 < n,
+    }
 }

@@ -1,5 +1,5 @@
 -- What the walk is given, and what it answers.
-use Rattle.std.specs.Prelude.{◌≡◌, ◌↔◌, Bool, List, ℕ, ◌+◌, ◌*◌, ◌<◌, ◌≤◌, T, length, take}
+use Rattle.std.specs.Prelude.{◌≡◌, ◌↔◌, Bool, List, ℕ, Result, Ok, Err, ◌+◌, ◌*◌, ◌<◌, ◌≤◌, T, length, take}
 use Rattle.text.specs.Limits.{reading_numbers}
 use Rattle.text.specs.Lists.{Text}
 use Rattle.text.specs.Stages.{StageAnswer, answered, refused, Settles}
@@ -12,8 +12,9 @@ use Rattle.heights.proofs.Part.{Stays, Attained}
 use Rattle.reach.specs.Flags.{Reached, Fits, Wanted, home_of}
 use Rattle.sparse.specs.Cells.{Tables, rule_of, rest_of}
 use Rattle.sparse.specs.Steps.{Flagged, LeastOn}
-use Rattle.reading.specs.declared.Walked.{Walked}
-use Rattle.reading.specs.declared.Walked.TheVariants.{Reading, TooLong, NoReading}
+use Rattle.reading.specs.declared.Found.{Found}
+use Rattle.reading.specs.declared.Unread.{Unread}
+use Rattle.reading.specs.declared.Unread.TheVariants.{TooLong, NoReading}
 
 -- the code of a grammar and its flags on a record of n characters, and the filled part of its main table
 pub record Finished (c M F H : List ℕ) (size n top first : ℕ) : Type 0 where
@@ -57,10 +58,10 @@ pub data NotRead (g : Grammar) (r : Text) : ℕ → Type 0 where
   too_long : IsLong g r → NotRead g r 29
 
 -- document 01's number and values for each case: with 0, how many numbers the left parse has, and the ambiguous mark
-abbrev pub stage_of : Walked → StageAnswer (ℕ × Bool) ℕ
-stage_of (Reading count mark) = answered (count, mark)
-stage_of TooLong = refused 29
-stage_of NoReading = refused 16
+abbrev pub stage_of : Result Found Unread → StageAnswer (ℕ × Bool) ℕ
+stage_of (Ok f) = answered (f.count, f.ambiguous)
+stage_of (Err TooLong) = refused 29
+stage_of (Err NoReading) = refused 16
 
-abbrev pub Answers : Grammar → Text → List ℕ → Walked → Type 0
+abbrev pub Answers : Grammar → Text → List ℕ → Result Found Unread → Type 0
 Answers g r out w = Settles (λ v. IsReading g r out v.0 v.1) (NotRead g r) (stage_of w)

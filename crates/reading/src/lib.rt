@@ -19,11 +19,16 @@ use sparse::{Stretch, rule_height};
 use splits::{AFTER_ALTERNATIVE, BEFORE_TERMINAL, number_at};
 use text::{CharPlace, limits};
 
-// What the walk comes to: the count of the left parse's numbers and the ambiguous mark; more numbers than a reading may have; the
-// root does not derive the record.
+// A reading: how many numbers its left parse has, and whether a second derivation exists.
 #[derive(Clone, Copy)]
-pub enum Walked {
-    Reading(usize, bool),
+pub struct Found {
+    pub count: usize,
+    pub ambiguous: bool,
+}
+
+// Why the walk finds none: more numbers than a reading may have, or the root does not derive the record.
+#[derive(Clone, Copy)]
+pub enum Unread {
     TooLong,
     NoReading,
 }
@@ -82,22 +87,18 @@ fn pop(stack: &[u32], h: Cursor) -> Cursor
     requires { (0 < h.depth) × (3 * h.depth ≤ length stack.now) }
     ensures { result ≡ popped stack.now h }
 {
-    let n = h.n;
     let depth = h.depth - 1;
     let b = STACK_COLUMNS * depth;
     let p = number_at(stack, b);
     let j = CharPlace(number_at(stack, b + STACK_PLACE));
     let i = h.j;
     Cursor {
-        size: h.size,
-        n: n,
-        p: p,
-        i: i,
-        j: j,
+        p,
+        i,
+        j,
         k: stack[b + STACK_HEIGHT],
-        at: h.at,
-        depth: depth,
-        mark: h.mark,
+        depth,
+        ..h
     }
 }
 
@@ -106,19 +107,9 @@ fn count_only(h: Cursor) -> Cursor
     requires { h.at ≤ reading_numbers }
     ensures { result ≡ counted h }
 {
-    let n = h.n;
-    let i = h.i;
-    let j = h.j;
     Cursor {
-        size: h.size,
-        n: n,
-        p: h.p,
-        i: i,
-        j: j,
-        k: h.k,
         at: h.at + 1,
-        depth: h.depth,
-        mark: h.mark,
+        ..h
     }
 }
 
@@ -150,15 +141,11 @@ fn enter(
     let other = other_alternative(code, marks, notes, main, rule.first, s, a.number);
     out[at] = a.number as u32;
     Cursor {
-        size: h.size,
-        n: n,
         p: a.place,
-        i: i,
-        j: j,
-        k: k,
+        k,
         at: at + 1,
-        depth: h.depth,
-        mark: text::either(h.mark, other),
+        mark: h.mark | other,
+        ..h
     }
 }
 
@@ -190,15 +177,10 @@ fn descend(
     let elsewhere = other_end(code, marks, notes, main, p, s, m);
     push(stack, h.depth, p + 1, j, h.k);
     let inner = Cursor {
-        size: h.size,
-        n: n,
-        p: p,
-        i: i,
         j: m,
-        k: h.k,
-        at: h.at,
         depth: h.depth + 1,
-        mark: text::either(h.mark, elsewhere),
+        mark: h.mark | elsewhere,
+        ..h
     };
     enter(code, marks, notes, main, rule, out, inner)
 }
@@ -224,20 +206,8 @@ fn step(
     }
     if kind == BEFORE_TERMINAL {
         let wide = number_at(code, CODE_COLUMNS * p + CODE_GOES);
-        let n = h.n;
         let i = CharPlace(h.i.0 + wide);
-        let j = h.j;
-        return Cursor {
-            size: h.size,
-            n: n,
-            p: p + 1,
-            i: i,
-            j: j,
-            k: h.k,
-            at: h.at,
-            depth: h.depth,
-            mark: h.mark,
-        };
+        return Cursor { p: p + 1, i, ..h };
     }
     descend(code, marks, notes, main, out, stack, h)
 }
@@ -270,7 +240,7 @@ pub fn walk(
     root: Root,
     out: &mut [u32],
     stack: &mut [u32],
-) -> Walked
+) -> Result<Found, Unread>
     requires { Given code.now marks.now notes.now main.now out.old stack.old root.size root.n.0 root.rule.name root.rule.first }
     ensures { (t : Finished code.now marks.now notes.now main.now root.size root.n.0 root.rule.name root.rule.first)
         → Answers t.g t.r out.new result }
@@ -282,7 +252,7 @@ pub fn walk(
     let n = CharPlace(end);
     let i = CharPlace(0);
     if rule_height(marks, notes, main, top, Stretch { size, n, i, j: n }) == NONE {
-        return Walked::NoReading;
+        return Err(Unread::NoReading);
     }
     let start = Cursor {
         size,
@@ -301,7 +271,10 @@ pub fn walk(
         h = step(code, marks, notes, main, out, stack, h);
     }
     if limits::READING_NUMBERS < h.at {
-        return Walked::TooLong;
+        return Err(Unread::TooLong);
     }
-    Walked::Reading(h.at, h.mark)
+    Ok(Found {
+        count: h.at,
+        ambiguous: h.mark,
+    })
 }

@@ -145,7 +145,5 @@ pub fn finished(state: &[u32]) -> bool
 pub fn wipe(state: &mut [u32])
     ensures { Blank state.new }
 {
-    for x in 0..state.len() {
-        state[x] = 0;
-    }
+    state.fill(0);
 }

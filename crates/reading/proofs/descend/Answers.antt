@@ -1,3 +1,5 @@
+use mathlib.Core.Bool.{◌||◌}
+use mathlib.Core.Path.{refl}
 use native.Mathlib.Omega.{arith}
 use Rattle.reading.proofs.Steps.{can-enter, stepped}
 use Rattle.reading.proofs.descend.Goals as goal
@@ -20,10 +22,10 @@ overflow_add-inner c =
 pub enter-requires : goal.enter-requires
 enter-requires c =
     let pre = c.requires in
-    can-enter pre.0 pre.1 c.number_at.result c.number_at-2.result c.number_at.ensures.0 c.number_at-2.ensures.0 c.find_end-m.result.0 c.either.result c.find_end-m.ensures
+    can-enter pre.0 pre.1 c.number_at.result c.number_at-2.result c.number_at.ensures.0 c.number_at-2.ensures.0 c.find_end-m.result.0 (c.args.h.mark || c.other_end-elsewhere.result) c.find_end-m.ensures
 
 pub returns : goal.returns
 returns c =
     let pre = c.requires in
-    stepped pre.0 pre.1 c.number_at.result c.number_at-2.result c.number_at.ensures.0 c.number_at-2.ensures.0 c.find_end-m.result.0 c.other_end-elsewhere.result c.either.result c.find_end-m.ensures
-    c.other_end-elsewhere.ensures c.push.ensures c.either.ensures c.enter.ensures
+    stepped pre.0 pre.1 c.number_at.result c.number_at-2.result c.number_at.ensures.0 c.number_at-2.ensures.0 c.find_end-m.result.0 c.other_end-elsewhere.result (c.args.h.mark || c.other_end-elsewhere.result) c.find_end-m.ensures
+    c.other_end-elsewhere.ensures c.push.ensures refl c.enter.ensures

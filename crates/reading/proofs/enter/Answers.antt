@@ -39,7 +39,7 @@ returns c =
     let a = c.args in
     let r = c.find_alternative-a.result in
     let high = c.rule_height-k.ensures a.code.now in
-    let mark = c.either.ensures in
+    let mark = refl in
     wrote r c.other_alternative-other.result c.if-at-ge-READING_NUMBERS.false
     (subst (λ (z : ℕ). FirstLow a.code.now a.marks.now a.notes.now a.h.size a.h.n.0 a.main.now a.rule.first a.h.i.0 a.h.j.0 z r)
     high c.find_alternative-a.ensures) c.other_alternative-other.ensures refl
