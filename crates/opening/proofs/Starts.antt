@@ -6,6 +6,7 @@ use mathlib.Core.List.{List, [], ◌∷◌}
 use Prim.Native.Nat.{ℕ}
 use native.Mathlib.Omega.{arith}
 use lib.Dec.{ltb, eqb}
+use Rattle.std.specs.Prelude.{Ok, Err}
 use Rattle.text.specs.Limits.{grammar_table}
 use Rattle.text.specs.Stages.{diagnostic_of}
 use Rattle.text.specs.Utf8.{known}
@@ -23,12 +24,8 @@ use Rattle.accept.specs.declared.Rules.{Rules}
 use Rattle.accept.specs.declared.Accepted.{Accepted}
 use Rattle.accept.specs.declared.Accepted.TheVariants.{Grammar as A-grammar, Refused as Turned-down}
 use Rattle.accept.specs.Accepted.{stage_of, Kept, Accepts}
-use Rattle.opening.specs.declared.Taken.{Taken}
-use Rattle.opening.specs.declared.Taken.TheVariants.{Chars, Refused}
 use Rattle.opening.specs.declared.Start.{Start}
-use Rattle.opening.specs.declared.Begun.{Begun}
-use Rattle.opening.specs.declared.Begun.TheVariants.{At, Refused as Ended}
-use Rattle.opening.specs.Stages.{taken_of, Takes, Opened, lending, lending_of, need_of, Small, NotBegun, Started, Opens, BeginsBy, Begins}
+use Rattle.opening.specs.Stages.{Takes, Opened, lending, need_of, Small, NotBegun, Opens, BeginsBy}
 
 -- the place of a value depends on those after it no more than they differ
 value-cong : (v : Value) (vs ws : List Value) (n : ℕ) → value_at vs n ≡ value_at ws n → value_at (v ∷ vs) n ≡ value_at (v ∷ ws) n
@@ -66,37 +63,36 @@ module _ (j : Job) (T new : List ℕ) where
       })
 
   -- 12 to 14
-  pub ends-record : (need : Need) (d : Accepted) (p : Rules) → d ≡ A-grammar p → Accepts j.grammar T d → (x : Taken) (k n : Diagnostic) → x ≡ Refused k
-      → n ≡ diagnostic_of (taken_of x) → Takes j.input new x → NotBegun need j n
-  ends-record need d p q l x k n e f t =
-      let kept : Kept j.grammar T p = subst (Accepts j.grammar T) q l in
-      let w : n ≡ k = f ∙ ap (λ (z : Taken). diagnostic_of (taken_of z)) e in
-      let s = subst (Takes j.input new) e t need j refl in
-      rw w (record { some = s.some; early = s.early; is = λ ts. kept.first (need_tests need j ts) ∙ s.is ts; places = s.places })
+  pub ends-record : (need : Need) (p : Rules) → Kept j.grammar T p → (k : Diagnostic) → Takes j.input new (Err k) → NotBegun need j k
+  ends-record need p kept k t =
+      let s = t need j refl in
+      record { some = s.some; early = s.early; is = λ ts. kept.first (need_tests need j ts) ∙ s.is ts; places = s.places }
 
 module _ (gs rs T new : List ℕ) where
-  pub opens-grammar : (d : Accepted) (k n : Diagnostic) → d ≡ Turned-down k → n ≡ diagnostic_of (stage_of d) → Accepts gs T d → Opens gs rs T new (Ended n)
+  pub opens-grammar : (d : Accepted) (k n : Diagnostic) → d ≡ Turned-down k → n ≡ diagnostic_of (stage_of d) → Accepts gs T d → Opens gs rs T new (Err n)
   opens-grammar d k n q e l = λ need j eg er. ends-grammar j T new need d k n q e (subst (λ (bs : List ℕ). Accepts bs T d) (sym eg) l)
 
   module _ (d : Accepted) (p : Rules) (q : d ≡ A-grammar p) (l : Accepts gs T d) where
-    pub opens-record : (x : Taken) (k n : Diagnostic) → x ≡ Refused k → n ≡ diagnostic_of (taken_of x) → Takes rs new x → Opens gs rs T new (Ended n)
-    opens-record x k n e f t = λ need j eg er.
-        ends-record j T new need d p q (subst (λ (bs : List ℕ). Accepts bs T d) (sym eg) l) x k n e f (subst (λ (bs : List ℕ). Takes bs new x) (sym er) t)
+    kept-by : Kept gs T p
+    kept-by = subst (Accepts gs T) q l
 
-    pub opens_at : (x : Taken) (n : CharPlace) → x ≡ Chars n → Takes rs new x → Opens gs rs T new (At (record { rules = p; chars = n }))
-    opens_at x n e t = record { grammar = subst (Accepts gs T) q l; input = subst (Takes rs new) e t }
+    pub opens-record : (k : Diagnostic) → Takes rs new (Err k) → Opens gs rs T new (Err k)
+    opens-record k t = λ need j eg er.
+        ends-record j T new need p (subst (λ (bs : List ℕ). Kept bs T p) (sym eg) kept-by) k (subst (λ (bs : List ℕ). Takes bs new (Err k)) (sym er) t)
+
+    pub opens_at : (n : CharPlace) → Takes rs new (Ok n) → Opens gs rs T new (Ok (record { rules = p; chars = n }))
+    opens_at n t = record { grammar = kept-by; input = t }
 
 -- sizes that the need is computed from
-pub small : (gs rs T new : List ℕ) (b : Begun) → Opens gs rs T new b → Small b
-small gs rs T new (Ended d) o = tt
-small gs rs T new (At s) o = (omega (arith, o.grammar.sized, o.grammar.small), omega (arith, o.input.count, o.input.short))
+pub small : {gs rs T new : List ℕ} (s : Start) → Opened gs rs T new s → Small s
+small s o = (omega (arith, o.grammar.sized, o.grammar.small), omega (arith, o.input.count, o.input.short))
 
 -- 15, where k is what the first table needs
 module _ (need : Need) (j : Job) (T new : List ℕ) (k : ℕ) where
   abbrev short : Bool
   short = ltb j.main_table k || ltb j.second_table grammar_table
 
-  lent_at : (s : Start) (o : Opened j.grammar j.input T new s) → k ≡ need o.grammar.tree o.input.chars → BeginsBy need j T new (lending s short)
+  pub lent_at : (s : Start) (o : Opened j.grammar j.input T new s) → k ≡ need o.grammar.tree o.input.chars → BeginsBy need j T new (lending s short)
   lent_at s o f = go short (ap (λ (n : ℕ). ltb j.main_table n || ltb j.second_table grammar_table) (sym f))
     where
       go : (c : Bool) → (ltb j.main_table (need o.grammar.tree o.input.chars) || ltb j.second_table grammar_table) ≡ c → BeginsBy need j T new (lending s c)
@@ -109,15 +105,5 @@ module _ (need : Need) (j : Job) (T new : List ℕ) (k : ℕ) where
       }
       go false w = record { grammar = o.grammar; input = o.input; enough = w }
 
-  pub begins-lent : (b : Begun) → Opens j.grammar j.input T new b
-      → ((s : Start) (o : Opened j.grammar j.input T new s) → b ≡ At s → k ≡ need o.grammar.tree o.input.chars)
-      → (r : Begun) → r ≡ lending_of b short → BeginsBy need j T new r
-  begins-lent (Ended d) o f r e = rw e (o need j refl refl)
-  begins-lent (At s) o f r e = rw e (lent_at s o (f s o refl))
-
-pub begun-at : (j : Job) (T new : List ℕ) (b : Begun) (s : Start) → b ≡ At s → Begins j T new b → Started j T new s
-begun-at j T new b s q w = subst (Begins j T new) q w
-
-pub need-is : {gs rs T new : List ℕ} (b : Begun) (k : ℕ) → k ≡ need_of b → (s : Start) (o : Opened gs rs T new s) → b ≡ At s → k ≡ main_need o.grammar.tree o.input.chars
-need-is b k f s o e =
-    f ∙ ap need_of e ∙ ap (λ (n : ℕ). table_need n s.chars.0) o.grammar.sized ∙ ap (table_need (size o.grammar.tree)) o.input.count
+pub need-is : {gs rs T new : List ℕ} (s : Start) (o : Opened gs rs T new s) → need_of s ≡ main_need o.grammar.tree o.input.chars
+need-is s o = ap (λ (n : ℕ). table_need n s.chars.0) o.grammar.sized ∙ ap (table_need (size o.grammar.tree)) o.input.count

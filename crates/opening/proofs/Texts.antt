@@ -30,11 +30,11 @@ use Rattle.text.proofs.Faults.{break-of}
 use Rattle.load.specs.Loaded.{places_of}
 use Rattle.answer.specs.Answer.{Job}
 use Rattle.decode.proofs.Answers.{Known, Tells, tells-of, tells-cut, tells-malformed, tells-unknown, told}
-use Rattle.opening.specs.declared.Taken.TheVariants.{Chars, Refused}
+use Rattle.std.specs.Prelude.{Ok, Err}
 use Rattle.opening.specs.Stages.{Got, Takes}
 
 module _ (bs old new : List ℕ) (r : Decoding) (w : Decodes bs 0 old r new) where
-  pub not_taken : OneOf (1 ∷ 2 ∷ 3 ∷ []) (tag_of the_type r) → (n : Diagnostic) → n ≡ why_of 12 13 r → Takes bs new (Refused n)
+  pub not_taken : OneOf (1 ∷ 2 ∷ 3 ∷ []) (tag_of the_type r) → (n : Diagnostic) → n ≡ why_of 12 13 r → Takes bs new (Err n)
   not_taken h n e = rw e (go w.answer (told bs 0 w).tells (some-refusal 11 12 r h))
     where
       at : (f : ℕ → Bool) (n : ℕ) (p : BytePlace) → Breaks f bs 0 p.0 → (j : Job) → j.input ≡ bs
@@ -43,7 +43,7 @@ module _ (bs old new : List ℕ) (r : Decoding) (w : Decodes bs 0 old r new) whe
           let e : break_of f j.input 0 ≡ p.0 = ap (λ (x : List ℕ). break_of f x 0) q ∙ break-of f bs 0 p.0 b in
           λ ι. record { byte = sym e ι; fault = 0; grammar = 0 }
 
-      go : {d : Decoding} → Stops bs 0 d → Tells (decode bs) d → ((why_of 12 13 d).number ≡ 0 → ⊥) → Takes bs new (Refused (why_of 12 13 d))
+      go : {d : Decoding} → Stops bs 0 d → Tells (decode bs) d → ((why_of 12 13 d).number ≡ 0 → ⊥) → Takes bs new (Err (why_of 12 13 d))
       go a (tells-of x) z = absurd (z refl)
       go (cut_short {p = p} b c) (tells-cut x) z =
           λ need j q. record { some = z; early = inl (omega arith); is = λ ts. stage-12 need j ts (ap decode q ∙ x); places = at every 12 p b j q }
@@ -67,7 +67,7 @@ module _ (bs old new : List ℕ) (r : Decoding) (w : Decodes bs 0 old r new) whe
         go (tells-malformed x) q = absurd (let z : ◌≡◌ {A = ℕ} 0 1 = cc in omega arith)
         go (tells-unknown x) q = absurd (let z : ◌≡◌ {A = ℕ} 0 1 = cc in omega arith)
 
-    pub too_many : (n : Diagnostic) → n ≡ plainly 14 → record_chars < k.0 → Takes bs new (Refused n)
+    pub too_many : (n : Diagnostic) → n ≡ plainly 14 → record_chars < k.0 → Takes bs new (Err n)
     too_many n u h =
         rw u (λ need j q. record {
           some = λ e. omega arith;
@@ -76,7 +76,7 @@ module _ (bs old new : List ℕ) (r : Decoding) (w : Decodes bs 0 old r new) whe
           places = refl;
         })
 
-    pub taken : k.0 ≤ record_chars → length old ≡ record_chars → Takes bs new (Chars k)
+    pub taken : k.0 ≤ record_chars → length old ≡ record_chars → Takes bs new (Ok k)
     taken h l =
         let c : k.0 ≡ length known.chars = known.count in
         let s : new ≡ over known.chars old = (told bs 0 w).stored known.chars known.is in

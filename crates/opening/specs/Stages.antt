@@ -1,5 +1,5 @@
 -- What the stages of a job answer.
-use Rattle.std.specs.Prelude.{Bool, true, false, ◌||◌, ◌≡◌, ◌⊎◌, List, ℕ, ◌≤◌, ltb, length, take}
+use Rattle.std.specs.Prelude.{Bool, true, false, Result, Ok, Err, ◌||◌, ◌≡◌, ◌⊎◌, List, ℕ, ◌≤◌, ltb, length, take}
 use Rattle.text.specs.Limits.{most_size, record_chars, grammar_table}
 use Rattle.text.specs.Lists.{Text, all, pick}
 use Rattle.text.specs.Stages.{StageAnswer, answered, refused, Settles, plainly}
@@ -10,11 +10,8 @@ use Rattle.answer.specs.Answer.{Job, Need, main_need, table_need}
 use Rattle.answer.specs.Compute.{Test, first_of, grammar_tests, need_tests, places_at, job_values}
 use Rattle.load.specs.Loaded.{places_of}
 use Rattle.accept.specs.Accepted.{Kept}
-use Rattle.opening.specs.declared.Taken.{Taken}
-use Rattle.opening.specs.declared.Taken.TheVariants.{Chars, Refused}
+use Rattle.text.specs.declared.CharPlace.{CharPlace}
 use Rattle.opening.specs.declared.Start.{Start}
-use Rattle.opening.specs.declared.Begun.{Begun}
-use Rattle.opening.specs.declared.Begun.TheVariants.{At, Refused as Ended}
 
 -- the n characters of some bytes stand in a buffer, all of the alphabet, and not too many
 pub record Got (bs new : List ℕ) (n : ℕ) : Type 0 where
@@ -33,11 +30,11 @@ pub record Stopped (first : List Test → ℕ) (j : Job) (d : Diagnostic) : Type
   pub places : places_of d.places ≡ places_at (job_values j) d.number
 
 -- document 01's number and values for each case
-abbrev pub taken_of : Taken → StageAnswer ℕ Diagnostic
-taken_of (Chars n) = answered n.0
-taken_of (Refused d) = refused d
+abbrev pub taken_of : Result CharPlace Diagnostic → StageAnswer ℕ Diagnostic
+taken_of (Ok n) = answered n.0
+taken_of (Err d) = refused d
 
-abbrev pub Takes : List ℕ → List ℕ → Taken → Type 0
+abbrev pub Takes : List ℕ → List ℕ → Result CharPlace Diagnostic → Type 0
 Takes bs new r = Settles (Got bs new) (λ d. (need : Need) (j : Job) → j.input ≡ bs → Stopped (λ ts. first_of (need_tests need j ts)) j d) (taken_of r)
 
 -- none of 1 to 14 applies, nor 24: the table has the grammar's tokens and plain rules, the buffer the record's characters
@@ -55,35 +52,29 @@ abbrev pub Started : Job → List ℕ → List ℕ → Start → Type 0
 Started = StartedBy main_need
 
 -- document 01's number and values for each case
-abbrev pub begun_of : Begun → StageAnswer Start Diagnostic
-begun_of (At s) = answered s
-begun_of (Ended d) = refused d
+abbrev pub begun_of : Result Start Diagnostic → StageAnswer Start Diagnostic
+begun_of (Ok s) = answered s
+begun_of (Err d) = refused d
 
 -- 15, by a test
-abbrev pub lending : Start → Bool → Begun
-lending s b = pick b (Ended (plainly 15)) (At s)
-
-abbrev pub lending_of : Begun → Bool → Begun
-lending_of (At s) b = lending s b
-lending_of (Ended d) b = Ended d
+abbrev pub lending : Start → Bool → Result Start Diagnostic
+lending s b = pick b (Err (plainly 15)) (Ok s)
 
 -- the numbers that the main table needs, of a job that is opened
-abbrev pub need_of : Begun → ℕ
-need_of (At s) = table_need s.rules.size s.chars.0
-need_of (Ended d) = 0
+abbrev pub need_of : Start → ℕ
+need_of s = table_need s.rules.size s.chars.0
 
-abbrev pub Small : Begun → Type 0
-Small (At s) = (s.rules.size ≤ most_size) × (s.chars.0 ≤ record_chars)
-Small (Ended d) = Unit
+abbrev pub Small : Start → Type 0
+Small s = (s.rules.size ≤ most_size) × (s.chars.0 ≤ record_chars)
 
 abbrev pub NotBegun : Need → Job → Diagnostic → Type 0
 NotBegun need j = Stopped (λ ts. first_of (grammar_tests j.grammar (need_tests need j ts))) j
 
-abbrev pub Opens : List ℕ → List ℕ → List ℕ → List ℕ → Begun → Type 0
+abbrev pub Opens : List ℕ → List ℕ → List ℕ → List ℕ → Result Start Diagnostic → Type 0
 Opens gs rs T new r = Settles (Opened gs rs T new) (λ d. (need : Need) (j : Job) → j.grammar ≡ gs → j.input ≡ rs → NotBegun need j d) (begun_of r)
 
-abbrev pub BeginsBy : Need → Job → List ℕ → List ℕ → Begun → Type 0
+abbrev pub BeginsBy : Need → Job → List ℕ → List ℕ → Result Start Diagnostic → Type 0
 BeginsBy need j T new r = Settles (StartedBy need j T new) (NotBegun need j) (begun_of r)
 
-abbrev pub Begins : Job → List ℕ → List ℕ → Begun → Type 0
+abbrev pub Begins : Job → List ℕ → List ℕ → Result Start Diagnostic → Type 0
 Begins = BeginsBy main_need

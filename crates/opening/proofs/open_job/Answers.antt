@@ -1,14 +1,15 @@
 use mathlib.Core.List.{[]}
+use Rattle.std.proofs.lemmas.Result.{err_from_is_err_and}
 use Rattle.opening.proofs.Starts.{opens-grammar, opens-record, opens_at}
 use Rattle.opening.proofs.open_job.Goals as goal
 
 pub returns-in_default : goal.returns-in_default
 returns-in_default c = opens-grammar _ _ _ [] _ _ _ c.in_default.is c.why_not_accepted.ensures c.accept_grammar-accepted.ensures
 
-pub returns-in_default-taken : goal.returns-in_default-taken
-returns-in_default-taken c =
-    opens-record _ _ _ _ _ _ c.in-Grammar.is c.accept_grammar-accepted.ensures _ _ _ c.in_default-taken.is c.why_taken.ensures c.take_record-taken.ensures
+pub returns-in_err-chars : goal.returns-in_err-chars
+returns-in_err-chars c =
+    let p = err_from_is_err_and c.from_residual.result c.from_residual.ensures.1 in
+    rw (p.1, p.2) (opens-record c.args.grammar.now c.args.record.now c.accept_grammar-accepted.new.table c.take_record.new.text _ _ c.in-Grammar.is c.accept_grammar-accepted.ensures _ c.in_err-chars.ensures)
 
 pub returns : goal.returns
-returns c =
-    opens_at _ _ _ _ _ _ c.in-Grammar.is c.accept_grammar-accepted.ensures _ _ c.in-Chars.is c.take_record-taken.ensures
+returns c = opens_at _ _ _ _ _ _ c.in-Grammar.is c.accept_grammar-accepted.ensures _ c.in_ok-chars.ensures
