@@ -13,6 +13,20 @@ pub struct Refusal {
     pub mismatch: bool,
 }
 
+// What refuses before the version counts.
+impl From<Diagnostic> for Refusal {
+    ghost use Rattle.std.specs.Prelude.{◌≡◌, false};
+
+    ghost from_gives = { λ why refusal. refusal ≡ record { why = why; mismatch = false } };
+
+    fn from(why: Diagnostic) -> Refusal {
+        Refusal {
+            why,
+            mismatch: false,
+        }
+    }
+}
+
 // Where a job is at fault: a byte, a character of the record, a character of the grammar. 0 where the number names no place.
 #[repr(C)]
 #[derive(Clone, Copy)]
@@ -86,7 +100,5 @@ pub fn copy(from: &[u32], count: usize, to: &mut [u32])
     requires { (count ≤ length from.now) × (count ≤ length to.old) }
     ensures { to.new ≡ take count from.now ++ drop count to.old }
 {
-    for i in 0..count {
-        to[i] = from[i];
-    }
+    to[..count].copy_from_slice(&from[..count]);
 }

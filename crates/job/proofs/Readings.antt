@@ -27,8 +27,10 @@ use Rattle.answer.specs.Answer.{Job, table_need}
 use Rattle.answer.specs.Compute.{Test, record_tests, fault_in, places_at, job_values}
 use Rattle.answer.proofs.Stages.{stage-16, stage-29, stage-read}
 use Rattle.answer.proofs.Settled.{same-mark}
-use Rattle.parser.specs.declared.Chosen.{Chosen}
-use Rattle.parser.specs.declared.Chosen.TheVariants.{Reading as A-reading, TooLong, NoReading}
+use Rattle.std.specs.Prelude.{Result, Ok, Err}
+use Rattle.reading.specs.declared.Found.{Found}
+use Rattle.parser.specs.declared.Failure.{Failure}
+use Rattle.parser.specs.declared.Failure.TheVariants.{TooLong, NoReading}
 use Rattle.parser.specs.Chosen.{Fails, Chooses}
 use Rattle.reading.specs.Answer.{IsReading, IsLong}
 use Rattle.viable.proofs.Fault.{root-produces, fault-settled}
@@ -112,10 +114,10 @@ module _ (j : Job) (Tab new : List ℕ) (s : Start) (w : Started j Tab new s) wh
         }
 
     -- what is chosen, whichever way, comes to what the stages come to
-    pub parses-of : (k : Chosen) → Chooses g (take s.chars.0 new) P k → Parses j Tab new P (parsed_of k s)
+    pub parses-of : (k : Result Found Failure) → Chooses g (take s.chars.0 new) P k → Parses j Tab new P (parsed_of k s)
     parses-of k a = go k (subst (λ (x : Text). Chooses g x P k) w.input.stored a)
       where
-        go : (c : Chosen) → Chooses g r P c → Parses j Tab new P (parsed_of c s)
-        go (A-reading n m) a = is-chosen n m a
-        go TooLong a = too_long a
-        go (NoReading k) a = fails k a
+        go : (c : Result Found Failure) → Chooses g r P c → Parses j Tab new P (parsed_of c s)
+        go (Ok f) a = is-chosen f.count f.ambiguous a
+        go (Err TooLong) a = too_long a
+        go (Err (NoReading k)) a = fails k a

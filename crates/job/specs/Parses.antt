@@ -1,7 +1,7 @@
 -- What all the stages together answer: the left parse of the chosen reading, or the first refusal.
-use Rattle.std.specs.Prelude.{false, ◌&&◌, ◌≡◌, List, ℕ, ◌≤◌, eqb, length, take}
+use Rattle.std.specs.Prelude.{Result, Ok, Err, ◌&&◌, ◌≡◌, List, ℕ, ◌≤◌, eqb, length, take}
 use Rattle.text.specs.Limits.{grammar_table, record_chars, reading_numbers}
-use Rattle.text.specs.Stages.{StageAnswer, answered, refused, Settles, plainly}
+use Rattle.text.specs.Stages.{StageAnswer, answered, refused, Settles}
 use Rattle.tree.specs.Tree.{Grammar}
 use Rattle.tree.specs.Tokens.{grammar_tokens}
 use Rattle.syntax.specs.Parser.{parsed}
@@ -12,26 +12,18 @@ use Rattle.items.specs.Items.{Items, Reads}
 use Rattle.answer.specs.Answer.{Job}
 use Rattle.answer.specs.Compute.{Test, first_of, tree_of, mismatch, places_at, job_values}
 use Rattle.load.specs.Loaded.{places_of}
-use Rattle.parser.specs.declared.Chosen as parser
-use Rattle.parser.specs.declared.Chosen.TheVariants.{Reading, TooLong, NoReading}
+use Rattle.reading.specs.declared.Found.{Found}
+use Rattle.parser.specs.declared.Failure.{Failure}
 use Rattle.job.specs.declared.LeftParse.{LeftParse}
 use Rattle.exported.specs.declared.Refusal.{Refusal}
-use Rattle.job.specs.declared.Parse.{Parse}
-use Rattle.job.specs.declared.Parse.TheVariants.{Chosen, Refused}
 use Rattle.opening.specs.declared.Start.{Start}
 use Rattle.opening.specs.Stages.{Got}
 use Rattle.job.specs.Found.{first_test, why_not}
 
--- the refusal, or none
-abbrev pub why_refused : Parse → Refusal
-why_refused (Chosen p) = record { why = plainly 0; mismatch = false }
-why_refused (Refused r) = r
-
 -- what is chosen, with what the first stages found
-abbrev pub parsed_of : parser.Chosen → Start → Parse
-parsed_of (Reading n m) s = Chosen (record { root = s.rules.root; count = n; chars = s.chars; ambiguous = m; mismatch = s.rules.mismatch })
-parsed_of TooLong s = Refused (record { why = why_not TooLong; mismatch = s.rules.mismatch })
-parsed_of (NoReading k) s = Refused (record { why = why_not (NoReading k); mismatch = s.rules.mismatch })
+abbrev pub parsed_of : Result Found Failure → Start → Result LeftParse Refusal
+parsed_of (Ok f) s = Ok (record { root = s.rules.root; count = f.count; chars = s.chars; ambiguous = f.ambiguous; mismatch = s.rules.mismatch })
+parsed_of (Err e) s = Err (record { why = why_not e; mismatch = s.rules.mismatch })
 
 -- the lengths of the lent buffers
 pub record Lent (T new P : List ℕ) : Type 0 where
@@ -63,9 +55,9 @@ pub record NotChosen (j : Job) (r : Refusal) : Type 0 where
   pub places : places_of r.why.places ≡ places_at (job_values j) r.why.number
 
 -- document 01's number and values for each case
-abbrev pub parse_of : Parse → StageAnswer LeftParse Refusal
-parse_of (Chosen p) = answered p
-parse_of (Refused r) = refused r
+abbrev pub parse_of : Result LeftParse Refusal → StageAnswer LeftParse Refusal
+parse_of (Ok p) = answered p
+parse_of (Err r) = refused r
 
-abbrev pub Parses : Job → List ℕ → List ℕ → List ℕ → Parse → Type 0
+abbrev pub Parses : Job → List ℕ → List ℕ → List ℕ → Result LeftParse Refusal → Type 0
 Parses j T new P r = Settles (IsChosen j T new P) (NotChosen j) (parse_of r)
