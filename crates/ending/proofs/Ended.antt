@@ -7,19 +7,16 @@ use native.Mathlib.Omega.{arith}
 use lib.ListN.{length, take}
 use Rattle.text.specs.Limits.{grammar_table, reading_numbers}
 use Rattle.text.specs.Lists.{Text}
-use Rattle.text.specs.Stages.{plainly, diagnostic_of}
+use Rattle.text.specs.Stages.{plainly}
 use Rattle.text.specs.declared.Diagnostic.{Diagnostic}
 use Rattle.answer.specs.Answer.{Line, line, Job}
 use Rattle.rounds.specs.After.{Finished}
-use Rattle.parser.specs.declared.Chosen.{Chosen}
-use Rattle.finish.specs.declared.Ended.{Ended}
-use Rattle.finish.specs.declared.Ended.TheVariants.{Found, Altered}
+use Rattle.std.specs.Prelude.{Option, Some, None, Result, Ok, Err}
+use Rattle.reading.specs.declared.Found.{Found}
+use Rattle.parser.specs.declared.Failure.{Failure}
 use Rattle.finish.specs.Ended.{Ends}
 use Rattle.opening.specs.declared.Start.{Start}
-use Rattle.opening.specs.declared.Begun.{Begun}
-use Rattle.opening.specs.declared.Begun.TheVariants.{At, Refused as Not-begun}
-use Rattle.opening.specs.Stages.{begun_of}
-use Rattle.job.specs.Found.{Prepared}
+use Rattle.job.specs.Found.{Readable, Prepared}
 use Rattle.job.specs.Parses.{parsed_of, Parses}
 use Rattle.job.proofs.Readings.{parses-of}
 use Rattle.state.specs.State.{rounds_of, FinishedBy}
@@ -30,9 +27,9 @@ use Rattle.ending.specs.Ending.{refused_with, EndsWith, early, altered, as-uncut
 
 module _ (j : Job) (S T new : List ℕ) where
   -- what the end is given of a read that is gone on with
-  pub prepared : (main parse : ℕ) (b : Begun) → Resumes j S T new b → j.main_table ≡ main → length T ≡ grammar_table → reading_numbers ≤ parse → Prepared b T new main parse
-  prepared main parse (At s) w m l r = record { job = j; started = w.started; lent = m; long = l; room = r }
-  prepared main parse (Not-begun d) w m l r = tt
+  pub prepared : (main parse : ℕ) (b : Result Start Diagnostic) → Resumes j S T new b → j.main_table ≡ main → length T ≡ grammar_table → reading_numbers ≤ parse → Prepared b T new main parse
+  prepared main parse (Ok s) w m l r = record { job = j; started = w.started; lent = m; long = l; room = r }
+  prepared main parse (Err d) w m l r = tt
 
   abbrev last : List Line
   last = line 26 (FinishedBy S → ⊥) ∷ []
@@ -43,20 +40,18 @@ module _ (j : Job) (S T new : List ℕ) where
 
   module _ (M P : List ℕ) (r : Ending) where
     -- 27 and 15
-    pub not-resumed : (b : Begun) (d n : Diagnostic) → b ≡ Not-begun d → n ≡ diagnostic_of (begun_of b) → Resumes j S T new b → r ≡ refused_with n 0 → EndsWith j T new M S P r
-    not-resumed b d n q e w y =
-        let x = subst (Resumes j S T new) q w in
-        let h : n ≡ d = e ∙ ap (λ (z : Begun). diagnostic_of (begun_of z)) q in
+    pub not-resumed : (d : Diagnostic) → Resumes j S T new (Err d) → r ≡ refused_with d 0 → EndsWith j T new M S P r
+    not-resumed d x y =
         let l = later-refused j S last d x in
-        early d.number 0 l.0 l.1 (y ∙ ap (λ (z : Diagnostic). refused_with z 0) (h ∙ l.3)) (λ z. absurd (not-26 d x z)) (λ _. refl)
+        early d.number 0 l.0 l.1 (y ∙ ap (λ (z : Diagnostic). refused_with z 0) l.3) (λ z. absurd (not-26 d x z)) (λ _. refl)
 
     module _ (s : Start) (w : Resumed j S T new s) where
       pub not_yet : (FinishedBy S → ⊥) → (k : ℕ) → k ≡ rounds_of S → (d : Diagnostic) → d ≡ plainly 26 → r ≡ refused_with d k → EndsWith j T new M S P r
       not_yet u k e d f y =
           early 26 k (later-passed j S last 26 w (inl (u, refl))) (λ z. omega arith) (y ∙ ap (λ (z : Diagnostic). refused_with z k) f) (λ _. e) (λ z. absurd (z refl))
 
-      module _ (f : FinishedBy S) (e : Ended) (x : Ends w.started.grammar.tree (take s.chars.0 new) M P e) where
-        pub other-table : e ≡ Altered → (d : Diagnostic) → d ≡ plainly 27 → r ≡ refused_with d 0 → EndsWith j T new M S P r
+      module _ (f : FinishedBy S) (e : Option (Result Found Failure)) (x : Ends w.started.grammar.tree (take s.chars.0 new) M P e) where
+        pub other-table : e ≡ None → (d : Diagnostic) → d ≡ plainly 27 → r ≡ refused_with d 0 → EndsWith j T new M S P r
         unfolding opened_of
         other-table q d z y =
             let no_end = subst (Ends w.started.grammar.tree (take s.chars.0 new) M P) q x in
@@ -64,7 +59,17 @@ module _ (j : Job) (S T new : List ℕ) where
             altered (later-passed j S last 0 w (inr (λ u. u f, refl))) (of-job j (opened_of j w.started) (λ g t. Finished g t M → ⊥) here)
             (y ∙ ap (λ (v : Diagnostic). refused_with v 0) z)
 
-        pub parsed : (k : Chosen) → e ≡ Found k → r.parse ≡ parsed_of k s → r.rounds ≡ rounds_of S → EndsWith j T new M S P r
+        pub parsed : (k : Result Found Failure) → e ≡ Some k → r.parse ≡ parsed_of k s → r.rounds ≡ rounds_of S → EndsWith j T new M S P r
         parsed k q y n =
             let p = parses-of j T new s w.started P k (subst (Ends w.started.grammar.tree (take s.chars.0 new) M P) q x) in
             as-uncut (later-passed j S last 0 w (inr (λ u. u f, refl))) (subst (Parses j T new P) (sym y) p) n
+
+-- what is known of a read that is gone on with
+pub resumed-at : {j : Job} {S T new : List ℕ} {b : Result Start Diagnostic} {s : Start} → b ≡ Ok s → Resumes j S T new b → Resumed j S T new s
+resumed-at {j} {S} {T} {new} q w = subst (Resumes j S T new) q w
+
+pub readable : {T new : List ℕ} {main parse : ℕ} {b : Result Start Diagnostic} {s : Start} → b ≡ Ok s → Prepared b T new main parse → Readable T new main parse s
+readable {T} {new} {main} {parse} e h = subst (λ (x : Result Start Diagnostic). Prepared x T new main parse) e h
+
+pub refused-at : (j : Job) (S T new : List ℕ) {b : Result Start Diagnostic} {d : Diagnostic} → b ≡ Err d → Resumes j S T new b → Resumes j S T new (Err d)
+refused-at j S T new q w = subst (Resumes j S T new) q w

@@ -1,17 +1,16 @@
 -- How a read in rounds ends.
-use Rattle.std.specs.Prelude.{false, ◌≡◌, List, ℕ}
+use Rattle.std.specs.Prelude.{Err, false, ◌≡◌, List, ℕ}
 use Rattle.text.specs.Stages.{plainly}
 use Rattle.text.specs.declared.Diagnostic.{Diagnostic}
 use Rattle.answer.specs.Answer.{Topmost, Job, of_job}
 use Rattle.rounds.specs.After.{Finished}
 use Rattle.state.specs.State.{rounds_of}
-use Rattle.job.specs.declared.Parse.TheVariants.{Refused}
 use Rattle.job.specs.Parses.{Parses}
 use Rattle.resume.specs.Resume.{end_lines}
 use Rattle.ending.specs.declared.Ending.{Ending}
 
 abbrev pub refused_with : Diagnostic → ℕ → Ending
-refused_with d k = record { parse = Refused (record { why = d; mismatch = false }); rounds = k }
+refused_with d k = record { parse = Err (record { why = d; mismatch = false }); rounds = k }
 
 -- 27, 15 and 26; 27 of a table that no finished read has; what the stages of an uncut read come to
 pub data EndsWith (j : Job) (T new M S P : List ℕ) (r : Ending) : Type 0 where

@@ -9,9 +9,8 @@ ghost use Rattle.resume.specs.Stages.{Resumes};
 ghost use Rattle.ending.specs.Ending.{refused_with, EndsWith};
 
 use exported::Refusal;
-use finish::Ended;
-use job::Parse;
-use opening::Begun;
+use job::LeftParse;
+use opening::Start;
 use text::Diagnostic;
 
 // A read that is not finished yet.
@@ -20,26 +19,22 @@ pub const NOT_YET: u32 = 26;
 // What the end of a read comes to: what the stages of an uncut one do, or a refusal; and how many rounds it tells.
 #[derive(Clone, Copy)]
 pub struct Ending {
-    pub parse: Parse,
+    pub parse: Result<LeftParse, Refusal>,
     pub rounds: usize,
 }
 
 fn refused(why: Diagnostic, rounds: usize) -> Ending
     ensures { result ≡ refused_with why rounds }
 {
-    let refusal = Refusal {
-        why,
-        mismatch: false,
-    };
     Ending {
-        parse: Parse::Refused(refusal),
+        parse: Err(Refusal::from(why)),
         rounds,
     }
 }
 
 // 26, 27 of a table that is not of a finished read, 16 and 29 of a read that is gone on with; the left parse goes to `parse`. A refusal stays.
 pub fn end_read(
-    begun: Begun,
+    begun: Result<Start, Diagnostic>,
     state: &[u32],
     table: &[u32],
     text: &[u32],
@@ -50,15 +45,16 @@ pub fn end_read(
     ensures { (j : Job) → Resumes j state.now table.now text.now begun
         → EndsWith j table.now text.now main.now state.now parse.new result }
 {
-    let Begun::At(start) = begun else {
-        return refused(opening::why_begun(begun), 0);
+    let start = match begun {
+        Ok(start) => start,
+        Err(why) => return refused(why, 0),
     };
     let rounds = text::wide(state::rounds(state));
     if !state::finished(state) {
         return refused(text::plain(NOT_YET), rounds);
     }
     let n = start.chars.0;
-    let ended = finish::finish(
+    let finished = finish::finish(
         table,
         start.rules.size,
         start.rules.root,
@@ -66,7 +62,7 @@ pub fn end_read(
         main,
         parse,
     );
-    let Ended::Found(chosen) = ended else {
+    let Some(chosen) = finished else {
         return refused(text::plain(resume::OTHER_STATE), 0);
     };
     let read = job::parse_of(chosen, start);

@@ -20,9 +20,8 @@ use Rattle.answer.proofs.Lines.{one-topmost, first-topmost}
 use Rattle.answer.proofs.Agree.{grammar-agrees, need-agrees, tree-known, tree-sound, one-grammar, one-record, same_test}
 use Rattle.answer.proofs.Stages.{stage-lent}
 use Rattle.opening.specs.declared.Start.{Start}
-use Rattle.opening.specs.declared.Begun.{Begun}
-use Rattle.opening.specs.declared.Begun.TheVariants.{At, Refused as Ended}
-use Rattle.opening.specs.Stages.{Opened, Started, Opens, lending, lending_of, need_of}
+use Rattle.std.specs.Prelude.{Result, Ok, Err}
+use Rattle.opening.specs.Stages.{Opened, Started, Opens, lending, need_of}
 use Rattle.opening.proofs.Starts.{need-is}
 use Rattle.state.specs.State.{Keeps}
 use Rattle.exported.specs.Exported.{shown, done, refusal_of}
@@ -55,10 +54,10 @@ startable {gs} {rs} {T} {new} {s = s} k o =
     record { keeps = k; main = m; second = grammar_table; starts = subst (Topmost (grammar_lines gs (input_lines j []))) e (tops j) }
 
 -- one that could not be opened could not
-pub unstartable : {gs rs S : List ℕ} (T new : List ℕ) (b : Begun) (d : Diagnostic) → b ≡ Ended d → Opens gs rs T new b → Belongs gs rs S → ⊥
-unstartable {gs} {rs} T new b d q o w =
+pub unstartable : {gs rs S : List ℕ} (T new : List ℕ) (d : Diagnostic) → Opens gs rs T new (Err d) → Belongs gs rs S → ⊥
+unstartable {gs} {rs} T new d o w =
     let j = job gs rs w.main w.second in
-    let x = subst (Opens gs rs T new) q o main_need j refl refl in
+    let x = o main_need j refl refl in
     let e = one-topmost (grammar_lines gs (input_lines j [])) (first_of (grammar_tests gs (need_tests main_need j []))) 0 (tops j) w.starts in
     x.some (sym (x.is []) ∙ e)
 
@@ -96,34 +95,26 @@ opened_of j w = record { grammar = w.grammar; input = w.input }
 
 -- the stages of a later call
 module _ (j : Job) (S T new : List ℕ) where
-  pub not-kept : (Keeps j.grammar j.input S → ⊥) → Resumes j S T new (Ended (plainly 27))
+  pub not-kept : (Keeps j.grammar j.input S → ⊥) → Resumes j S T new (Err (plainly 27))
   not-kept n = alien (λ b. n b.keeps)
 
-  pub not_opened : (b : Begun) (d : Diagnostic) → b ≡ Ended d → Opens j.grammar j.input T new b → Resumes j S T new (Ended (plainly 27))
-  not_opened b d q o = alien (unstartable T new b d q o)
+  pub not_opened : (d : Diagnostic) → Opens j.grammar j.input T new (Err d) → Resumes j S T new (Err (plainly 27))
+  not_opened d o = alien (unstartable T new d o)
 
-  pub lent-or-not : (b : Begun) (s : Start) → b ≡ At s → Opens j.grammar j.input T new b → Keeps j.grammar j.input S → (k : ℕ) → k ≡ need_of b
-      → (r : Begun) → r ≡ lending_of b (ltb j.main_table k || ltb j.second_table grammar_table) → Resumes j S T new r
-  lent-or-not b s q o keeps k f r z =
-      let y : r ≡ lending s (ltb j.main_table k || ltb j.second_table grammar_table) = z ∙ ap (λ (x : Begun). lending_of x (ltb j.main_table k || ltb j.second_table grammar_table)) q in
-      rw y (go (ltb j.main_table k || ltb j.second_table grammar_table) refl)
+  pub lent-or-not : (s : Start) → Opened j.grammar j.input T new s → Keeps j.grammar j.input S → (r : Result Start Diagnostic)
+      → r ≡ lending s (ltb j.main_table (need_of s) || ltb j.second_table grammar_table) → Resumes j S T new r
+  lent-or-not s o keeps r z = rw z (go (ltb j.main_table (need_of s) || ltb j.second_table grammar_table) refl)
     where
-      open-now : Opened j.grammar j.input T new s
-      open-now = subst (Opens j.grammar j.input T new) q o
+      is : (ltb j.main_table (main_need o.grammar.tree o.input.chars) || ltb j.second_table grammar_table) ≡ (ltb j.main_table (need_of s) || ltb j.second_table grammar_table)
+      is = ap (λ (n : ℕ). ltb j.main_table n || ltb j.second_table grammar_table) (sym (need-is s o))
 
-      is : (ltb j.main_table (main_need open-now.grammar.tree open-now.input.chars) || ltb j.second_table grammar_table) ≡ (ltb j.main_table k || ltb j.second_table grammar_table)
-      is = ap (λ (n : ℕ). ltb j.main_table n || ltb j.second_table grammar_table) (sym (need-is b k f s open-now q))
-
-      go : (c : Bool) → (ltb j.main_table k || ltb j.second_table grammar_table) ≡ c → Resumes j S T new (lending s c)
-      go true w = no_room (startable keeps open-now) (no-space j open-now (is ∙ w))
-      go false w = record { keeps = keeps; started = record { grammar = open-now.grammar; input = open-now.input; enough = is ∙ w } }
+      go : (c : Bool) → (ltb j.main_table (need_of s) || ltb j.second_table grammar_table) ≡ c → Resumes j S T new (lending s c)
+      go true w = no_room (startable keeps o) (no-space j o (is ∙ w))
+      go false w = record { keeps = keeps; started = record { grammar = o.grammar; input = o.input; enough = is ∙ w } }
 
 pub no-mark : (b : Bool) → T (b && false) → ⊥
 no-mark true h = h
 no-mark false h = h
-
-pub resumed-at : (j : Job) (S T new : List ℕ) (b : Begun) (s : Start) → b ≡ At s → Resumes j S T new b → Resumed j S T new s
-resumed-at j S T new b s q w = subst (Resumes j S T new) q w
 
 -- answers without a result
 module _ (j : Job) (S : List ℕ) where

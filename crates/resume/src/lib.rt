@@ -9,7 +9,7 @@ ghost use Rattle.resume.specs.Resume.{refusing};
 ghost use Rattle.resume.specs.Stages.{Resumes};
 
 use exported::{Answer, Refusal};
-use opening::Begun;
+use opening::Start;
 use text::Diagnostic;
 
 // A state, or a table, that is not of this read.
@@ -27,10 +27,7 @@ pub struct Progress {
 pub fn refuse(why: Diagnostic, rounds: usize) -> Progress
     ensures { result ≡ refusing why rounds }
 {
-    let answer = exported::refuse(Refusal {
-        why,
-        mismatch: false,
-    });
+    let answer = exported::refuse(Refusal::from(why));
     Progress { answer, rounds }
 }
 
@@ -43,17 +40,15 @@ pub fn resume(
     second: usize,
     table: &mut [u32],
     text: &mut [u32],
-) -> Begun
+) -> Result<Start, Diagnostic>
     requires { (length state.now ≡ state_length) × (length table.old ≡ grammar_table) × (length text.old ≡ record_chars) }
     ensures { Resumes (job grammar.now «record».now main second) state.now table.new text.new result }
 {
     if !state::keeps(state, grammar, record) {
-        return Begun::Refused(text::plain(OTHER_STATE));
+        return Err(text::plain(OTHER_STATE));
     }
-    let opened = opening::open_job(grammar, record, table, text);
-    let Begun::At(_) = opened else {
-        return Begun::Refused(text::plain(OTHER_STATE));
+    let Ok(start) = opening::open_job(grammar, record, table, text) else {
+        return Err(text::plain(OTHER_STATE));
     };
-    let need = opening::need_of(opened);
-    opening::lend(opened, main, need, second)
+    opening::lend_main(start, main, second)
 }

@@ -7,7 +7,6 @@ use native.Mathlib.Omega.{arith}
 use lib.ListN.{length, get_or, take}
 use Rattle.text.specs.Limits.{grammar_table, reading_numbers}
 use Rattle.text.specs.Lists.{Text}
-use Rattle.text.specs.Stages.{diagnostic_of}
 use Rattle.text.specs.declared.Diagnostic.{Diagnostic}
 use Rattle.tree.specs.Tree.{Grammar}
 use Rattle.chart.specs.Code.{flag}
@@ -17,9 +16,8 @@ use Rattle.answer.specs.Answer.{Job, table_need}
 use Rattle.advance.specs.Round.{Readable, Rounded}
 use Rattle.state.specs.State.{rounds_of, FinishedBy, Keeps, Counted, Blank}
 use Rattle.opening.specs.declared.Start.{Start}
-use Rattle.opening.specs.declared.Begun.{Begun}
-use Rattle.opening.specs.declared.Begun.TheVariants.{Refused as Ended}
-use Rattle.opening.specs.Stages.{begun_of, Started, Begins}
+use Rattle.std.specs.Prelude.{Err}
+use Rattle.opening.specs.Stages.{Started, Begins}
 use Rattle.job.proofs.Readings.{choosable}
 use Rattle.exported.specs.declared.Answer.{Answer}
 use Rattle.exported.specs.Exported.{done, refusal_of}
@@ -33,9 +31,9 @@ abbrev pub Refuses : Progress → Diagnostic → Type 0
 Refuses a n = a ≡ record { answer = refusal_of (record { why = n; mismatch = false }); rounds = 0 }
 
 module _ (j : Job) (T new M : List ℕ) where
-  pub started-refused : (S' : List ℕ) (b : Begun) (d n : Diagnostic) (a : Progress) → b ≡ Ended d → n ≡ diagnostic_of (begun_of b) → Begins j T new b → Refuses a n → Blank S' → StartedAs j M a M S'
-  started-refused S' b d n a q e w z y =
-      let x = start-refused j T new b d n q e w in
+  pub started-refused : (S' : List ℕ) (d : Diagnostic) (a : Progress) → Begins j T new (Err d) → Refuses a d → Blank S' → StartedAs j M a M S'
+  started-refused S' d a w z y =
+      let x = start-refused j T new d w in
       rw z (record { answer = x.0; rounds = refl; refused = λ _. (refl, y); begun = λ o. absurd (x.1 o) })
 
   pub started-done : (M' S' : List ℕ) (s : Start) (A : Answer) → Started j T new s → A ≡ done 0 false s.rules.mismatch → length M' ≡ j.main_table
@@ -49,12 +47,10 @@ module _ (j : Job) (T new M : List ℕ) where
   })
 
   module _ (S : List ℕ) where
-    pub rounded-refused : (b : Begun) (d n : Diagnostic) (a : Progress) → b ≡ Ended d → n ≡ diagnostic_of (begun_of b) → Resumes j S T new b → Refuses a n → RoundedAs j M S a M S
-    rounded-refused b d n a q e w z =
-        let x = subst (Resumes j S T new) q w in
-        let h : n ≡ d = e ∙ ap (λ (y : Begun). diagnostic_of (begun_of y)) q in
+    pub rounded-refused : (d : Diagnostic) (a : Progress) → Resumes j S T new (Err d) → Refuses a d → RoundedAs j M S a M S
+    rounded-refused d a x z =
         let y = later-refused j S [] d x in
-        rw (z, h) (record {
+        rw z (record {
           answer = rounds-refused j S d x;
           refused = λ _. (refl, refl, refl);
           over = λ o. absurd (y.1 o);

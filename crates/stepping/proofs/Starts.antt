@@ -11,7 +11,7 @@ use borrow.Author.Tests.{ltb-false}
 use lib.ListN.{length, get_or, take, length-append}
 use Rattle.text.specs.Limits.{grammar_bytes, grammar_table, record_chars}
 use Rattle.text.specs.Lists.{Text, pick}
-use Rattle.text.specs.Stages.{diagnostic_of}
+use Rattle.std.specs.Prelude.{Err}
 use Rattle.text.specs.Utf8.{utf8, utf8s}
 use Rattle.text.specs.declared.Diagnostic.{Diagnostic}
 use Rattle.text.proofs.Decode.{decode-sound}
@@ -31,9 +31,7 @@ use Rattle.answer.specs.Compute.{first_of, grammar_tests, need_tests, job_values
 use Rattle.answer.proofs.Stages.{stage-1, stage-lent}
 use Rattle.answer.proofs.Noted.{keeps-job, keeps_placed}
 use Rattle.opening.specs.declared.Start.{Start}
-use Rattle.opening.specs.declared.Begun.{Begun}
-use Rattle.opening.specs.declared.Begun.TheVariants.{Refused as Ended}
-use Rattle.opening.specs.Stages.{begun_of, Started, Begins, NotBegun}
+use Rattle.opening.specs.Stages.{Started, Begins, NotBegun}
 use Rattle.exported.specs.Exported.{shown, done, refusal_of}
 use Rattle.resume.specs.Resume as calls
 use Rattle.resume.proofs.Lines.{tops, version-known, no-mark, of-job, opened_of}
@@ -135,12 +133,8 @@ module _ (j : Job) (Tb new : List ℕ) where
             (keeps_placed d.number (job_notes j) (job_values j) (keeps-job main_need j [] tt d.number t (λ e. absurd (no-fault d.number w.early e))));
       }
 
-  pub start-refused : (b : Begun) (d n : Diagnostic) → b ≡ Ended d → n ≡ diagnostic_of (begun_of b) → Begins j Tb new b
-      → calls.Starts j (shown (refusal_of (record { why = n; mismatch = false }))) × (n.number ≡ 0 → ⊥)
-  start-refused b d n q e w =
-      let s = subst (Begins j Tb new) q w in
-      let h : n ≡ d = e ∙ ap (λ (x : Begun). diagnostic_of (begun_of x)) q in
-      rw h (stopped d s, s.some)
+  pub start-refused : (d : Diagnostic) → Begins j Tb new (Err d) → calls.Starts j (shown (refusal_of (record { why = d; mismatch = false }))) × (d.number ≡ 0 → ⊥)
+  start-refused d s = (stopped d s, s.some)
 
   pub start-done : (s : Start) → Started j Tb new s → calls.Starts j (shown (done 0 false s.rules.mismatch))
   start-done s w =

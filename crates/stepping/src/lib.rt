@@ -3,11 +3,9 @@
 
 ghost use Rattle.std.specs.Prelude.{◌≡◌, length};
 ghost use Rattle.answer.specs.Answer.{job};
-ghost use Rattle.chart.specs.Code.{flag};
 ghost use Rattle.state.specs.State.{state_length};
 ghost use Rattle.resume.specs.Resume.{StartedAs, RoundedAs};
 
-use opening::Begun;
 use resume::Progress;
 use text::limits;
 
@@ -24,10 +22,12 @@ pub fn start(
 {
     let mut table = [0u32; limits::GRAMMAR_TABLE];
     let mut text = [0u32; limits::RECORD_CHARACTERS];
-    let begun = opening::begin(grammar, record, main.len(), second, &mut table, &mut text);
-    let Begun::At(start) = begun else {
-        state::wipe(state);
-        return resume::refuse(opening::why_begun(begun), 0);
+    let start = match opening::begin(grammar, record, main.len(), second, &mut table, &mut text) {
+        Ok(start) => start,
+        Err(why) => {
+            state::wipe(state);
+            return resume::refuse(why, 0);
+        }
     };
     let need = room::need(start.rules.size, start.chars.0);
     chart::clear(main, need);
@@ -36,16 +36,6 @@ pub fn start(
         answer: exported::answered(0, false, start.rules.mismatch),
         rounds: 0,
     }
-}
-
-// 1 for yes.
-fn flag_of(b: bool) -> u32
-    ensures { result ≡ flag b }
-{
-    if b {
-        return 1;
-    }
-    0
 }
 
 // Does one round. Local are 66,336 bytes.
@@ -71,8 +61,9 @@ pub fn round(
         &mut table,
         &mut text,
     );
-    let Begun::At(start) = begun else {
-        return resume::refuse(opening::why_begun(begun), 0);
+    let start = match begun {
+        Ok(start) => start,
+        Err(why) => return resume::refuse(why, 0),
     };
     let answer = exported::answered(0, false, start.rules.mismatch);
     let done = state::rounds(state);
@@ -89,7 +80,7 @@ pub fn round(
         rounds,
         main,
     );
-    state::count(state, done + 1, flag_of(last));
+    state::count(state, done + 1, u32::from(last));
     Progress {
         answer,
         rounds: rounds + 1,
