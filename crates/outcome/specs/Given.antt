@@ -1,5 +1,5 @@
 -- What a caller is given: the numbers or the XML of a chosen reading, the tidy text of a grammar.
-use Rattle.std.specs.Prelude.{Bool, true, false, ◌≡◌, ◌⊎◌, List, ◌++◌, ℕ, ◌≤◌, ◌<◌, length, take, drop}
+use Rattle.std.specs.Prelude.{Bool, true, false, Result, Ok, Err, ◌≡◌, ◌⊎◌, List, ◌++◌, ℕ, ◌≤◌, ◌<◌, length, take, drop}
 use Rattle.text.specs.Stages.{plainly}
 use Rattle.tree.specs.Tree.{Grammar}
 use Rattle.tree.specs.Tokens.{Token}
@@ -15,8 +15,7 @@ use Rattle.accept.specs.declared.Accepted.{Accepted}
 use Rattle.accept.specs.declared.Accepted.TheVariants.{Grammar as A-grammar, Refused as Not-accepted}
 use Rattle.derive.specs.Derive.{Row}
 use Rattle.job.specs.declared.LeftParse.{LeftParse}
-use Rattle.job.specs.declared.Parse.{Parse}
-use Rattle.job.specs.declared.Parse.TheVariants.{Chosen, Refused}
+use Rattle.exported.specs.declared.Refusal.{Refusal}
 use Rattle.convert.specs.declared.Converted.{Converted}
 use Rattle.convert.specs.Concluded.{Parsing, Ready, Concludes}
 use Rattle.exported.specs.declared.Answer.{Answer}
@@ -24,9 +23,9 @@ use Rattle.exported.specs.Exported.{done, refusal_of}
 use Rattle.outcome.specs.Outcome.{answer_of}
 
 -- 1. Numbers: so many stand in `P`.
-abbrev pub Counted : Parse → List ℕ → Type 0
-Counted (Chosen f) P = f.count ≤ length P
-Counted (Refused k) P = Unit
+abbrev pub Counted : Result LeftParse Refusal → List ℕ → Type 0
+Counted (Ok f) P = f.count ≤ length P
+Counted (Err k) P = Unit
 
 -- they fit, and are copied
 pub record Fitting (f : LeftParse) (P old new : List ℕ) (a : Answer) : Type 0 where
@@ -40,9 +39,9 @@ pub record TooLong (f : LeftParse) (old new : List ℕ) (a : Answer) : Type 0 wh
   pub answer : a ≡ refusal_of (record { why = plainly 23; mismatch = f.mismatch })
   pub buffer : new ≡ old
 
-abbrev pub GivesNumbers : Parse → List ℕ → List ℕ → List ℕ → Answer → Type 0
-GivesNumbers (Chosen f) P old new a = Fitting f P old new a ⊎ TooLong f old new a
-GivesNumbers (Refused k) P old new a = (a ≡ refusal_of k) × (new ≡ old)
+abbrev pub GivesNumbers : Result LeftParse Refusal → List ℕ → List ℕ → List ℕ → Answer → Type 0
+GivesNumbers (Ok f) P old new a = Fitting f P old new a ⊎ TooLong f old new a
+GivesNumbers (Err k) P old new a = (a ≡ refusal_of k) × (new ≡ old)
 
 -- 2. XML: the numbers in `P` name a derivation of the characters in `R`.
 pub record Writable (f : LeftParse) (T R P : List ℕ) : Type 0 where
@@ -50,9 +49,9 @@ pub record Writable (f : LeftParse) (T R P : List ℕ) : Type 0 where
   pub chars : f.chars.0 ≡ length (take f.chars.0 R)
   pub ready : Ready T f.root (take f.count P) (take f.chars.0 R)
 
-abbrev pub Named : Parse → List ℕ → List ℕ → List ℕ → Type 0
-Named (Chosen f) T R P = Writable f T R P
-Named (Refused k) T R P = Unit
+abbrev pub Named : Result LeftParse Refusal → List ℕ → List ℕ → List ℕ → Type 0
+Named (Ok f) T R P = Writable f T R P
+Named (Err k) T R P = Unit
 
 -- whatever derivation they name, this is concluded of it
 pub record Concluding (f : LeftParse) (T R P old new : List ℕ) (a : Answer) : Type 0 where
@@ -61,9 +60,9 @@ pub record Concluding (f : LeftParse) (T R P old new : List ℕ) (a : Answer) : 
       → Concludes g (take f.chars.0 R) t f.ambiguous f.mismatch old new converted
   pub answer : a ≡ answer_of converted f.ambiguous f.mismatch
 
-abbrev pub GivesXml : Parse → List ℕ → List ℕ → List ℕ → List ℕ → List ℕ → Answer → Type 0
-GivesXml (Chosen f) T R P old new a = Concluding f T R P old new a
-GivesXml (Refused k) T R P old new a = (a ≡ refusal_of k) × (new ≡ old)
+abbrev pub GivesXml : Result LeftParse Refusal → List ℕ → List ℕ → List ℕ → List ℕ → List ℕ → Answer → Type 0
+GivesXml (Ok f) T R P old new a = Concluding f T R P old new a
+GivesXml (Err k) T R P old new a = (a ≡ refusal_of k) × (new ≡ old)
 
 -- 3. Tidy text: the tokens stand in `T`.
 abbrev pub Tokened : Accepted → List ℕ → Type 0

@@ -9,7 +9,7 @@ ghost use Rattle.outcome.specs.Judging.{Judgeable, Concluded};
 use accept::{Accepted, Rules};
 use convert::Converted;
 use exported::{Answer, Refusal, answered, refuse};
-use job::Parse;
+use job::LeftParse;
 use markup::StateWords;
 use text::refusals;
 use tidy_text::Tidied;
@@ -28,12 +28,13 @@ pub fn answer_to(converted: Converted, ambiguous: bool, mismatch: bool) -> Answe
 }
 
 // The numbers of a chosen reading, or the refusal.
-pub fn give_numbers(parsed: Parse, parse: &[u32], res: &mut [u32]) -> Answer
+pub fn give_numbers(parsed: Result<LeftParse, Refusal>, parse: &[u32], res: &mut [u32]) -> Answer
     requires { Counted parsed parse.now }
     ensures { GivesNumbers parsed parse.now res.old res.new result }
 {
-    let Parse::Chosen(found) = parsed else {
-        return refuse(job::why_refused(parsed));
+    let found = match parsed {
+        Ok(found) => found,
+        Err(refusal) => return refuse(refusal),
     };
     if res.len() < found.count {
         return refuse(Refusal {
@@ -46,12 +47,19 @@ pub fn give_numbers(parsed: Parse, parse: &[u32], res: &mut [u32]) -> Answer
 }
 
 // Its XML, or the refusal.
-pub fn give_xml(parsed: Parse, table: &[u32], text: &[u32], parse: &[u32], res: &mut [u8]) -> Answer
+pub fn give_xml(
+    parsed: Result<LeftParse, Refusal>,
+    table: &[u32],
+    text: &[u32],
+    parse: &[u32],
+    res: &mut [u8],
+) -> Answer
     requires { Named parsed table.now text.now parse.now }
     ensures { GivesXml parsed table.now text.now parse.now res.old res.new result }
 {
-    let Parse::Chosen(found) = parsed else {
-        return refuse(job::why_refused(parsed));
+    let found = match parsed {
+        Ok(found) => found,
+        Err(refusal) => return refuse(refusal),
     };
     let count = found.count;
     let chars = found.chars.0;

@@ -14,8 +14,8 @@ use Rattle.answer.specs.Answer.{Job, Converts, as_xml}
 use Rattle.answer.specs.Compute.{Outcome, Test, document_tests, long_test, convert_of}
 use Rattle.answer.proofs.Settled.{convert-answers}
 use Rattle.job.specs.declared.LeftParse.{LeftParse}
-use Rattle.job.specs.declared.Parse.{Parse}
-use Rattle.job.specs.declared.Parse.TheVariants.{Chosen, Refused}
+use Rattle.std.specs.Prelude.{Result, Ok, Err}
+use Rattle.exported.specs.declared.Refusal.{Refusal}
 use Rattle.job.specs.Parses.{IsChosen, Parses}
 use Rattle.opening.proofs.Texts.{got-part}
 use Rattle.convert.specs.Concluded.{Parsing, Ready, Concludes}
@@ -59,11 +59,11 @@ module _ (j : Job) (old : List ℕ) where
   }
 
   -- whatever is given of a parse
-  pub convert-given : (T new P : List ℕ) (p : Parse) → Parses j T new P p → (new' : List ℕ) (a : Answer) → GivesXml p T new P old new' a → ConvertedAs j old a new'
+  pub convert-given : (T new P : List ℕ) (p : Result LeftParse Refusal) → Parses j T new P p → (new' : List ℕ) (a : Answer) → GivesXml p T new P old new' a → ConvertedAs j old a new'
   unfolding convert_of
-  convert-given T new P (Refused k) w new' a h =
+  convert-given T new P (Err k) w new' a h =
       rw (h.0, h.1) (convert-as (refusal_of k) old (call-refused j old as_xml tests k (w.is tests) w.some w.version w.places))
-  convert-given T new P (Chosen f) y new' a h =
+  convert-given T new P (Ok f) y new' a h =
       let s : Spoken chosen_of j y.tree y.input.chars y.row = record { is = y.is; decoded = y.input.decoded; choice = y.choice } in
       let v = h.converted in
       let c : Concludes y.tree y.input.chars y.row f.ambiguous f.mismatch old new' v = subst
@@ -72,6 +72,6 @@ module _ (j : Job) (old : List ℕ) where
       (concluded s ambiguous_of old f.mismatch f.ambiguous y.version y.mark new' v c _ (y.first tests)))
 
 -- what stands in the buffers can be written
-pub named : (j : Job) (T new P : List ℕ) (p : Parse) → Parses j T new P p → length T ≡ grammar_table → Named p T new P
-named j T new P (Refused k) w l = tt
-named j T new P (Chosen f) y l = record { numbers = numbers-part j T new P f y; chars = got-part y.input; ready = convertible j T new P f y l }
+pub named : (j : Job) (T new P : List ℕ) (p : Result LeftParse Refusal) → Parses j T new P p → length T ≡ grammar_table → Named p T new P
+named j T new P (Err k) w l = tt
+named j T new P (Ok f) y l = record { numbers = numbers-part j T new P f y; chars = got-part y.input; ready = convertible j T new P f y l }

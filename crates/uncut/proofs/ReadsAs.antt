@@ -12,8 +12,7 @@ use Rattle.answer.specs.Compute.{Outcome, Test, long_test, read_of}
 use Rattle.answer.proofs.Settled.{read-answers}
 use Rattle.job.specs.declared.LeftParse.{LeftParse}
 use Rattle.exported.specs.declared.Refusal.{Refusal}
-use Rattle.job.specs.declared.Parse.{Parse}
-use Rattle.job.specs.declared.Parse.TheVariants.{Chosen, Refused}
+use Rattle.std.specs.Prelude.{Result, Ok, Err}
 use Rattle.job.specs.Parses.{IsChosen, Parses}
 use Rattle.exported.specs.declared.Answer.{Answer}
 use Rattle.text.specs.Stages.{plainly}
@@ -48,16 +47,16 @@ module _ (j : Job) (old : List ℕ) where
       rw h.answer (read_as (done f.count f.ambiguous f.mismatch) new' (o ∙ b))
 
   -- whatever is given of a parse
-  pub read-given : (T new P : List ℕ) (p : Parse) → Parses j T new P p → (new' : List ℕ) (a : Answer) → GivesNumbers p P old new' a → ReadAs j old a new'
+  pub read-given : (T new P : List ℕ) (p : Result LeftParse Refusal) → Parses j T new P p → (new' : List ℕ) (a : Answer) → GivesNumbers p P old new' a → ReadAs j old a new'
   unfolding read_of
-  read-given T new P (Refused k) w new' a h = rw h.1 (refused_as a k h.0 (call-refused j old as_numbers tests k (w.is tests) w.some w.version w.places))
-  read-given T new P (Chosen f) y new' a (inl h) = read_fits T new P f y new' a h
-  read-given T new P (Chosen f) y new' a (inr h) =
+  read-given T new P (Err k) w new' a h = rw h.1 (refused_as a k h.0 (call-refused j old as_numbers tests k (w.is tests) w.some w.version w.places))
+  read-given T new P (Ok f) y new' a (inl h) = read_fits T new P f y new' a h
+  read-given T new P (Ok f) y new' a (inr h) =
       let e = y.first tests ∙ too_long j T new P f y as_numbers old (omega (arith, y.count, h.longer)) in
       let r : Refusal = record { why = plainly 23; mismatch = f.mismatch } in
       rw h.buffer (refused_as a r h.answer (call-refused j old as_numbers tests r e (λ e. omega arith) refl refl))
 
 -- its numbers stand in the buffer
-pub counted : (j : Job) (T new P : List ℕ) (p : Parse) → Parses j T new P p → Counted p P
-counted j T new P (Refused k) w = tt
-counted j T new P (Chosen f) y = numbers-in j T new P f y
+pub counted : (j : Job) (T new P : List ℕ) (p : Result LeftParse Refusal) → Parses j T new P p → Counted p P
+counted j T new P (Err k) w = tt
+counted j T new P (Ok f) y = numbers-in j T new P f y
