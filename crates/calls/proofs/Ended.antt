@@ -6,8 +6,8 @@ use lib.ListN.{length}
 use Rattle.text.specs.Limits.{grammar_table}
 use Rattle.answer.specs.Answer as defined
 use Rattle.answer.specs.Answer.{Job, Reads, Converts}
-use Rattle.job.specs.declared.Parse.{Parse}
-use Rattle.job.specs.declared.Parse.TheVariants.{Refused}
+use Rattle.std.specs.Prelude.{Result, Err}
+use Rattle.job.specs.declared.LeftParse.{LeftParse}
 use Rattle.exported.specs.declared.Refusal.{Refusal}
 use Rattle.job.specs.Parses.{Parses}
 use Rattle.exported.specs.declared.Answer.{Answer}
@@ -21,7 +21,7 @@ use Rattle.uncut.proofs.ConvertsAs.{named, convert-given}
 
 module _ {j : Job} {T new M S P : List ℕ} {r : Ending} where
   -- of a refusal, or of what the stages come to
-  of-parse : (Q : Parse → Type 0) → ((k : Refusal) → Q (Refused k)) → ((p : Parse) → Parses j T new P p → Q p) → EndsWith j T new M S P r → Q r.parse
+  of-parse : (Q : Result LeftParse Refusal → Type 0) → ((k : Refusal) → Q (Err k)) → ((p : Result LeftParse Refusal) → Parses j T new P p → Q p) → EndsWith j T new M S P r → Q r.parse
   of-parse Q refused read (ends-early n k t z e x y) = subst Q (sym (ap (λ (o : Ending). o.parse) e)) (refused _)
   of-parse Q refused read (ends-altered t x e) = subst Q (sym (ap (λ (o : Ending). o.parse) e)) (refused _)
   of-parse Q refused read (ends-uncut t p e) = read r.parse p
@@ -32,8 +32,8 @@ module _ {j : Job} {T new M S P : List ℕ} {r : Ending} where
   pub named_end : length T ≡ grammar_table → EndsWith j T new M S P r → Named r.parse T new P
   named_end l = of-parse (λ p. Named p T new P) (λ k. tt) (λ p w. named j T new P p w l)
 
-  module _ (Uncut : Job → List ℕ → defined.Answer → List ℕ → Type 0) (Gives : Parse → Type 0) (old new' : List ℕ) (a : Answer)
-      (refused : (k : Refusal) → Gives (Refused k) → (a ≡ refusal_of k) × (new' ≡ old)) (read : (p : Parse) → Parses j T new P p → Gives p → Uncut j old (shown a) new') where
+  module _ (Uncut : Job → List ℕ → defined.Answer → List ℕ → Type 0) (Gives : Result LeftParse Refusal → Type 0) (old new' : List ℕ) (a : Answer)
+      (refused : (k : Refusal) → Gives (Err k) → (a ≡ refusal_of k) × (new' ≡ old)) (read : (p : Result LeftParse Refusal) → Parses j T new P p → Gives p → Uncut j old (shown a) new') where
     ended-as : EndsWith j T new M S P r → Gives r.parse → EndedAs Uncut j M S old (record { answer = a; rounds = r.rounds }) new'
     ended-as (ends-early n k t z e x y) g =
         let q = refused _ (subst Gives (ap (λ (o : Ending). o.parse) e) g) in

@@ -10,7 +10,7 @@ use lib.ListN.{length, take}
 use borrow.Author.Tests.{ne_eqb, ltb-false}
 use Rattle.text.specs.Limits.{grammar_table}
 use Rattle.text.specs.Lists.{Text}
-use Rattle.text.specs.Stages.{diagnostic_of, plainly}
+use Rattle.text.specs.Stages.{plainly}
 use Rattle.text.specs.declared.Diagnostic.{Diagnostic}
 use Rattle.tree.specs.Tree.{Grammar}
 use Rattle.derive.specs.Pick.{Choice, found, no-choice}
@@ -23,9 +23,8 @@ use Rattle.answer.proofs.Named.{named-found, found-named}
 use Rattle.answer.proofs.Settled.{judge-answers}
 use Rattle.answer.proofs.Stages.{stage-lent, stage-none, stage-found}
 use Rattle.opening.specs.declared.Start.{Start}
-use Rattle.opening.specs.declared.Begun.{Begun}
-use Rattle.opening.specs.declared.Begun.TheVariants.{At, Refused as Ended}
-use Rattle.opening.specs.Stages.{begun_of, StartedBy, BeginsBy}
+use Rattle.std.specs.Prelude.{Err}
+use Rattle.opening.specs.Stages.{StartedBy, BeginsBy}
 use Rattle.opening.proofs.Texts.{got-part}
 use Rattle.judge.specs.Due.{Named}
 use Rattle.exported.specs.declared.Answer.{Answer}
@@ -60,19 +59,14 @@ module _ (q : List ℕ) (j : Job) (old : List ℕ) where
       ∙ refused-outcome old (mismatch j.grammar) (job_values j) (record { why = d; mismatch = false }) (found_result (named_of q) j (result_with never as_xml)) z
       (rw (ne_eqb d.number 16 s)) p
 
-  module _ (T new : List ℕ) (b : Begun) (w : BeginsBy (λ g r. 2 * length q) j T new b) where
+  module _ (T new : List ℕ) where
     -- 1 to 15, or 24
-    pub judge-ended : (k n : Diagnostic) (a : Answer) → b ≡ Ended k → n ≡ diagnostic_of (begun_of b) → a ≡ refusal_of (record { why = n; mismatch = false }) → JudgedAs q j old a old
-    judge-ended k n a e f z =
-        let h : n ≡ k = f ∙ ap (λ (x : Begun). diagnostic_of (begun_of x)) e in
-        let s = subst (BeginsBy (λ g r. 2 * length q) j T new) e w in
-        rw (z, h) (judge-as (refusal_of (record { why = k; mismatch = false })) old
+    pub judge-ended : (k : Diagnostic) (a : Answer) → BeginsBy (λ g r. 2 * length q) j T new (Err k) → a ≡ refusal_of (record { why = k; mismatch = false }) → JudgedAs q j old a old
+    judge-ended k a s z =
+        rw z (judge-as (refusal_of (record { why = k; mismatch = false })) old
         (refused_as k (s.is (none_test 25 (named_of q) j ∷ last)) s.some (λ y. ⊎_elim (λ l. omega arith) (λ l. omega arith) s.early) s.places))
 
-    module _ (s : Start) (e : b ≡ At s) where
-      pub started : StartedBy (λ g r. 2 * length q) j T new s
-      started = subst (BeginsBy (λ g r. 2 * length q) j T new) e w
-
+    module _ (s : Start) (started : StartedBy (λ g r. 2 * length q) j T new s) where
       abbrev g : Grammar
       g = started.grammar.tree
 

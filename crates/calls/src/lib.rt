@@ -8,7 +8,6 @@ ghost use Rattle.resume.specs.Resume.{StartedAs, RoundedAs, EndedAs};
 
 use accept::Accepted;
 use exported::{Answer, Refusal};
-use opening::Begun;
 use resume::Progress;
 use text::limits;
 
@@ -99,11 +98,9 @@ pub fn ixml_judge(
         &mut table,
         &mut text,
     );
-    let Begun::At(start) = begun else {
-        return exported::refuse(Refusal {
-            why: opening::why_begun(begun),
-            mismatch: false,
-        });
+    let start = match begun {
+        Ok(start) => start,
+        Err(why) => return exported::refuse(Refusal::from(why)),
     };
     let rules = start.rules;
     let chars = start.chars.0;
