@@ -57,7 +57,7 @@ fn finish(main: &mut [u32], s: Start, cur: &[u32; 8]) -> bool
         let old = main[x];
         let new = bits::join(old, cur[w]);
         main[x] = new;
-        grew = text::either(grew, new != old);
+        grew |= new != old;
     }
     grew
 }
@@ -129,7 +129,7 @@ fn derive(code: &[u32], firsts: &[u32], marks: &[u8], main: &mut [u32], s: Start
     let mut x = text::wide(firsts[chart::USE_COLUMNS * rule]);
     while 0 < x {
         let more = alternative(code, marks, main, s, x - 1);
-        grew = text::either(grew, more);
+        grew |= more;
         x = text::wide(firsts[chart::USE_COLUMNS * x - 1]);
     }
     grew
@@ -153,11 +153,11 @@ pub fn push(queue: &mut [u32; 1026], rule: usize)
     queue[RING + rule] = 1;
 }
 
-// The first rule of the queue, which leaves it; or no rule's number.
-pub fn pop(queue: &mut [u32; 1026]) -> usize {
+// The first rule of the queue, which leaves it.
+pub fn pop(queue: &mut [u32; 1026]) -> Option<usize> {
     let count = queue[COUNT];
     if count == 0 {
-        return RING;
+        return None;
     }
     let head = text::wide(queue[HEAD]) % RING;
     queue[COUNT] = count - 1;
@@ -165,10 +165,10 @@ pub fn pop(queue: &mut [u32; 1026]) -> usize {
     queue[HEAD] = after as u32;
     let rule = text::wide(queue[head]);
     if RING <= rule {
-        return RING;
+        return None;
     }
     queue[RING + rule] = 0;
-    rule
+    Some(rule)
 }
 
 // x, if it is at most `most`; else 0.
@@ -247,8 +247,10 @@ fn settle(
     }
     let n = s.n;
     let m = s.m;
-    for turns in 0..TURNS {
-        let rule = pop(queue);
+    for _ in 0..TURNS {
+        let Some(rule) = pop(queue) else {
+            return;
+        };
         if size <= rule {
             return;
         }
@@ -287,7 +289,7 @@ fn round(code: &[u32], firsts: &[u32], marks: &[u8], main: &mut [u32], s: Start)
     let mut grew = false;
     for rule in (0..size).rev() {
         let more = redo(code, firsts, marks, main, Start { size, n, m, rule });
-        grew = text::either(grew, more);
+        grew |= more;
     }
     grew
 }
@@ -340,7 +342,7 @@ fn begin(marks: &[u8], main: &mut [u32], queue: &mut [u32; 1026], s: Start) -> b
     let mut some = false;
     for rule in 0..size {
         let one = begin_at(marks, main, queue, Start { size, n, m, rule });
-        some = text::either(some, one);
+        some |= one;
     }
     some
 }

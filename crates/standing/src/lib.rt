@@ -37,7 +37,7 @@ fn join_row(sets: &mut [u32; 8192], row: usize, cur: &[u32; 8]) -> bool
         let old = sets[at];
         let new = bits::join(old, cur[v]);
         sets[at] = new;
-        grew = text::either(grew, new != old);
+        grew |= new != old;
     }
     grew
 }
@@ -60,9 +60,8 @@ fn take_row(sets: &[u32; 8192], row: usize, cur: &mut [u32; 8])
     requires { row < 1024 }
     ensures { Taken sets.now row cur.old cur.new }
 {
-    for v in 0..bits::SET {
-        cur[v] = sets[bits::SET * row + v];
-    }
+    let at = bits::SET * row;
+    cur.copy_from_slice(&sets[at..at + bits::SET]);
 }
 
 // The dot p stands at the places of the set; those that are new are left. If a symbol is after it, its rule begins there.
@@ -163,8 +162,10 @@ fn run(
 {
     let size = t.size;
     let n = t.n;
-    for turns in 0..TURNS {
-        let rule = ends::pop(queue);
+    for _ in 0..TURNS {
+        let Some(rule) = ends::pop(queue) else {
+            return;
+        };
         if size <= rule {
             return;
         }
@@ -232,7 +233,7 @@ fn redo_dot(
     }
     let entered = enter(code, sets, dot, &cur);
     let moved = advance(code, marks, main, sets, dot, &cur);
-    text::either(entered, moved)
+    entered | moved
 }
 
 // The rule's first dots stand where it begins; whether a place is new.
@@ -246,7 +247,7 @@ fn redo_rule(firsts: &[u32], sets: &mut [u32; 8192], size: usize, rule: usize) -
     let mut x = text::wide(firsts[chart::USE_COLUMNS * rule]);
     while 0 < x {
         let more = join_row(sets, x - 1, &cur);
-        grew = text::either(grew, more);
+        grew |= more;
         x = text::wide(firsts[chart::USE_COLUMNS * x - 1]);
     }
     grew
@@ -270,7 +271,7 @@ fn round(
     for p in 0..size {
         let dots = redo_dot(code, marks, main, sets, moves::Dot { size, n, p });
         let rules = redo_rule(firsts, sets, size, p);
-        grew = text::either(grew, text::either(dots, rules));
+        grew |= dots | rules;
     }
     grew
 }

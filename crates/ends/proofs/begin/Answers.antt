@@ -1,6 +1,6 @@
 use native.Mathlib.Omega.{arith}
 use mathlib.Core.Bool.{true, false}
-use mathlib.Core.Path.{sym, subst}
+use mathlib.Core.Path.{refl, sym, subst}
 use Prim.Native.Nat.{ℕ, ◌*◌, ◌-◌, ◌≤◌}
 use Rattle.chart.specs.Heights.{stretches}
 use Rattle.ends.specs.Table.{Opened}
@@ -26,7 +26,7 @@ loop-rule-smaller c =
 
 pub loop-rule-preserved : goal.loop-rule-preserved
 loop-rule-preserved c =
-    (omega (arith, c.loop-rule-test.true), opened-join c.loop-rule.some c.begin_at-one.result c.loop-rule.invariant.1 c.begin_at-one.ensures c.either-some.ensures)
+    (omega (arith, c.loop-rule-test.true), opened-join c.loop-rule.some c.begin_at-one.result c.loop-rule.invariant.1 c.begin_at-one.ensures refl)
 
 pub shape_of-main : goal.shape_of-main
 shape_of-main c = c.loop-rule.invariant.1.long

@@ -61,7 +61,7 @@ loop-x-preserved c =
       link-next c.requires.0.ground.linked c.requires.1 c.loop-x-test.true c.loop-x.invariant.1,
       trials-next c.loop-x.grew c.alternative-more.result c.requires.0.ground
           (link_here c.requires.0.ground.linked c.requires.1 c.loop-x-test.true c.loop-x.invariant.1) c.loop-x-test.true refl c.loop-x.invariant.2
-          c.alternative-more.ensures c.either-grew.ensures,
+          c.alternative-more.ensures refl,
     )
 
 pub shape_of-main : goal.shape_of-main

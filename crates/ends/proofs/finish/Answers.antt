@@ -1,3 +1,4 @@
+use mathlib.Core.Path.{refl}
 use native.Mathlib.Omega.{arith}
 use mathlib.Core.Bool.{true, false}
 use Prim.Native.Nat.{◌-◌}
@@ -43,7 +44,7 @@ loop-w-preserved c =
     let inside = cell-inside c.requires.0 (omega (arith, c.loop-w-test.true)) c.requires.1 c.loop-w.invariant.0 place in (
       omega (arith, c.loop-w.invariant.0),
       finish-step c.requires.1 (omega (arith, c.loop-w-test.true)) c.loop-w.invariant.0 place (omega (arith, inside, c.loop-w.invariant.1.long)) c.loop-w.invariant.1
-          c.join-new.ensures c.either-grew.ensures (λ z. eqb-false _ _ (not-true _ z)) (λ z. eqb-true _ _ (not-false _ z)),
+          c.join-new.ensures refl (λ z. eqb-false _ _ (not-true _ z)) (λ z. eqb-true _ _ (not-false _ z)),
     )
 
 pub shape_of-main : goal.shape_of-main

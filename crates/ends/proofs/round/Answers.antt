@@ -1,5 +1,5 @@
 use native.Mathlib.Omega.{arith}
-use mathlib.Core.Path.{subst}
+use mathlib.Core.Path.{refl, subst}
 use Prim.Native.Nat.{ℕ, ◌-◌}
 use Rattle.ends.specs.Table.{Rounded}
 use Rattle.ends.proofs.Laws.{settling-as}
@@ -21,7 +21,7 @@ loop-rule-smaller c =
 pub loop-rule-preserved : goal.loop-rule-preserved
 loop-rule-preserved c = (
   omega (arith, c.loop-rule.invariant.0),
-  rounded-next c.loop-rule.grew c.redo-more.result c.loop-rule.invariant.1 c.redo-more.ensures (omega (arith, c.loop-rule-test.true)) c.either-grew.ensures,
+  rounded-next c.loop-rule.grew c.redo-more.result c.loop-rule.invariant.1 c.redo-more.ensures (omega (arith, c.loop-rule-test.true)) refl,
 )
 
 pub shape_of-main : goal.shape_of-main

@@ -29,7 +29,7 @@ bounds-sets-at-in-loop-v c = omega (arith, c.requires, c.loop-v-test.true)
 
 pub loop-v-preserved : goal.loop-v-preserved
 loop-v-preserved c =
-    merge_step c.loop-v-test.true c.requires refl c.loop-v.invariant c.join-new.ensures c.either-grew.ensures (λ z. eqb-false _ _ (not-true _ z))
+    merge_step c.loop-v-test.true c.requires refl c.loop-v.invariant c.join-new.ensures refl (λ z. eqb-false _ _ (not-true _ z))
     (λ z. eqb-true _ _ (not-false _ z))
 
 pub returns : goal.returns

@@ -1,3 +1,4 @@
+use mathlib.Core.Path.{refl}
 use native.Mathlib.Omega.{arith}
 use Prim.Native.Nat.{ℕ}
 use lib.ListN.{length-replicate}
@@ -23,4 +24,4 @@ advance-moved-requires c =
 pub returns : goal.returns
 returns c =
     redot-by c.enter-entered.result c.advance-moved.result (omega (arith, c.requires.inside, c.requires.shape.small))
-    (length-replicate {A = ℕ} 8 0) c.take_row.ensures c.enter-entered.ensures c.advance-moved.ensures c.either.ensures
+    (length-replicate {A = ℕ} 8 0) c.take_row.ensures c.enter-entered.ensures c.advance-moved.ensures refl

@@ -67,7 +67,7 @@ loop-x-preserved c =
       omega (arith, inv.0, link-less linked inside test inv.1),
       link-next linked inside test inv.1,
       rulings-next c.loop-x.grew c.join_row-more.result (omega (arith, inside, c.requires.1)) (omega (arith, inv.0, test, c.requires.1)) c.take_row.ensures
-          (link_here linked inside test inv.1) test refl inv.2 c.join_row-more.ensures c.either-grew.ensures,
+          (link_here linked inside test inv.1) test refl inv.2 c.join_row-more.ensures refl,
     )
 
 pub returns : goal.returns

@@ -1,5 +1,5 @@
 use native.Mathlib.Omega.{arith}
-use mathlib.Core.Path.{subst}
+use mathlib.Core.Path.{refl, subst}
 use Prim.Native.Nat.{ℕ, ◌-◌}
 use Rattle.standing.specs.Sets.{Rounded}
 use Rattle.standing.proofs.Closing.{rounded-start, rounded-next}
@@ -30,7 +30,7 @@ pub loop-p-preserved : goal.loop-p-preserved
 loop-p-preserved c = (
   omega (arith, c.loop-p-test.true),
   rounded-next c.loop-p.grew c.redo_dot-dots.result c.redo_rule-rules.result c.loop-p.invariant.1 c.redo_dot-dots.ensures c.redo_rule-rules.ensures
-      c.either.ensures c.either-grew.ensures,
+      refl refl,
 )
 
 pub returns : goal.returns

@@ -2,6 +2,6 @@ use Prim.Native.Nat.{◌-◌}
 use Rattle.standing.specs.Sets.{Ran}
 use Rattle.standing.proofs.run.Given as goal
 
-abbrev pub invariant-loop-turns : goal.invariant-loop-turns
-invariant-loop-turns l = Ran l.code l.firsts l.marks l.size l.n l.main l.initial.sets l.sets
+abbrev pub invariant-loop : goal.invariant-loop
+invariant-loop l = Ran l.code l.firsts l.marks l.size l.n l.main l.initial.sets l.sets
 
