@@ -3,7 +3,8 @@ use mathlib.Core.Bool.{Bool, true}
 use mathlib.Core.List.{List}
 use mathlib.Core.Logic.{◌⊎◌, inl, inr, ⊎_elim}
 use mathlib.Core.Path.{◌≡◌, refl, sym, subst, ◌∙◌}
-use Prim.Native.Nat.{ℕ, ◌+◌, ◌*◌, ◌/◌, ◌%◌, ◌<◌, ◌≤◌}
+use Rattle.fault.proofs.Ranges.{greater_of}
+use Prim.Native.Nat.{max, ℕ, ◌+◌, ◌*◌, ◌/◌, ◌%◌, ◌<◌, ◌≤◌}
 use native.Mathlib.Decide.{dec_lt}
 use native.Mathlib.Omega.{arith}
 use lib.ListN.{length, get_or}
@@ -26,16 +27,21 @@ module _ {Tb c : List ℕ} {R : Text} where
   touched : {size p x b r : ℕ} → Ranging Tb c R size x → p < size → Begun Tb c R p x b → x + b ≤ r → (k : ℕ) → Touch Tb c R p x k → k ≤ r
   touched g h e m k t = omega (arith, one-begun g h e t.begun, t.is, m)
 
-  pub one-old : {size p x best b : ℕ} {on : Bool} → Ranging Tb c R size x → p < size → Begun Tb c R p x b → x + b ≤ best → One Tb c R p x on best best
+  one-old : {size p x best b : ℕ} {on : Bool} → Ranging Tb c R size x → p < size → Begun Tb c R p x b → x + b ≤ best → One Tb c R p x on best best
   one-old g h e m = record { within = λ h. h; is = inl refl; low = omega arith; most = λ _ _. touched g h e m }
 
-  pub one-new : {size p x best b : ℕ} {on : Bool} → Ranging Tb c R size x → p < size → Begun Tb c R p x b → x + b ≤ length R → best ≤ x + b → on ≡ true → One Tb c R p x on best (x + b)
+  one-new : {size p x best b : ℕ} {on : Bool} → Ranging Tb c R size x → p < size → Begun Tb c R p x b → x + b ≤ length R → best ≤ x + b → on ≡ true → One Tb c R p x on best (x + b)
   one-new {b = b} g h e l m o = record {
     within = λ _. l;
     is = inr (o, g.on, record { count = b; begun = e; is = refl });
     low = m;
     most = λ _ _. touched g h e (omega arith);
   }
+
+  pub one-greater : {size p x best b r : ℕ} {on : Bool} → Ranging Tb c R size x → p < size → Begun Tb c R p x b → x + b ≤ length R → on ≡ true → r ≡ max best (x + b)
+      → One Tb c R p x on best r
+  one-greater {p = p} {x = x} {best = best} {on = on} g h e l o z =
+      greater_of (One Tb c R p x on best) z (λ m. one-old g h e (omega arith)) (λ m. one-new g h e l m o)
 
   pub words-start : {p v word best : ℕ} → Words Tb c R p v word 0 best best
   words-start = record { within = λ h. h; is = inl refl; low = omega arith; most = λ d k h. absurd (omega (arith, h)) }

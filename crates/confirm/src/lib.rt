@@ -27,11 +27,7 @@ fn far_one(table: &[u32], code: &[u32], text: &[u32], s: Spot, on: bool, best: u
     if text.len() < x {
         return best;
     }
-    let reached = x + fault::begun(table, code, s.size, text, s.p, x);
-    if reached < best {
-        return best;
-    }
-    reached
+    best.max(x + fault::begun(table, code, s.size, text, s.p, x))
 }
 
 // Of all places of a number of the dot's set.

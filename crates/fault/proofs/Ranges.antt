@@ -1,8 +1,9 @@
 -- How far dots reach, one after the other.
 use mathlib.Core.List.{List}
+use native.Mathlib.Decide.{dec_lt}
 use mathlib.Core.Logic.{◌⊎◌, inl, inr, ⊎_elim}
 use mathlib.Core.Path.{◌≡◌, refl, sym, subst, ◌∙◌}
-use Prim.Native.Nat.{ℕ, ◌+◌, ◌-◌, ◌<◌, ◌≤◌}
+use Prim.Native.Nat.{ℕ, max, ◌+◌, ◌-◌, ◌<◌, ◌≤◌}
 use native.Mathlib.Decide.{ℕ_discrete}
 use native.Mathlib.Omega.{arith}
 use lib.ListN.{length}
@@ -10,6 +11,13 @@ use Rattle.text.specs.Lists.{Text}
 use Rattle.chart.specs.Code.{next_kind}
 use Rattle.stands.specs.State.{Stood, flag_at}
 use Rattle.fault.specs.Far.{Begun, Ranging, Reached, Ranged, Reach}
+
+-- what holds of the greater of two
+pub greater_of : (P : ℕ → Type 0) {a b r : ℕ} → r ≡ max a b → (b < a → P a) → (a ≤ b → P b) → P r
+greater_of P {a} {b} {r} e f g = elim (dec_lt b a) as (λ _. P r) [
+  | yes l ↦ subst P (omega (arith, e, l)) (f l)
+  | no n ↦ subst P (omega (arith, e, n)) (g (omega (arith, n)))
+]
 
 module _ {Tb c : List ℕ} {R : Text} {size i : ℕ} (g : Ranging Tb c R size i) where
   -- one number of characters is begun
@@ -37,16 +45,19 @@ module _ {Tb c : List ℕ} {R : Text} {size i : ℕ} (g : Ranging Tb c R size i)
           let e = one-begun h (subst (λ (y : ℕ). Begun Tb c R y i f.count) z f.begun) x in
           omega (arith, f.is, e)
 
-      pub ranged-less : {best : ℕ} → i + b < best → Ranged Tb c R W size i p (p + 1) best best
+      ranged-less : {best : ℕ} → i + b < best → Ranged Tb c R W size i p (p + 1) best best
       ranged-less l = record { low = omega arith; within = λ z. z; most = λ q k a m f. omega (arith, most-here q k a m f); is = inl refl }
 
-      pub ranged-more : {best : ℕ} → best ≤ i + b → i + b ≤ length R → Ranged Tb c R W size i p (p + 1) best (i + b)
+      ranged-more : {best : ℕ} → best ≤ i + b → i + b ≤ length R → Ranged Tb c R W size i p (p + 1) best (i + b)
       ranged-more l m = record {
         low = l;
         within = λ _. m;
         most = λ q k a n f. omega (arith, most-here q k a n f);
         is = inr (p, record { inside = h; stood = s; count = b; begun = x; is = refl });
       }
+
+      pub ranged-greater : {best r : ℕ} → i + b ≤ length R → r ≡ max best (i + b) → Ranged Tb c R W size i p (p + 1) best r
+      ranged-greater {best} m e = greater_of (Ranged Tb c R W size i p (p + 1) best) e ranged-less (λ l. ranged-more l m)
 
 module _ {Tb c : List ℕ} {R : Text} {W : List ℕ} {size i : ℕ} where
   pub ranged-none : {best : ℕ} → Ranged Tb c R W size i 0 0 best best

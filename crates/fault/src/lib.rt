@@ -79,7 +79,8 @@ fn agrees(table: &[u32], at: usize, count: usize, text: &[u32], i: usize, k: usi
     table[at + k] == text[i + k]
 }
 
-// How many of the characters at a place of the table the record has from i on.
+// How many of the characters at a place of the table the record has from i on. A loop: what a chain of `zip`, `take_while` and `count`
+// promises was not enough for the proof.
 fn common(table: &[u32], at: usize, count: usize, text: &[u32], i: usize) -> usize
     requires { Beside table.now at count text.now i }
     ensures { result ≡ alike (take count (drop at table.now)) (drop i text.now) }
@@ -119,11 +120,7 @@ fn farther(table: &[u32], code: &[u32], text: &[u32], flags: &[u8], s: Spot, bes
     if FREE <= flags[PLACE * i + s.p] {
         return best;
     }
-    let reached = i + begun(table, code, s.size, text, s.p, i);
-    if reached < best {
-        return best;
-    }
-    reached
+    best.max(i + begun(table, code, s.size, text, s.p, i))
 }
 
 // Of all dots at the place of s.

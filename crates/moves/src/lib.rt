@@ -31,11 +31,7 @@ fn lanes(n: usize, v: usize) -> usize
     requires { (n ≤ 200) × (32 * v ≤ n) }
     ensures { (result ≤ 32) × (32 * v + result ≤ n + 1) × ((b : ℕ) → b < 32 → 32 * v + b ≤ n → b < result) }
 {
-    let left = n + 1 - 32 * v;
-    if left < 32 {
-        return left;
-    }
-    32
+    (n + 1 - 32 * v).min(32)
 }
 
 fn gather(main: &[u32], at: usize, on: &[u32; 32], count: usize) -> u32

@@ -1,5 +1,5 @@
 use native.Mathlib.Omega.{arith}
-use Rattle.fault.proofs.Ranges.{ranged-free, ranged-less, ranged-more}
+use Rattle.fault.proofs.Ranges.{ranged-free, ranged-greater}
 use Rattle.fault.proofs.farther.Goals as goal
 
 pub overflow_mul-i : goal.overflow_mul-i
@@ -19,13 +19,8 @@ returns-then-flags-i-ge-FREE c = ranged-free c.requires.0 c.requires.1 c.if-flag
 pub begun-requires : goal.begun-requires
 begun-requires c = (c.requires.0, c.requires.1)
 
-pub overflow_add-reached : goal.overflow_add-reached
-overflow_add-reached c = omega (arith, c.begun.ensures.1, c.requires.0.short)
-
-pub returns-then-reached-best : goal.returns-then-reached-best
-returns-then-reached-best c =
-    ranged-less c.requires.0 c.requires.1 c.if-flags-i-ge-FREE.false c.begun.ensures.0 c.if-reached-best.true
+pub overflow_add-i-2 : goal.overflow_add-i-2
+overflow_add-i-2 c = omega (arith, c.begun.ensures.1, c.requires.0.short)
 
 pub returns : goal.returns
-returns c =
-    ranged-more c.requires.0 c.requires.1 c.if-flags-i-ge-FREE.false c.begun.ensures.0 c.if-reached-best.false c.begun.ensures.1
+returns c = ranged-greater c.requires.0 c.requires.1 c.if-flags-i-ge-FREE.false c.begun.ensures.0 c.begun.ensures.1 c.max.ensures
