@@ -1,6 +1,4 @@
 use mathlib.Core.Path.{refl}
-use mathlib.Core.Bool.{true}
-use Prim.Native.Nat.{◌-◌}
 use native.Mathlib.Omega.{arith}
 use Rattle.tidy_text.proofs.Owed.{owed-next, owed_none, some_next, some-within, some-forward}
 use Rattle.tidy_text.proofs.put_grammar.Goals as goal

@@ -20,7 +20,7 @@ returns-then-kind-lt-SET_END c =
 -- src/lib.rt:275:9
 pub returns-then-kind-eq-SET_END : goal.returns-then-kind-eq-SET_END
 returns-then-kind-eq-SET_END c =
-    c.one_less.ensures ∙ sym (depth-end c.args.nested c.args.kind (ends_set c.args.kind c.if-kind-eq-SET_END.true))
+    c.saturating_sub.ensures ∙ sym (depth-end c.args.nested c.args.kind (ends_set c.args.kind c.if-kind-eq-SET_END.true))
 
 -- src/lib.rt:278:9
 pub returns-then-kind-lt-OPEN_GROUP : goal.returns-then-kind-lt-OPEN_GROUP
@@ -35,7 +35,7 @@ returns-then-kind-eq-OPEN_GROUP c =
 -- src/lib.rt:284:9
 pub returns-then-kind-eq-CLOSE_GROUP : goal.returns-then-kind-eq-CLOSE_GROUP
 returns-then-kind-eq-CLOSE_GROUP c =
-    c.one_less-then-kind-eq-CLOSE_GROUP.ensures ∙ sym (depth-end c.args.nested c.args.kind (ends-group c.args.kind c.if-kind-eq-CLOSE_GROUP.true))
+    c.saturating_sub-then-kind-eq-CLOSE_GROUP.ensures ∙ sym (depth-end c.args.nested c.args.kind (ends-group c.args.kind c.if-kind-eq-CLOSE_GROUP.true))
 
 -- src/lib.rt:261:1
 pub returns : goal.returns
