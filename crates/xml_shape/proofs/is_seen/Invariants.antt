@@ -1,4 +1,3 @@
-use Prim.Native.Nat.{◌-◌}
 use Rattle.xml_shape.proofs.Laws.{Searched}
 use Rattle.xml_shape.proofs.is_seen.Given as goal
 
