@@ -1,5 +1,5 @@
 -- What is written follows from what is seen of two files.
-use mathlib.Core.Bool.{Bool, true, false}
+use mathlib.Core.Bool.{Bool}
 use mathlib.Core.Logic.{inl, inr, ⊎_elim}
 use mathlib.Core.Path.{◌≡◌, refl, sym, subst, ◌∙◌}
 use mathlib.Core.List.{List, [], ◌∷◌}
@@ -19,8 +19,7 @@ use Rattle.answer.specs.Answer.{Topmost, Job, Answer, Converts, grammar_lines, r
 use Rattle.answer.specs.Compute.{convert_of}
 use Rattle.answer.specs.Program.{File, unreadable, bytes, shows, program_job, Writes, no-grammar, no_record, long-record, job}
 use Rattle.answer.proofs.Settled.{convert-settled, convert-answers}
-use Rattle.std.specs.Prelude.{IfSome, IsTrue, None, Some}
-use Rattle.std.specs.declared.option.Option.{Option}
+use Rattle.std.specs.Prelude.{IfSome, Option, None, Some}
 use Rattle.std.specs.Io.KnownBytes.{Appends}
 use Rattle.cli.specs.Output.{Behind, fails, has_bytes, unknown, Answered, Seen, shut, begins, Written, no_file, long_file, asked_bytes, job_outcome, job_text, Shows, Holds, Replies}
 
@@ -101,24 +100,23 @@ seen_all : (bs : List ℕ) → length (take asked_bytes bs) ≤ file_bytes → t
 seen_all bs h = take_all asked_bytes bs (let e = length-take asked_bytes bs in omega arith)
 
 -- any bytes that fit are seen of some file
-pub some-file : (xs : List ℕ) → length xs ≤ asked_bytes → Seen (bytes xs) true xs
+pub some-file : (xs : List ℕ) → length xs ≤ asked_bytes → Seen (bytes xs) (Some xs)
 some-file xs h = begins (sym (take_all asked_bytes xs h))
 
 -- a file stands behind a reader, of which is seen what was read of it
-pub record Stands (known : Option (List ℕ)) (p : Bool) (xs : List ℕ) : Type 0 where
+pub record Stands (known xs : Option (List ℕ)) : Type 0 where
   pub file : File
   pub behind : Behind known file
-  pub seen : Seen file p xs
+  pub seen : Seen file xs
 
-pub stands : (known : Option (List ℕ)) (p : Bool) (xs : List ℕ) → length xs ≤ asked_bytes
-    → IfSome known (λ bs. IsTrue p → xs ≡ take asked_bytes bs) → Stands known p xs
-stands known false xs h e = record { file = unreadable; behind = fails; seen = shut }
-stands None true xs h e = record { file = bytes xs; behind = unknown; seen = some-file xs h }
-stands (Some bs) true xs h e = record { file = bytes bs; behind = has_bytes; seen = begins (e refl) }
+pub stands : (known xs : Option (List ℕ)) → IfSome xs (λ x. length x ≤ asked_bytes) → IfSome known (λ bs. IfSome xs (λ x. x ≡ take asked_bytes bs)) → Stands known xs
+stands known None h e = record { file = unreadable; behind = fails; seen = shut }
+stands None (Some xs) h e = record { file = bytes xs; behind = unknown; seen = some-file xs h }
+stands (Some bs) (Some xs) h e = record { file = bytes bs; behind = has_bytes; seen = begins e }
 
 -- what is replied is written for the files behind the readers
-pub answered : {first second old new : Option (List ℕ)} {p q : Bool} {g r out : List ℕ} {n : ℕ}
-    → Stands first p g → Stands second q r → Replies p g q r out n → Appends old new (take n out) → Answered first second old new
+pub answered : {first second old new g r : Option (List ℕ)} {out : List ℕ} {n : ℕ}
+    → Stands first g → Stands second r → Replies g r out n → Appends old new (take n out) → Answered first second old new
 answered {out = out} {n = n} s t w a = record {
   grammar = s.file;
   input = t.file;
@@ -130,13 +128,13 @@ answered {out = out} {n = n} s t w a = record {
 }
 
 -- the four things that may be written
-pub unreadable-grammar : (g r : List ℕ) (q : Bool) → Written false g q r no_file
-unreadable-grammar g r q f e shut t = no-grammar
+pub unreadable-grammar : (r : Option (List ℕ)) → Written None r no_file
+unreadable-grammar r f e shut t = no-grammar
 
-pub unreadable-record : (g r : List ℕ) → Written true g false r no_file
-unreadable-record g r f e (begins x) shut = no_record
+pub unreadable-record : (g : List ℕ) → Written (Some g) None no_file
+unreadable-record g f e (begins x) shut = no_record
 
-pub record-too-long : (g r : List ℕ) → file_bytes < length r → Written true g true r long_file
+pub record-too-long : (g r : List ℕ) → file_bytes < length r → Written (Some g) (Some r) long_file
 record-too-long g r h f e (begins x) (begins {bs = ds} y) = long-record (lt-ltb file_bytes (length ds) (seen-long ds (subst (λ (xs : List ℕ). file_bytes < length xs) y h)))
 
 -- the job of the bytes seen is the job of the files
@@ -147,7 +145,7 @@ same-grammar gs r old a new c =
     (λ l. subst (λ (xs : List ℕ). Converts (program_job xs r) old a new) (seen_all gs l) c)
     (split grammar_bytes (length (take asked_bytes gs)))
 
-pub job-written : (g r : List ℕ) (a : Answer) (new : List ℕ) → length r ≤ file_bytes → Converts (program_job g r) (replicate program_bytes 0) a new → Written true g true r (shows a new)
+pub job-written : (g r : List ℕ) (a : Answer) (new : List ℕ) → length r ≤ file_bytes → Converts (program_job g r) (replicate program_bytes 0) a new → Written (Some g) (Some r) (shows a new)
 job-written g r a new h c f e (begins {bs = gs} x) (begins {bs = rs} y) =
     let k : length (take asked_bytes rs) ≤ file_bytes = subst (λ (xs : List ℕ). length xs ≤ file_bytes) y h in
     let z : r ≡ rs = y ∙ seen_all rs k in
@@ -157,7 +155,7 @@ job-written g r a new h c f e (begins {bs = gs} x) (begins {bs = rs} y) =
     job (le-ltb file_bytes (length rs) (subst (λ (xs : List ℕ). length xs ≤ file_bytes) z h)) (same-grammar gs rs (replicate program_bytes 0) a new d)
 
 -- the same, of the answer that is computed
-pub computed-written : (g r : List ℕ) → length r ≤ file_bytes → Written true g true r (job_text g r)
+pub computed-written : (g r : List ℕ) → length r ≤ file_bytes → Written (Some g) (Some r) (job_text g r)
 computed-written g r h = job-written g r (job_outcome g r).answer (job_outcome g r).buffer h (convert-answers (program_job g r) (replicate program_bytes 0))
 
 -- for two files exactly one text is written
@@ -188,5 +186,5 @@ module _ {g r old xml new : List ℕ} {s t n l k : ℕ} {m v : Bool} {p : Places
       }
 
 -- a text that is held is what is replied
-pub replies : {p q x y : Bool} {g r new : List ℕ} {text : Text} {n : ℕ} → p ≡ x → q ≡ y → Holds text new n → Written x g y r text → Replies p g q r new n
-replies {g = g} {r = r} e f h w = record { fits = h.fits; written = rw (e, f, h.holds) w }
+pub replies : {g r : Option (List ℕ)} {new : List ℕ} {text : Text} {n : ℕ} → Holds text new n → Written g r text → Replies g r new n
+replies h w = record { fits = h.fits; written = rw h.holds w }

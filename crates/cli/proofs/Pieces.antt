@@ -4,7 +4,7 @@ use Rattle.std.specs.declared.option.Option.{Option}
 use Rattle.std.specs.Io.KnownBytes.{Consumes}
 use Rattle.std.proofs.KnownBytes.{Consumes-trans}
 use borrow.Rule.Slice.PartMut.{put_mid, post_of}
-use lib.Seq.{take-add, take-append-le}
+use lib.Seq.{take_at, take-add, take-append-le}
 
 -- what a read put into the part from a place on
 pub slice_range-put_mid : (a k n : ℕ) (xs ys : List ℕ) → a ≤ length xs → n ≤ length ys → slice_range (put_mid a k xs ys) a (a + n) ≡ take n ys
@@ -13,6 +13,10 @@ slice_range-put_mid a k n xs ys within fits =
     let after = post_of a k xs in
     ap (take ((a + n) - a)) (drop_at (take a xs) (ys ++ after) a (length-take-le a xs within)) ∙ ap (λ m. take m (ys ++ after)) same ∙ take-append-le n ys after fits
 
+-- and what stands before that place is kept
+pub take-put_mid : (a k : ℕ) (xs ys : List ℕ) → a ≤ length xs → take a (put_mid a k xs ys) ≡ take a xs
+take-put_mid a k xs ys within = take_at (take a xs) (ys ++ post_of a k xs) a (length-take-le a xs within)
+
 -- what was read up to a place, and then up to the next
 pub take_split : (a b : ℕ) (old new : List ℕ) → a ≤ b → take a new ≡ take a old → take a old ++ slice_range new a b ≡ take b new
 take_split a b old new h front =
@@ -20,6 +24,7 @@ take_split a b old new h front =
     ap (λ l. l ++ slice_range new a b) (sym front) ∙ sym (take-add a (b - a) new) ∙ ap (λ n. take n new) same
 
 -- one read more
-pub read_more : (before mid after : Option (List ℕ)) (old new : List ℕ) (at next : ℕ) → at ≤ next → take at new ≡ take at old → Consumes before mid (take at old) → Consumes mid after (slice_range new at next)
+pub read_more : (before mid after : Option (List ℕ)) (old new : List ℕ) (at next : ℕ) → at ≤ next → take at new ≡ take at old
+    → Consumes before mid (take at old) → Consumes mid after (slice_range new at next)
     → Consumes before after (take next new)
 read_more before mid after old new at next h kept first second = subst (Consumes before after) (take_split at next old new h kept) (Consumes-trans before mid after _ _ first second)

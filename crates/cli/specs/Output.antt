@@ -1,32 +1,11 @@
 -- What the program makes of two files: what it sees of each, and the bytes that it writes.
-use Rattle.std.specs.Prelude.{Bool, true, false, ◌≡◌, List, ◌++◌, ℕ, ◌+◌, ◌≤◌, ◌<◌, eqb, length, take, slice_range, replicate, None, Some}
-use Rattle.std.specs.Io.KnownBytes.{Consumes, Keeps, IsAtEnd, Appends}
-use Rattle.std.specs.declared.option.Option.{Option}
+use Rattle.std.specs.Prelude.{Bool, false, ◌≡◌, List, ◌++◌, ℕ, ◌+◌, ◌≤◌, ◌<◌, eqb, length, take, replicate, Option, None, Some}
+use Rattle.std.specs.Io.KnownBytes.{Appends}
 use Rattle.text.specs.Limits.{file_bytes, program_bytes}
 use Rattle.text.specs.Lists.{Text, chars, pick}
 use Rattle.answer.specs.Answer.{Answer}
 use Rattle.answer.specs.Compute.{Outcome, convert_of}
 use Rattle.answer.specs.Program.{File, unreadable, bytes, decimal, fail_state, fail_document, Writes, shows, program_job}
-use Rattle.cli.specs.declared.files.Chunk.{Chunk}
-use Rattle.cli.specs.declared.files.Chunk.TheVariants.{More, End, Failed}
-
--- a read at a place of a buffer moves on within it, or ends
-abbrev pub Onwards : Chunk → ℕ → ℕ → Type 0
-Onwards (More next) at m = (at < next) × (next ≤ m)
-Onwards End at m = Unit {0}
-Onwards Failed at m = Unit {0}
-
--- what was in the buffer before that place is kept
-pub record Chunked (t : Chunk) (at : ℕ) (old new : List ℕ) : Type 0 where
-  pub onwards : Onwards t at (length new)
-  pub kept : take at new ≡ take at old
-
--- what a read at a place consumed of a reader's bytes, where these are known: what it put there; at the end of the file none are left, and a
--- read that failed consumed none
-abbrev pub Fetched : Chunk → ℕ → List ℕ → Option (List ℕ) → Option (List ℕ) → Type 0
-Fetched (More next) at new before after = Consumes before after (slice_range new at next)
-Fetched End at new before after = Keeps before after × (at < length new → IsAtEnd after)
-Fetched Failed at new before after = Keeps before after
 
 -- a text put after the first `at` bytes of a buffer, up to place r
 pub record Put (text : List ℕ) (at : ℕ) (old new : List ℕ) (r : ℕ) : Type 0 where
@@ -69,14 +48,14 @@ pub record Shows (n l : ℕ) (v : Bool) (k : ℕ) (xml new : List ℕ) (r : ℕ)
 abbrev pub asked_bytes : ℕ
 asked_bytes = file_bytes + 1
 
--- what the program sees of a file: whether it can be read, and its first bytes
-pub data Seen : File → Bool → List ℕ → Type 0 where
-  shut : {xs : List ℕ} → Seen unreadable false xs
-  begins : {bs xs : List ℕ} → xs ≡ take asked_bytes bs → Seen (bytes bs) true xs
+-- what the program sees of a file: its first bytes, if it can be read
+pub data Seen : File → Option (List ℕ) → Type 0 where
+  shut : Seen unreadable None
+  begins : {bs xs : List ℕ} → xs ≡ take asked_bytes bs → Seen (bytes bs) (Some xs)
 
 -- the text is what is written for any two files of which this is seen
-abbrev pub Written : Bool → List ℕ → Bool → List ℕ → Text → Type 0
-Written p g q r text = (f e : File) → Seen f p g → Seen e q r → Writes f e text
+abbrev pub Written : Option (List ℕ) → Option (List ℕ) → Text → Type 0
+Written g r text = (f e : File) → Seen f g → Seen e r → Writes f e text
 
 -- what a job of the program comes to, and the text of that
 abbrev pub job_outcome : List ℕ → List ℕ → Outcome
@@ -86,9 +65,9 @@ abbrev pub job_text : List ℕ → List ℕ → Text
 job_text g r = shows (job_outcome g r).answer (job_outcome g r).buffer
 
 -- the first n bytes are what is written for any two files of which this is seen
-pub record Replies (p : Bool) (g : List ℕ) (q : Bool) (r : List ℕ) (new : List ℕ) (n : ℕ) : Type 0 where
+pub record Replies (g r : Option (List ℕ)) (new : List ℕ) (n : ℕ) : Type 0 where
   pub fits : n ≤ length new
-  pub written : Written p g q r (take n new)
+  pub written : Written g r (take n new)
 
 -- the files that may stand behind a reader: one that cannot be read, where a read fails; else one with the reader's bytes, where these are known
 pub data Behind : Option (List ℕ) → File → Type 0 where

@@ -1,6 +1,5 @@
 // The files that arguments name, and the first bytes of one.
-ghost use Rattle.std.specs.Prelude.{◌≡◌, ◌≤◌, IfSome, IsTrue, length, take};
-ghost use Rattle.cli.specs.Output.{Chunked, Fetched};
+ghost use Rattle.std.specs.Prelude.{◌≡◌, ◌≤◌, IfOk, IfSome, length, take};
 
 use std::env::FillError;
 use std::io::{ErrorKind, Read};
@@ -9,21 +8,6 @@ use std::{fs, io};
 
 // More bytes than a path may have.
 const PATH_BYTES: usize = 4096;
-
-// Whether a file can be read, and how many of its bytes were.
-#[derive(Clone, Copy)]
-pub struct Loaded {
-    pub readable: bool,
-    pub count: usize,
-}
-
-// What one read came to: the next place, the end of the file, or a failure.
-#[derive(Clone, Copy)]
-pub enum Chunk {
-    More(usize),
-    End,
-    Failed,
-}
 
 // Whether the program was given argument i. One that is too long for a buffer is there too.
 pub fn is_given(rt: &impl Env, i: usize) -> bool {
@@ -74,54 +58,26 @@ impl<H: Env + Files> Read for NamedFile<'_, H> {
     }
 }
 
-// Reads once, into the buffer from a place on; what stands before it is kept.
-fn read_some<R: Read>(reader: &mut R, buf: &mut [u8], at: usize) -> Chunk
-    requires { at ≤ length buf.old }
-    ensures chunked { Chunked result at buf.old buf.new }
-    ensures fetched { Fetched result at buf.new (R.remaining reader.old) (R.remaining reader.new) }
-{
-    match reader.read(&mut buf[at..]) {
-        Ok(0) => Chunk::End,
-        Ok(n) => Chunk::More(at + n),
-        Err(_) => Chunk::Failed,
-    }
-}
-
-// Reads until the buffer is full, the file ends or a read fails.
-fn fill<R: Read>(reader: &mut R, buf: &mut [u8]) -> Loaded
-    ensures bound { result.count ≤ length buf.new }
-    ensures count { result.count ≡ length (take result.count buf.new) }
-    ensures known { IfSome (R.remaining reader.old) (λ bs. IsTrue result.readable → take result.count buf.new ≡ take (length buf.old) bs) }
+// Reads until the buffer is full or the file ends; how many bytes there were.
+fn fill<R: Read>(reader: &mut R, buf: &mut [u8]) -> io::Result<usize>
+    ensures bound { IfOk result (λ n. n ≤ length buf.new) }
+    ensures known { IfSome (R.remaining reader.old) (λ bs. IfOk result (λ n. take n buf.new ≡ take (length buf.old) bs)) }
 {
     let mut done = 0;
     while done < buf.len() {
-        match read_some(reader, buf, done) {
-            Chunk::Failed => {
-                return Loaded {
-                    readable: false,
-                    count: 0,
-                };
-            }
-            Chunk::End => {
-                return Loaded {
-                    readable: true,
-                    count: done,
-                };
-            }
-            Chunk::More(next) => done = next,
+        let n = reader.read(&mut buf[done..])?;
+        if n == 0 {
+            return Ok(done);
         }
+        done += n;
     }
-    Loaded {
-        readable: true,
-        count: done,
-    }
+    Ok(done)
 }
 
-// The first bytes of a file, as many as the buffer takes; then it is closed.
-pub fn load<R: Read + Drop>(mut file: R, buf: &mut [u8]) -> Loaded
-    ensures bound { result.count ≤ length buf.new }
-    ensures count { result.count ≡ length (take result.count buf.new) }
-    ensures known { IfSome (R.remaining file) (λ bs. IsTrue result.readable → take result.count buf.new ≡ take (length buf.old) bs) }
+// How many of a file's first bytes the buffer took, all that it has room for; nothing, if a read failed. Then the file is closed.
+pub fn load<R: Read + Drop>(mut file: R, buf: &mut [u8]) -> Option<usize>
+    ensures bound { IfSome result (λ n. n ≤ length buf.new) }
+    ensures known { IfSome (R.remaining file) (λ bs. IfSome result (λ n. take n buf.new ≡ take (length buf.old) bs)) }
 {
-    fill(&mut file, buf)
+    fill(&mut file, buf).ok()
 }

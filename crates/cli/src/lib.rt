@@ -5,5 +5,5 @@
 mod files;
 mod output;
 
-pub use files::{Loaded, NamedFile, is_given, load, named};
+pub use files::{NamedFile, is_given, load, named};
 pub use output::{show, show_long, show_unreadable};

@@ -1,8 +1,9 @@
 // The bytes that are written for an answer.
-ghost use Rattle.std.specs.Prelude.{◌≡◌, ◌+◌, ◌≤◌, ◌<◌, min, length, take, ◌++◌};
+ghost use Rattle.std.specs.Prelude.{◌≡◌, ◌+◌, ◌≤◌, ◌<◌, length, take, ◌++◌};
 ghost use Rattle.answer.specs.Program.{decimal, fail_document};
 ghost use Rattle.cli.specs.Output.{Put, Holds, Shows, fail_head, body_of, refusal, no_file, long_file};
 
+use std::cmp::min;
 use text::{limits, refusals};
 
 // The XML and a line end.
@@ -16,13 +17,6 @@ fn put(text: &[u8], out: &mut [u8], at: usize) -> usize
     let end = at + text.len();
     out[at..end].copy_from_slice(text);
     end
-}
-
-// The smaller of two counts.
-fn least(a: usize, b: usize) -> usize
-    ensures { result ≡ min a b }
-{
-    if a < b { a } else { b }
 }
 
 // The document that says that a record does not fit, up to the digits of the place.
@@ -104,11 +98,11 @@ fn put_answer(
     ensures { (result ≤ 65536) × (number < 100 → place < 1000 → take result out.new ≡ body_of number size version place xml.now) }
 {
     if number == refusals::ANSWERED {
-        let n = least(size, xml.len());
+        let n = min(size, xml.len());
         return put(&xml[..n], out, 0);
     }
     if number == refusals::NO_READING {
-        let shown = least(place, 999) as u32;
+        let shown = min(place, 999) as u32;
         return put_fail(version, shown, out);
     }
     put_refused(number, out)

@@ -1,7 +1,7 @@
 -- What converting a left parse answers.
-use Rattle.std.specs.Prelude.{Bool, ◌≡◌, ◌⊎◌, List, ◌++◌, ℕ, ◌<◌, ◌≤◌, eqb, length, drop}
+use Rattle.std.specs.Prelude.{Bool, ◌≡◌, ◌⊎◌, List, ◌++◌, ℕ, ◌<◌, ◌≤◌, length, drop, Result, Ok, Err}
 use Rattle.text.specs.Limits.{grammar_table, reading_numbers}
-use Rattle.text.specs.Lists.{Text, pick}
+use Rattle.text.specs.Lists.{Text}
 use Rattle.tree.specs.Tree.{Grammar}
 use Rattle.tree.specs.Tokens.{grammar_tokens}
 use Rattle.derive.specs.Derive.{Row}
@@ -9,9 +9,9 @@ use Rattle.items.specs.Items.{Reads}
 use Rattle.xml.specs.Document.{document}
 use Rattle.xml.specs.Bytes.{bytes}
 use Rattle.left_parse.specs.Noted.{Noted, Parsed, Room}
-use Rattle.dynamic_errors.specs.Judgment.{judgment_of}
-use Rattle.convert.specs.declared.Converted.{Converted}
-use Rattle.convert.specs.declared.Converted.TheVariants.{Xml, Refused}
+use Rattle.dynamic_errors.specs.Judgment.{judgment_of, error_number}
+use Rattle.convert.specs.declared.ConvertError.{ConvertError}
+use Rattle.convert.specs.declared.ConvertError.TheVariants.{Forbidden, TooLong}
 
 -- the list names a derivation by the rules in the table, which has the grammar's tokens too
 pub record Parsing (T : List ℕ) (root : ℕ) (P : List ℕ) (r : Text) (g : Grammar) (t : Row) : Type 0 where
@@ -45,17 +45,12 @@ pub record NotWritten (bs : List ℕ) (judgment : ℕ) (old new : List ℕ) (n :
   pub why : ((n ≡ judgment) × (n ≡ 0 → ⊥)) ⊎ ((judgment ≡ 0) × (n ≡ 23) × (length old < length bs))
   pub buffer : new ≡ old
 
--- the number and the count of bytes that each case stands for
-abbrev pub converted_number : Converted → ℕ
-converted_number (Xml n) = 0
-converted_number (Refused n) = n
+-- the number of each refusal
+abbrev pub refusal_number : ConvertError → ℕ
+refusal_number (Forbidden e) = error_number e
+refusal_number TooLong = 23
 
-abbrev pub converted_count : Converted → ℕ
-converted_count (Xml n) = n
-converted_count (Refused n) = 0
-
--- what the number promises; and that only XML has the number 0
-pub record Concludes (g : Grammar) (r : Text) (t : Row) (ambiguous mismatch : Bool) (old new : List ℕ) (v : Converted) : Type 0 where
-  pub written : converted_number v ≡ 0 → Written (bytes ambiguous mismatch (document g r t)) (judgment_of g r t) old new (converted_count v)
-  pub not_written : (converted_number v ≡ 0 → ⊥) → NotWritten (bytes ambiguous mismatch (document g r t)) (judgment_of g r t) old new (converted_number v)
-  pub told : v ≡ pick (eqb (converted_number v) 0) (Xml (converted_count v)) (Refused (converted_number v))
+-- what the answer promises: the bytes are written and counted, or it says why there are none
+pub record Concludes (g : Grammar) (r : Text) (t : Row) (ambiguous mismatch : Bool) (old new : List ℕ) (v : Result ℕ ConvertError) : Type 0 where
+  pub written : (n : ℕ) → v ≡ Ok n → Written (bytes ambiguous mismatch (document g r t)) (judgment_of g r t) old new n
+  pub not_written : (e : ConvertError) → v ≡ Err e → NotWritten (bytes ambiguous mismatch (document g r t)) (judgment_of g r t) old new (refusal_number e)

@@ -4,13 +4,12 @@
 ghost use Rattle.std.specs.Prelude.{◌≡◌, ◌*◌, ◌≤◌, length};
 ghost use Rattle.tree.specs.Tree.{Grammar};
 ghost use Rattle.derive.specs.Derive.{Row};
-ghost use Rattle.dynamic_errors.specs.Judgment.{verdict_number};
-ghost use Rattle.convert.specs.Concluded.{Ready, Annotated, Parsing, Concludes};
+ghost use Rattle.convert.specs.Concluded.{refusal_number, Ready, Annotated, Parsing, Concludes};
 
-use dynamic_errors::Verdict;
+use dynamic_errors::DynamicError;
 use markup::StateWords;
 use text::{limits, refusals};
-use writer::{Plan, Written};
+use writer::Plan;
 
 // Two numbers are noted of each entry of a left parse.
 const NOTES: usize = 2 * limits::READING_NUMBERS;
@@ -19,29 +18,26 @@ const FEW_NUMBERS: usize = 512;
 
 const FEW_NOTES: usize = 2 * FEW_NUMBERS;
 
-// The count of the XML's bytes, or the refusal.
+// Why there is no XML.
 #[derive(Clone, Copy)]
-pub enum Converted {
-    Xml(usize),
-    Refused(u32),
+pub enum ConvertError {
+    Forbidden(DynamicError),
+    TooLong,
 }
 
-// The number of what forbids a document.
-fn why(judged: Verdict) -> u32
-    ensures { result ≡ verdict_number judged }
-{
-    match judged {
-        Verdict::Allowed => refusals::ANSWERED,
-        Verdict::RepeatedAttribute => refusals::REPEATED_ATTRIBUTE,
-        Verdict::NotXmlName => refusals::NOT_XML_NAME,
-        Verdict::NotXmlCharacter => refusals::NOT_XML_CHARACTER,
-        Verdict::AttributeRoot => refusals::ATTRIBUTE_ROOT,
-        Verdict::DeletedRoot => refusals::DELETED_ROOT,
-        Verdict::AttributeXmlns => refusals::ATTRIBUTE_XMLNS,
+impl ConvertError {
+    // The number of the refusal.
+    pub fn number(self) -> u32
+        ensures { result ≡ refusal_number self }
+    {
+        match self {
+            ConvertError::Forbidden(error) => error.number(),
+            ConvertError::TooLong => refusals::RESULT_TOO_LONG,
+        }
     }
 }
 
-// 17 to 23, of a left parse whose entries are noted.
+// The count of the XML's bytes, or 17 to 23, of a left parse whose entries are noted.
 pub fn conclude(
     table: &[u32],
     root: usize,
@@ -50,23 +46,16 @@ pub fn conclude(
     due: StateWords,
     scratch: &mut [u64],
     out: &mut [u8],
-) -> Converted
+) -> Result<usize, ConvertError>
     requires { Annotated table.now root parse.now «record».now scratch.old }
     ensures { (g : Grammar) (t : Row) → Parsing table.now root parse.now «record».now g t
         → Concludes g «record».now t due.ambiguous due.mismatch out.old out.new result }
 {
     let review = dynamic_errors::first_error(table, root, parse, record, scratch);
-    let judged = review.verdict;
-    let Verdict::Allowed = judged else {
-        return Converted::Refused(why(judged));
-    };
+    review.verdict.map_err(ConvertError::Forbidden)?;
     let extent = review.extent;
     let plan = Plan { due, extent };
-    let written = writer::write_xml(table, root, parse, record, plan, scratch, out);
-    let Written::Xml(n) = written else {
-        return Converted::Refused(refusals::RESULT_TOO_LONG);
-    };
-    Converted::Xml(n)
+    writer::write_xml(table, root, parse, record, plan, scratch, out).ok_or(ConvertError::TooLong)
 }
 
 // The same of a reading, with room for two numbers of each entry.
@@ -78,7 +67,7 @@ fn convert_with(
     due: StateWords,
     scratch: &mut [u64],
     out: &mut [u8],
-) -> Converted
+) -> Result<usize, ConvertError>
     requires { Ready table.now root parse.now «record».now × (2 * length parse.now ≤ length scratch.old) }
     ensures { (g : Grammar) (t : Row) → Parsing table.now root parse.now «record».now g t
         → Concludes g «record».now t due.ambiguous due.mismatch out.old out.new result }
@@ -96,7 +85,7 @@ pub fn convert(
     ambiguous: bool,
     mismatch: bool,
     out: &mut [u8],
-) -> Converted
+) -> Result<usize, ConvertError>
     requires { Ready table.now root parse.now «record».now }
     ensures { (g : Grammar) (t : Row) → Parsing table.now root parse.now «record».now g t
         → Concludes g «record».now t ambiguous mismatch out.old out.new result }

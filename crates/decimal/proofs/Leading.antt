@@ -1,14 +1,14 @@
 -- The digits that a text begins with, and their value, a step at a time.
 use mathlib.Core.Bool.{Bool, true, false}
-use mathlib.Core.Path.{◌≡◌, refl, ap, ◌∙◌}
+use mathlib.Core.Path.{◌≡◌, refl}
 use mathlib.Core.List.{[], ◌∷◌, ◌++◌}
-use Prim.Native.Nat.{ℕ, ◌+◌, ◌<◌, ◌≤◌}
-use native.Mathlib.Numerals.{add-one}
+use Prim.Native.Nat.{ℕ, ◌+◌, ◌≤◌}
 use native.Mathlib.Omega.{arith}
-use lib.ListN.{length, get_or, drop}
-use lib.Seq.{drop-cons}
+use lib.ListN.{length}
 use lib.Ieee.{Float}
-use Rattle.text.specs.Lists.{Text}
+use Rattle.std.specs.Prelude.{cond}
+use Rattle.std.specs.List.{prefix_len, fold}
+use Rattle.text.specs.Lists.{Text, pick}
 use Rattle.decimal.specs.Number.{digit}
 use Rattle.decimal.specs.Value.{next_digit, digits_from}
 use Rattle.decimal.specs.Compute.{leading}
@@ -21,23 +21,19 @@ pub leading-other : (c : ℕ) (cs : Text) → digit c ≡ false → leading (c �
 unfolding leading
 leading-other c cs h = rw h
 
-module _ (t : Text) (n : ℕ) (within : n < length t) where
-  here : drop n t ≡ get_or t n 0 ∷ drop (n + 1) t
-  here = rw (add-one, drop-cons t n 0)
-
-  pub one_more : digit (get_or t n 0) ≡ true → leading (drop n t) ≡ leading (drop (n + 1) t) + 1
-  one_more h = ap leading here ∙ leading-digit _ _ h
-
-  pub no_more : digit (get_or t n 0) ≡ false → leading (drop n t) ≡ 0
-  no_more h = ap leading here ∙ leading-other _ _ h
-
-  pub taken_in : (x : Float) → digits_from x (drop n t) ≡ digits_from (next_digit x (get_or t n 0)) (drop (n + 1) t)
-  unfolding digits_from
-  taken_in x = rw here
-
 pub leading-nil : leading [] ≡ 0
 unfolding leading
 leading-nil = refl
+
+-- how many digits come first, in the kit's words
+pub prefix-leading : (t : Text) → prefix_len digit t ≡ leading t
+unfolding leading
+prefix-leading [] = refl
+prefix-leading (c ∷ cs) = go (digit c) (prefix-leading cs)
+  where
+    go : (b : Bool) → prefix_len digit cs ≡ leading cs → cond b (1 + prefix_len digit cs) 0 ≡ pick b (leading cs + 1) 0
+    go true e = omega arith
+    go false e = refl
 
 pub leading-within : (t : Text) → leading t ≤ length t
 leading-within [] = rw leading-nil (omega arith)
@@ -46,6 +42,11 @@ leading-within (c ∷ cs) = go (digit c) refl (leading-within cs)
     go : (b : Bool) → digit c ≡ b → leading cs ≤ length cs → leading (c ∷ cs) ≤ length (c ∷ cs)
     go true e h = omega (arith, leading-digit c cs e)
     go false e h = omega (arith, leading-other c cs e)
+
+pub fold-digits : (x : Float) (t : Text) → fold next_digit x t ≡ digits_from x t
+unfolding digits_from
+fold-digits x [] = refl
+fold-digits x (c ∷ t) = fold-digits (next_digit x c) t
 
 pub digits_append : (x : Float) (s t : Text) → digits_from x (s ++ t) ≡ digits_from (digits_from x s) t
 unfolding digits_from

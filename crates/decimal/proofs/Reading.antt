@@ -9,10 +9,11 @@ use lib.Dec.{T, leb, eqb}
 use lib.ListN.{length, get_or, take, drop, take-append-drop, length-append}
 use lib.Seq.{take_at, drop_at, take-length, length-take-le}
 use native.Mathlib.Numerals.{add-one}
+use Rattle.std.specs.Prelude.{Some, None}
 use Rattle.text.specs.Lists.{Text, chars, pick, all}
 use Rattle.decimal.specs.Number.{digit, Decimal, pointed, written, Spells}
 use Rattle.decimal.specs.Value.{decimal}
-use Rattle.decimal.specs.Compute.{found, none, leading, is_fraction, after_whole, unsigned, decimal_of}
+use Rattle.decimal.specs.Compute.{leading, is_fraction, after_whole, unsigned, decimal_of}
 use Rattle.decimal.proofs.Leading.{leading-nil, leading-digit, leading-other, leading-within}
 use Rattle.decimal.proofs.Steps.{and_left, and_right, short-fraction, whole-digits, no_minus}
 
@@ -23,7 +24,7 @@ T_true false h = absurd h
 pub true-T : {b : Bool} → b ≡ true → T b
 true-T e = subst T (sym e) tt
 
-pub no_number : {d : Decimal} → none ≡ found d → ⊥
+pub no_number : {d : Decimal} → None ≡ Some d → ⊥
 no_number e = let z : ◌≡◌ {A = ℕ} 0 1 = cc in omega arith
 
 -- digits before something that begins with none are all that are counted
@@ -53,12 +54,12 @@ all-leading : (t : Text) → T (all digit t) → leading t ≡ length t
 all-leading t h = ap leading (sym (append-nil t)) ∙ counted t [] h leading-nil
 
 -- What is written is found.
-fraction-found : (m : Bool) (w f : Text) → T (all digit f) → length f ≤ 9 → after_whole m w (pointed f) ≡ found (decimal m w f)
+fraction-found : (m : Bool) (w f : Text) → T (all digit f) → length f ≤ 9 → after_whole m w (pointed f) ≡ Some (decimal m w f)
 fraction-found m w [] h k = refl
 fraction-found m w (c ∷ f) h k = rw (le-leb 1 (length (c ∷ f)) (omega arith), le-leb (length (c ∷ f)) 9 k, eq-eqb _ _ (all-leading (c ∷ f) h))
 
 unsigned-found : (m : Bool) (w f : Text) → T (all digit w) → T (all digit f) → 1 ≤ length w → length w ≤ 3 → length f ≤ 9
-    → unsigned m (w ++ pointed f) ≡ found (decimal m w f)
+    → unsigned m (w ++ pointed f) ≡ Some (decimal m w f)
 unsigned-found m w f hw hf some few k =
     let t = w ++ pointed f in
     let e : leading t ≡ length w = counted w (pointed f) hw (point-stops f) in
@@ -74,12 +75,12 @@ digit-no-minus (c ∷ w) u h some e =
     omega (arith, leb-true 0x30 c (and_left (leb 0x30 c) (leb c 0x39) d))
 
 written-found : (m : Bool) (w f : Text) → T (all digit w) → T (all digit f) → 1 ≤ length w → length w ≤ 3 → length f ≤ 9
-    → decimal_of (written (decimal m w f)) ≡ found (decimal m w f)
+    → decimal_of (written (decimal m w f)) ≡ Some (decimal m w f)
 written-found true w f hw hf some few k = unsigned-found true w f hw hf some few k
 written-found false w f hw hf some few k =
     sym (no_minus (w ++ pointed f) (omega (arith, length-append w (pointed f))) (digit-no-minus w (pointed f) hw some)) ∙ unsigned-found false w f hw hf some few k
 
-pub complete : (t : Text) (d : Decimal) → Spells t d → decimal_of t ≡ found d
+pub complete : (t : Text) (d : Decimal) → Spells t d → decimal_of t ≡ Some d
 complete t d s = ap decimal_of s.text ∙ written-found d.minus d.whole d.fraction s.whole_digits s.fraction_digits s.some s.up_to_three s.up_to_nine
 
 -- What is found is written.
@@ -90,7 +91,7 @@ record Ends (m : Bool) (w t : Text) (d : Decimal) : Type 0 where
   digits : T (all digit f)
   few : length f ≤ 9
 
-fraction-written : (m : Bool) (w t : Text) (d : Decimal) → after_whole m w t ≡ found d → Ends m w t d
+fraction-written : (m : Bool) (w t : Text) (d : Decimal) → after_whole m w t ≡ Some d → Ends m w t d
 fraction-written m w [] d e = record { f = []; is = cc; text = refl; digits = tt; few = omega arith }
 fraction-written m w (c ∷ cs) d e = go (eqb c 0x2e && is_fraction cs) refl
   where
@@ -99,7 +100,7 @@ fraction-written m w (c ∷ cs) d e = go (eqb c 0x2e && is_fraction cs) refl
         let fair = and_right (eqb c 0x2e) (is_fraction cs) h in
         let counts = and_right (leb (length cs) 9) (eqb (leading cs) (length cs)) (and_right (leb 1 (length cs)) _ fair) in
         let some = leb-true 1 (length cs) (and_left _ _ fair) in
-        let z : found (decimal m w cs) ≡ found d = rw h at e in
+        let z : Some (decimal m w cs) ≡ Some d = rw h at e in
         record { f = cs; is = cc; text = begin cs some; digits = all-counted cs (eqb-true _ _ counts); few = short-fraction cs fair }
       where
         begin : (cs : Text) → 1 ≤ length cs → c ∷ cs ≡ pointed cs
@@ -118,13 +119,13 @@ record Parts (m : Bool) (t : Text) (d : Decimal) : Type 0 where
   few : length w ≤ 3
   short : length f ≤ 9
 
-unsigned-written : (m : Bool) (t : Text) (d : Decimal) → unsigned m t ≡ found d → Parts m t d
+unsigned-written : (m : Bool) (t : Text) (d : Decimal) → unsigned m t ≡ Some d → Parts m t d
 unsigned-written m t d e = go (leb 1 (leading t) && leb (leading t) 3) refl
   where
     go : (b : Bool) → (leb 1 (leading t) && leb (leading t) 3) ≡ b → Parts m t d
     go true h =
         let n = leading t in
-        let z : after_whole m (take n t) (drop n t) ≡ found d = rw h at e in
+        let z : after_whole m (take n t) (drop n t) ≡ Some d = rw h at e in
         let x = fraction-written m (take n t) (drop n t) d z in
         let count : length (take n t) ≡ n = length-take-le n t (leading-within t) in
         let least = leb-true 1 n (and_left _ _ h) in
@@ -153,7 +154,7 @@ spelt m t u d p e =
       up_to_nine = p.short;
     })
 
-pub sound : (t : Text) (d : Decimal) → decimal_of t ≡ found d → Spells t d
+pub sound : (t : Text) (d : Decimal) → decimal_of t ≡ Some d → Spells t d
 sound [] d e = absurd (no_number e)
 sound (c ∷ cs) d e = go (eqb c 0x2d) refl
   where

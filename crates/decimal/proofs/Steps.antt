@@ -8,10 +8,10 @@ use borrow.Author.Tests.{leb-true, lt-leb, le-leb, eq-eqb, ne_eqb}
 use lib.Dec.{leb, eqb}
 use lib.ListN.{length, get_or, take, drop, length-drop}
 use lib.Seq.{take_all}
+use Rattle.std.specs.Prelude.{Some, None}
 use Rattle.text.specs.Lists.{Text}
 use Rattle.decimal.specs.Value.{decimal, value_of}
 use Rattle.decimal.specs.Compute.{leading, is_fraction, after_whole, unsigned, decimal_of, number_of}
-use Rattle.decimal.specs.declared.Number.TheVariants.{Value, Malformed}
 
 pub and_left : (a b : Bool) → a && b ≡ true → a ≡ true
 and_left true b h = refl
@@ -29,34 +29,34 @@ pub short-fraction : (t : Text) → is_fraction t ≡ true → length t ≤ 9
 short-fraction t h = leb-true _ _ (and_left (leb (length t) 9) (eqb (leading t) (length t)) (and_right (leb 1 (length t)) _ h))
 
 module _ (m : Bool) (w : Text) where
-  pub no_fraction : (t : Text) → length t < 1 → Value (value_of (decimal m w t)) ≡ number_of (after_whole m w t)
+  pub no_fraction : (t : Text) → length t < 1 → Some (value_of (decimal m w t)) ≡ number_of (after_whole m w t)
   no_fraction [] h = refl
   no_fraction (c ∷ cs) h = absurd (omega arith)
 
-  pub no-point : (t : Text) → 1 ≤ length t → (get_or t 0 0 ≡ 0x2e → ⊥) → Malformed ≡ number_of (after_whole m w t)
+  pub no-point : (t : Text) → 1 ≤ length t → (get_or t 0 0 ≡ 0x2e → ⊥) → None ≡ number_of (after_whole m w t)
   no-point [] h e = absurd (omega arith)
   no-point (c ∷ cs) h e = rw (ne_eqb c 0x2e e)
 
-  pub bad-fraction : (t : Text) → 1 ≤ length t → get_or t 0 0 ≡ 0x2e → is_fraction (drop 1 t) ≡ false → Malformed ≡ number_of (after_whole m w t)
+  pub bad-fraction : (t : Text) → 1 ≤ length t → get_or t 0 0 ≡ 0x2e → is_fraction (drop 1 t) ≡ false → None ≡ number_of (after_whole m w t)
   bad-fraction [] h e f = absurd (omega arith)
   bad-fraction (c ∷ cs) h e f = rw (eq-eqb c 0x2e e, f)
 
   pub good-fraction : (t : Text) → 1 ≤ length t → get_or t 0 0 ≡ 0x2e → is_fraction (drop 1 t) ≡ true
-      → Value (value_of (decimal m w (drop 1 t))) ≡ number_of (after_whole m w t)
+      → Some (value_of (decimal m w (drop 1 t))) ≡ number_of (after_whole m w t)
   good-fraction [] h e f = absurd (omega arith)
   good-fraction (c ∷ cs) h e f = rw (eq-eqb c 0x2e e, f)
 
 module _ (m : Bool) (t : Text) where
-  pub too_few : leading t < 1 → Malformed ≡ number_of (unsigned m t)
+  pub too_few : leading t < 1 → None ≡ number_of (unsigned m t)
   too_few h = rw (lt-leb 1 (leading t) h)
 
-  pub too_many : 1 ≤ leading t → 3 < leading t → Malformed ≡ number_of (unsigned m t)
+  pub too_many : 1 ≤ leading t → 3 < leading t → None ≡ number_of (unsigned m t)
   too_many h k = rw (le-leb 1 (leading t) h, lt-leb (leading t) 3 k)
 
   pub whole-digits : 1 ≤ leading t → leading t ≤ 3 → after_whole m (take (leading t) t) (drop (leading t) t) ≡ unsigned m t
   whole-digits h k = rw (le-leb 1 (leading t) h, le-leb (leading t) 3 k)
 
-pub empty : (t : Text) → length t < 1 → Malformed ≡ number_of (decimal_of t)
+pub empty : (t : Text) → length t < 1 → None ≡ number_of (decimal_of t)
 empty [] h = refl
 empty (c ∷ cs) h = absurd (omega arith)
 

@@ -9,7 +9,6 @@ use native.Mathlib.Numerals.{add-one}
 use native.Mathlib.Omega.{arith}
 use borrow.Author.Tests.{leb-true, ne_eqb}
 use lib.Dec.{T, leb, lit≤, lit<}
-use lib.IntN.{pos}
 use lib.ListN.{length}
 use lib.Pow.{pow_mono, shl_lt}
 use lib.Ieee.{Float, nan, inf, fin, binary64, up, down, round, add, mul, div, of_int}

@@ -1,11 +1,9 @@
 -- The value of a number text, to the bit: "each operation rounded once".
-use Rattle.std.specs.Prelude.{Bool, true, false, ◌≡◌, [], ◌∷◌, ◌++◌, ℕ, ◌+◌, ◌-◌, ◌^◌, pos, length, Float}
+use Rattle.std.specs.Prelude.{Bool, true, false, ◌≡◌, [], ◌∷◌, ◌++◌, ℕ, ◌-◌, ◌^◌, pos, length, Float, Option, Some, None}
 use Rattle.std.specs.Float.{binary64}
 use Rattle.std.specs.Float.Ieee.{add, mul, div, neg, of_int}
 use Rattle.text.specs.Lists.{Text}
 use Rattle.decimal.specs.Number.{Decimal, Spells, NumberText}
-use Rattle.decimal.specs.declared.Number.{Number}
-use Rattle.decimal.specs.declared.Number.TheVariants.{Value, Malformed}
 
 -- a whole number as a floating number "of 64 bits"
 abbrev pub num : ℕ → Float
@@ -39,6 +37,6 @@ abbrev pub Valued : Text → Float → Type 0
 Valued t x = (d : Decimal) × Spells t d × (x ≡ value_of d)
 
 -- "If the answer is an enum, a definition gives this paper's number and values for each of its cases"
-abbrev pub Says : Text → Number → Type 0
-Says t (Value x) = Valued t x
-Says t Malformed = NumberText t → ⊥
+abbrev pub Says : Text → Option Float → Type 0
+Says t (Some x) = Valued t x
+Says t None = NumberText t → ⊥

@@ -2,6 +2,7 @@
 #![tactic(auto)]
 
 ghost use Rattle.std.specs.Prelude.{◌≡◌, ◌-◌, ◌^◌, ◌≤◌, length};
+ghost use Rattle.std.specs.List.{prefix_len, fold};
 ghost use Rattle.std.specs.Float.{binary64};
 ghost use Rattle.std.specs.Float.Ieee.{div};
 ghost use Rattle.decimal.specs.Number.{digit};
@@ -19,43 +20,23 @@ const POWERS_OF_TEN: [u32; 10] = [
     1, 10, 100, 1000, 10000, 100000, 1000000, 10000000, 100000000, 1000000000,
 ];
 
-// What a text says: a value, or nothing, since it is no number text.
-#[derive(Clone, Copy)]
-pub enum Number {
-    Value(f64),
-    Malformed,
-}
-
 fn is_digit(c: u8) -> bool
     ensures { result ≡ digit c }
 {
-    if c < b'0' {
-        return false;
-    }
-    c <= b'9'
+    c.is_ascii_digit()
 }
 
 // How many digits a text begins with.
 fn leading_digits(text: &[u8]) -> usize
-    ensures { result ≡ leading text.now }
+    ensures { result ≡ prefix_len digit text.now }
 {
-    let mut n = 0;
-    while n < text.len() {
-        if !is_digit(text[n]) {
-            return n;
-        }
-        n += 1;
-    }
-    n
+    text.iter().take_while(|c| is_digit(**c)).count()
 }
 
 fn digit_of(c: u8) -> u8
     ensures { result ≡ c - 0x30 }
 {
-    if c < b'0' {
-        return 0;
-    }
-    c - b'0'
+    c.saturating_sub(b'0')
 }
 
 // Ten times plus the digit.
@@ -66,13 +47,9 @@ fn next_digit(value: f64, c: u8) -> f64
 }
 
 fn accumulate(value: f64, digits: &[u8]) -> f64
-    ensures { result ≡ digits_from value digits.now }
+    ensures { result ≡ fold next_digit value digits.now }
 {
-    let mut v = value;
-    for i in 0..digits.len() {
-        v = next_digit(v, digits[i]);
-    }
-    v
+    digits.iter().fold(value, |v, c| next_digit(v, *c))
 }
 
 fn power_of_ten(n: usize) -> u32
@@ -93,10 +70,7 @@ fn scaled(digits: f64, places: usize) -> f64
 fn signed(minus: bool, x: f64) -> f64
     ensures { result ≡ signedBy minus x }
 {
-    if minus {
-        return -x;
-    }
-    x
+    if minus { -x } else { x }
 }
 
 fn value(minus: bool, whole: &[u8], fraction: &[u8]) -> f64
@@ -112,52 +86,43 @@ fn value(minus: bool, whole: &[u8], fraction: &[u8]) -> f64
 fn is_fraction(text: &[u8]) -> bool
     ensures { result ≡ is_fraction text.now }
 {
-    if text.len() < 1 {
-        return false;
-    }
-    if MOST_FRACTION_DIGITS < text.len() {
-        return false;
-    }
-    leading_digits(text) == text.len()
+    1 <= text.len() && text.len() <= MOST_FRACTION_DIGITS && leading_digits(text) == text.len()
 }
 
 // A number text after its sign and the digits before a point.
-fn read_fraction(minus: bool, whole: &[u8], rest: &[u8]) -> Number
+fn read_fraction(minus: bool, whole: &[u8], rest: &[u8]) -> Option<f64>
     ensures { result ≡ number_of (after_whole minus whole.now rest.now) }
 {
     if rest.len() < 1 {
-        return Number::Value(value(minus, whole, rest));
+        return Some(value(minus, whole, rest));
     }
     if rest[0] != b'.' {
-        return Number::Malformed;
+        return None;
     }
     let fraction = &rest[1..];
     if !is_fraction(fraction) {
-        return Number::Malformed;
+        return None;
     }
-    Number::Value(value(minus, whole, fraction))
+    Some(value(minus, whole, fraction))
 }
 
 // A number text after its sign.
-fn read_unsigned(minus: bool, text: &[u8]) -> Number
+fn read_unsigned(minus: bool, text: &[u8]) -> Option<f64>
     ensures { result ≡ number_of (unsigned minus text.now) }
 {
     let n = leading_digits(text);
-    if n < 1 {
-        return Number::Malformed;
-    }
-    if MOST_WHOLE_DIGITS < n {
-        return Number::Malformed;
+    if n < 1 || MOST_WHOLE_DIGITS < n {
+        return None;
     }
     read_fraction(minus, &text[..n], &text[n..])
 }
 
-// The value of a number text, or that a text is none.
-pub fn read_number(text: &[u8]) -> Number
+// The value of a number text; nothing of any other text.
+pub fn read_number(text: &[u8]) -> Option<f64>
     ensures { result ≡ number_of (decimal_of text.now) }
 {
     if text.len() < 1 {
-        return Number::Malformed;
+        return None;
     }
     if text[0] == b'-' {
         return read_unsigned(true, &text[1..]);

@@ -22,12 +22,11 @@ use Rattle.left_parse.specs.Steps.{Found, Named}
 use Rattle.markup.specs.Pieces.{Headed}
 use Rattle.cursor.specs.Ahead.{AtRow, SomeRow, root_at}
 use Rattle.cursor.specs.declared.Cursor.{Cursor}
-use Rattle.writer.specs.Whole.{Job, Some}
+use Rattle.writer.specs.Whole.{Job, SomeJob}
 use Rattle.writer.proofs.Whole.{Rooted, rooted, root-row, row-again, found_first, head-number, document-deleted, document-element}
 use Rattle.xml_shape.specs.Judges.{Judges}
 use Rattle.xml_shape.specs.Names.{repeated}
 use Rattle.dynamic_errors.specs.declared.Findings.{Findings}
-use Rattle.dynamic_errors.specs.declared.Verdict.TheVariants.{Allowed, RepeatedAttribute, NotXmlName, NotXmlCharacter, AttributeRoot, DeletedRoot, AttributeXmlns}
 use Rattle.extent.specs.Extent.{tag, attributes_of, Covers, Grown}
 use Rattle.extent.specs.declared.Extent.{Extent}
 use Rattle.extent.proofs.Sizes.{not-twice, no_names}
@@ -146,18 +145,6 @@ row-judged {T} {P} {r} {S} {S₁} {S₂} {S₃} {head} {mark} {h} {d} {t} {m} {b
         ∙ ap (λ (c : Bool). judgment (eqb mark 22) (around c n x)) de
         ∙ ap (λ (j : ℕ). judgment (eqb j 22) (around (eqb j 23) n x)) (me ∙ head-number N)
 
--- the number of the topmost line is the topmost number
-pub top-number : (t m u a b n : Bool)
-    → verdict_number (pick t RepeatedAttribute (pick m NotXmlName (pick u NotXmlCharacter (pick a AttributeRoot (pick b DeletedRoot (pick n AttributeXmlns Allowed))))))
-    ≡ topmost t m u a b n
-top-number true m u a b n = refl
-top-number false true u a b n = refl
-top-number false false true a b n = refl
-top-number false false false true b n = refl
-top-number false false false false true n = refl
-top-number false false false false false true = refl
-top-number false false false false false false = refl
-
 -- a name is the same as itself
 same_self : (t : Text) → same t t ≡ true
 same_self [] = refl
@@ -184,7 +171,7 @@ document-around {g = g} R =
     (λ e. document-element R (eqb-false k 23 e) ∙ ap (λ (b : Bool). around b g.root.name R.inner) (sym e)) (look (eqb k 23))
 
 -- the row in the root begins at its alternative
-pub root-standing : {T : List ℕ} {x : ℕ} {P : List ℕ} {r : Text} {S : List ℕ} {a item : ℕ} {c : Cursor} → Room T P S → Some T x P r S
+pub root-standing : {T : List ℕ} {x : ℕ} {P : List ℕ} {r : Text} {S : List ℕ} {a item : ℕ} {c : Cursor} → Room T P S → SomeJob T x P r S
     → a ≡ get_or P 0 0 → Found T x a item → c ≡ root_at item → SomeRow T P r S c
 root-standing {P = P} {item = item} room J e F ce = row-again ce refl (root-row (rooted room J.job item (found_first P e F)))
 

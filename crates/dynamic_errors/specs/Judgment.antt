@@ -1,5 +1,5 @@
 -- The refusal of what a left parse writes: the topmost of lines 17 to 22 of the table that applies, or 0.
-use Rattle.std.specs.Prelude.{◌≡◌, Bool, false, not, ◌||◌, List, ℕ, eqb}
+use Rattle.std.specs.Prelude.{◌≡◌, Bool, false, not, ◌||◌, List, ℕ, eqb, Result, Ok, Err, ⊤}
 use Rattle.text.specs.Lists.{Text, pick}
 use Rattle.tree.specs.Tree.{Grammar}
 use Rattle.derive.specs.Derive.{Row, root}
@@ -12,8 +12,8 @@ use Rattle.writer.specs.Whole.{Job}
 use Rattle.xml_shape.specs.Names.{repeated}
 use Rattle.extent.specs.Extent.{Covers}
 use Rattle.dynamic_errors.specs.declared.Review.{Review}
-use Rattle.dynamic_errors.specs.declared.Verdict.{Verdict}
-use Rattle.dynamic_errors.specs.declared.Verdict.TheVariants.{Allowed, RepeatedAttribute, NotXmlName, NotXmlCharacter, AttributeRoot, DeletedRoot, AttributeXmlns}
+use Rattle.dynamic_errors.specs.declared.DynamicError.{DynamicError}
+use Rattle.dynamic_errors.specs.declared.DynamicError.TheVariants.{RepeatedAttribute, NotXmlName, NotXmlCharacter, AttributeRoot, DeletedRoot, AttributeXmlns}
 
 -- the number of the first test that holds
 abbrev pub topmost : Bool → Bool → Bool → Bool → Bool → Bool → ℕ
@@ -27,15 +27,18 @@ judgment a d = topmost (twice d) (misnamed d) (unwritable d) a (not_one d) (name
 abbrev pub judgment_of : Grammar → Text → Row → ℕ
 judgment_of g r t = judgment (is_attribute (mark_of g (root g))) (document g r t)
 
+abbrev pub error_number : DynamicError → ℕ
+error_number RepeatedAttribute = 17
+error_number NotXmlName = 18
+error_number NotXmlCharacter = 19
+error_number AttributeRoot = 20
+error_number DeletedRoot = 21
+error_number AttributeXmlns = 22
+
 -- the number of a verdict: 0 forbids nothing
-abbrev pub verdict_number : Verdict → ℕ
-verdict_number Allowed = 0
-verdict_number RepeatedAttribute = 17
-verdict_number NotXmlName = 18
-verdict_number NotXmlCharacter = 19
-verdict_number AttributeRoot = 20
-verdict_number DeletedRoot = 21
-verdict_number AttributeXmlns = 22
+abbrev pub verdict_number : Result ⊤ DynamicError → ℕ
+verdict_number (Ok u) = 0
+verdict_number (Err e) = error_number e
 
 -- the document of what stands in the root: just that, if the root is deleted; else an element
 abbrev pub around : Bool → Text → Xml → Xml

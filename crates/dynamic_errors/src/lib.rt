@@ -2,20 +2,21 @@
 #![tactic(auto)]
 
 ghost use Rattle.std.specs.Prelude.{◌≡◌, ◌||◌, ℕ, ◌<◌, ◌≤◌, length};
-ghost use Rattle.text.specs.Lists.{Text, pick};
+ghost use Rattle.text.specs.Lists.{Text};
 ghost use Rattle.xml.specs.Document.{twice};
 ghost use Rattle.items.specs.Items.{kind_at};
 ghost use Rattle.left_parse.specs.Noted.{Room};
 ghost use Rattle.left_parse.specs.Steps.{Named};
 ghost use Rattle.cursor.specs.Ahead.{SomeRow, SomeNode};
-ghost use Rattle.writer.specs.Whole.{Some as SomeJob};
+ghost use Rattle.writer.specs.Whole.{SomeJob};
 ghost use Rattle.xml_shape.specs.Judges.{Judges};
 ghost use Rattle.xml_shape.specs.Names.{name_tokens};
 ghost use Rattle.dynamic_errors.specs.Within.{Repeats, RowFound, Attributed};
-ghost use Rattle.dynamic_errors.specs.Judgment.{topmost, twice_in, misnamed_in, not_one_in, verdict_number, RowJudged, Judged};
+ghost use Rattle.dynamic_errors.specs.Judgment.{topmost, twice_in, misnamed_in, not_one_in, error_number, verdict_number, RowJudged, Judged};
 
 use cursor::{Cursor, Event};
 use extent::Extent;
+use text::refusals;
 use xml_names::Faults;
 
 // Heads of rules that are marked `-` and `@`.
@@ -188,10 +189,9 @@ fn not_one_in(
     false
 }
 
-// What is said of a document: it may be written, or what forbids it.
+// What forbids to write a document.
 #[derive(Clone, Copy)]
-pub enum Verdict {
-    Allowed,
+pub enum DynamicError {
     RepeatedAttribute,
     NotXmlName,
     NotXmlCharacter,
@@ -200,14 +200,20 @@ pub enum Verdict {
     AttributeXmlns,
 }
 
-// A line of the table: its verdict if it applies, else what the lines below give.
-fn line(applies: bool, verdict: Verdict, below: Verdict) -> Verdict
-    ensures { result ≡ pick applies verdict below }
-{
-    if applies {
-        return verdict;
+impl DynamicError {
+    // The number of the refusal.
+    pub fn number(self) -> u32
+        ensures { result ≡ error_number self }
+    {
+        match self {
+            DynamicError::RepeatedAttribute => refusals::REPEATED_ATTRIBUTE,
+            DynamicError::NotXmlName => refusals::NOT_XML_NAME,
+            DynamicError::NotXmlCharacter => refusals::NOT_XML_CHARACTER,
+            DynamicError::AttributeRoot => refusals::ATTRIBUTE_ROOT,
+            DynamicError::DeletedRoot => refusals::DELETED_ROOT,
+            DynamicError::AttributeXmlns => refusals::ATTRIBUTE_XMLNS,
+        }
     }
-    below
 }
 
 // The topmost line that applies.
@@ -218,21 +224,34 @@ fn top_line(
     attribute: bool,
     beside: bool,
     namespaced: bool,
-) -> Verdict
+) -> Result<(), DynamicError>
     ensures { verdict_number result ≡ topmost twice misnamed unwritable attribute beside namespaced }
 {
-    let v = line(namespaced, Verdict::AttributeXmlns, Verdict::Allowed);
-    let v = line(beside, Verdict::DeletedRoot, v);
-    let v = line(attribute, Verdict::AttributeRoot, v);
-    let v = line(unwritable, Verdict::NotXmlCharacter, v);
-    let v = line(misnamed, Verdict::NotXmlName, v);
-    line(twice, Verdict::RepeatedAttribute, v)
+    if twice {
+        return Err(DynamicError::RepeatedAttribute);
+    }
+    if misnamed {
+        return Err(DynamicError::NotXmlName);
+    }
+    if unwritable {
+        return Err(DynamicError::NotXmlCharacter);
+    }
+    if attribute {
+        return Err(DynamicError::AttributeRoot);
+    }
+    if beside {
+        return Err(DynamicError::DeletedRoot);
+    }
+    if namespaced {
+        return Err(DynamicError::AttributeXmlns);
+    }
+    Ok(())
 }
 
 // What is said of a document, and what its XML takes.
 #[derive(Clone, Copy)]
 pub struct Review {
-    pub verdict: Verdict,
+    pub verdict: Result<(), DynamicError>,
     pub extent: Extent,
 }
 

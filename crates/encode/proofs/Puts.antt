@@ -1,12 +1,12 @@
 -- What is put after what, and where it comes to lie.
-use mathlib.Core.Path.{◌≡◌, refl, sym, ◌∙◌}
+use mathlib.Core.Path.{◌≡◌, refl, sym, ap, ◌∙◌}
 use mathlib.Core.Logic.{⊎_elim}
 use mathlib.Core.List.{List, [], ◌∷◌, ◌++◌, append_assoc, append-nil}
-use Prim.Native.Nat.{ℕ, suc, ◌+◌, ◌-◌, ◌≤◌, ◌<◌, min}
+use Prim.Native.Nat.{ℕ, suc, ◌+◌, ◌≤◌, ◌<◌, min}
 use native.Mathlib.Numerals.{add-one}
 use native.Mathlib.Omega.{arith}
 use lib.ListN.{length, get_or, set, take, drop, length-set, take-append-drop}
-use lib.Seq.{drop-cons, take-suc-set, append_snoc, drop-set-lt}
+use lib.Seq.{take-suc, take-suc-set, append_snoc, drop-set-lt}
 use borrow.Author.Tests.{lt-ltb, le-ltb, le-leb, lt-leb}
 use Rattle.text.specs.Lists.{Text}
 use Rattle.text.specs.Utf8.{utf8}
@@ -90,6 +90,6 @@ room p l o (b ∷ bs) a h =
     (room (suc p) l (set o p b) bs (simp length-set (omega arith)) (omega arith)
     ∙ rw (q, take-suc-set o p b z, drop-set-lt (p + suc (length bs)) o p b (omega arith), append_snoc (take p o) b (bs ++ drop (p + suc (length bs)) o)))
 
--- one byte of a list
-pub turn : (l : ℕ) (s : List ℕ) (i : ℕ) (a b : State) → i < length s → b ≡ puts l a (get_or s i 0 ∷ []) → puts l b (drop (i + 1) s) ≡ puts l a (drop i s)
-turn l s i a b h e = rw (e, add-one, drop-cons s i 0) (puts-cons l a (get_or s i 0) _)
+-- one byte more of a list
+pub puts-on : (l : ℕ) (a : State) {b c : State} (s : List ℕ) (i : ℕ) → i < length s → b ≡ puts l a (take i s) → c ≡ puts l b (get_or s i 0 ∷ []) → c ≡ puts l a (take (i + 1) s)
+puts-on l a s i h p q = then l a (take i s) (get_or s i 0 ∷ []) p q ∙ ap (puts l a) (rw (add-one, take-suc s i 0 h))

@@ -1,9 +1,11 @@
 -- What is put: a place and a buffer. Past the limit nothing is stored, and the place stops after the room.
-use Rattle.std.specs.Prelude.{◌≡◌, Bool, true, false, List, [], ◌∷◌, ◌++◌, ℕ, ◌+◌, ◌/◌, ◌%◌, ltb, leb, eqb, length, set}
-use Rattle.text.specs.Lists.{Text, chars, pick}
+use Rattle.std.specs.Prelude.{◌≡◌, true, false, List, [], ◌∷◌, ◌++◌, ℕ, ◌+◌, ◌/◌, ◌%◌, ltb, leb, length, set}
+use Rattle.text.specs.Lists.{Text, pick}
 use Rattle.text.specs.Utf8.{utf8}
 use Rattle.tree.specs.Tokens.{capped}
 use Rattle.xml.specs.Bytes.{escape}
+use Rattle.encode.specs.declared.Spelling.{Spelling}
+use Rattle.encode.specs.declared.Spelling.TheVariants.{Plain, InContent, InValue}
 
 pub record State : Type 0 where
   pub pos : ℕ
@@ -28,12 +30,11 @@ enc (c ∷ cs) = utf8 (capped c) ++ enc cs
 abbrev pub last_two : ℕ → List ℕ
 last_two c = (0x80 + c / 64 % 64) ∷ (0x80 + c % 64) ∷ []
 
--- a character in a name (0), in text (1) or in a value (2)
-abbrev pub spelt : ℕ → ℕ → Text
-spelt mode c = pick (eqb mode 0) (c ∷ []) (escape (eqb mode 2) c)
-
-abbrev pub in_value : ℕ → Text
-in_value c = pick (eqb c 0x27) (chars "&apos;") (pick (eqb c 0xa) (chars "&#xA;") (pick (eqb c 0x9) (chars "&#x9;") (c ∷ [])))
+-- a character where it is written: in a name, in content or in a value
+abbrev pub spelt : Spelling → ℕ → Text
+spelt Plain c = c ∷ []
+spelt InContent c = escape false c
+spelt InValue c = escape true c
 
 -- from one place and buffer to another the text was written
 pub record Wrote (limit pos : ℕ) (out : List ℕ) (pos' : ℕ) (out' : List ℕ) (t : Text) : Type 0 where

@@ -1,11 +1,13 @@
 // The bytes of characters, in UTF-8 and escaped as XML asks, put into a buffer up to a limit.
 #![tactic(auto)]
 
-ghost use Rattle.std.specs.Prelude.{◌≡◌, [], ◌∷◌, ◌<◌, ◌≤◌, length, take, drop};
+ghost use Rattle.std.specs.Prelude.{◌≡◌, true, false, [], ◌∷◌, ◌<◌, ◌≤◌, length, take, drop};
 ghost use Rattle.text.specs.Utf8.{utf8};
 ghost use Rattle.text.specs.Lists.{concat_map};
-ghost use Rattle.encode.specs.Out.{state, puts, Wrote, last_two, spelt, in_value};
+ghost use Rattle.xml.specs.Bytes.{escape};
+ghost use Rattle.encode.specs.Out.{state, puts, Wrote, last_two, spelt};
 
+use std::cmp::min;
 use text::BytePlace;
 
 // One byte. Past the limit nothing is stored, and the place stops after the room.
@@ -29,8 +31,8 @@ pub fn put_all(out: &mut [u8], limit: BytePlace, pos: BytePlace, s: &[u8]) -> By
     ensures { state result.0 out.new ≡ puts limit.0 (state pos.0 out.old) s.now }
 {
     let mut at = pos;
-    for i in 0..s.len() {
-        at = put(out, limit, at, s[i]);
+    for b in s {
+        at = put(out, limit, at, *b);
     }
     at
 }
@@ -82,79 +84,79 @@ pub fn put_char(out: &mut [u8], limit: BytePlace, pos: BytePlace, c: usize) -> B
     put_four(out, limit, pos, 0x110000)
 }
 
-// What is written otherwise in values alone.
+// Where a character is written: in a name, as it is; in content; or in an attribute's value.
+#[derive(Clone, Copy)]
+pub enum Spelling {
+    Plain,
+    InContent,
+    InValue,
+}
+
+fn put_in_content(out: &mut [u8], limit: BytePlace, pos: BytePlace, c: usize) -> BytePlace
+    requires { limit.0 ≤ length out.old }
+    ensures { Wrote limit.0 pos.0 out.old result.0 out.new (escape false c) }
+{
+    match c {
+        0x26 => put_all(out, limit, pos, b"&amp;"),
+        0x3c => put_all(out, limit, pos, b"&lt;"),
+        0x3e => put_all(out, limit, pos, b"&gt;"),
+        0xd => put_all(out, limit, pos, b"&#xD;"),
+        _ => put_char(out, limit, pos, c),
+    }
+}
+
 fn put_in_value(out: &mut [u8], limit: BytePlace, pos: BytePlace, c: usize) -> BytePlace
     requires { limit.0 ≤ length out.old }
-    ensures { Wrote limit.0 pos.0 out.old result.0 out.new (in_value c) }
+    ensures { Wrote limit.0 pos.0 out.old result.0 out.new (escape true c) }
 {
-    if c == 0x27 {
-        return put_all(out, limit, pos, b"&apos;");
+    match c {
+        0x27 => put_all(out, limit, pos, b"&apos;"),
+        0xa => put_all(out, limit, pos, b"&#xA;"),
+        0x9 => put_all(out, limit, pos, b"&#x9;"),
+        _ => put_in_content(out, limit, pos, c),
     }
-    if c == 0xa {
-        return put_all(out, limit, pos, b"&#xA;");
-    }
-    if c == 0x9 {
-        return put_all(out, limit, pos, b"&#x9;");
-    }
-    put_char(out, limit, pos, c)
 }
-
-// Where a character is written: as it is, as in a name; in content; or in an attribute's value.
-pub const PLAIN: usize = 0;
-
-pub const IN_CONTENT: usize = 1;
-
-pub const IN_VALUE: usize = 2;
 
 // A character, escaped as where it is written asks.
-fn put_escaped(out: &mut [u8], limit: BytePlace, pos: BytePlace, mode: usize, c: usize) -> BytePlace
+fn put_escaped(
+    out: &mut [u8],
+    limit: BytePlace,
+    pos: BytePlace,
+    spelling: Spelling,
+    c: usize,
+) -> BytePlace
     requires { limit.0 ≤ length out.old }
-    ensures { Wrote limit.0 pos.0 out.old result.0 out.new (spelt mode c) }
+    ensures { Wrote limit.0 pos.0 out.old result.0 out.new (spelt spelling c) }
 {
-    if mode == PLAIN {
-        return put_char(out, limit, pos, c);
+    match spelling {
+        Spelling::Plain => put_char(out, limit, pos, c),
+        Spelling::InContent => put_in_content(out, limit, pos, c),
+        Spelling::InValue => put_in_value(out, limit, pos, c),
     }
-    if c == 0x26 {
-        return put_all(out, limit, pos, b"&amp;");
-    }
-    if c == 0x3c {
-        return put_all(out, limit, pos, b"&lt;");
-    }
-    if c == 0x3e {
-        return put_all(out, limit, pos, b"&gt;");
-    }
-    if c == 0xd {
-        return put_all(out, limit, pos, b"&#xD;");
-    }
-    if mode == IN_VALUE {
-        return put_in_value(out, limit, pos, c);
-    }
-    put_char(out, limit, pos, c)
 }
 
-// Characters that stand in a table.
+// So many cells of a table from a place on, as far as it goes.
+pub fn stretch(table: &[u32], from: usize, count: usize) -> &[u32]
+    ensures { result.now ≡ take count (drop from table.now) }
+{
+    let rest = &table[min(from, table.len())..];
+    &rest[..min(count, rest.len())]
+}
+
+// A text, character by character.
 pub fn put_text(
     out: &mut [u8],
     limit: BytePlace,
     pos: BytePlace,
-    mode: usize,
-    t: &[u32],
-    from: usize,
-    count: usize,
+    spelling: Spelling,
+    text: &[u32],
 ) -> BytePlace
     requires { limit.0 ≤ length out.old }
-    ensures { Wrote limit.0 pos.0 out.old result.0 out.new (concat_map (spelt mode) (take count (drop from t.now))) }
+    ensures { Wrote limit.0 pos.0 out.old result.0 out.new (concat_map (spelt spelling) text.now) }
 {
     let mut q = pos;
-    let mut i = from;
-    let mut n = count;
-    while n > 0 {
-        if i >= t.len() {
-            return q;
-        }
-        q = put_escaped(out, limit, q, mode, tokens::look(t, i));
-        i += 1;
-        n -= 1;
+    for c in text {
+        q = put_escaped(out, limit, q, spelling, *c as usize);
     }
     q
 }

@@ -57,7 +57,7 @@ attributes-text (c ∷ cs) = attributes-text cs
 said-size : {T : List ℕ} {r : Text} {p : Piece} {t : Text} → Says T r p t → size (concat_map (escape true) t) ≤ 6 * p.count
 said-size {T} {r} {p} {t} S =
     let l = length-take p.count (sourced T r p.from) in
-    omega (arith, ap length (S.same 2 (λ e. absurd (omega arith))), escapes-size (said T r p), l)
+    omega (arith, ap length (S.same true), escapes-size (said T r p), l)
 
 -- from all that was ahead to what still is
 pub record Spans (e : Extent) (r : Text) (k₀ k : Rest) : Type 0 where

@@ -6,16 +6,15 @@ use Prim.Native.Nat.{ℕ}
 use native.Mathlib.Omega.{arith}
 use lib.Dec.{T}
 use lib.Ieee.{Float}
+use Rattle.std.specs.Prelude.{Ok}
 use Rattle.text.specs.Lists.{Text, pick}
 use Rattle.decimal.specs.Value.{num, Valued}
-use Rattle.gate.specs.Gate.{position, beyond, inside, is_box, exchanged, swapped, verdict_of, Rules, unsound, no_number, too_far, judged}
+use Rattle.gate.specs.Gate.{position, beyond, inside, is_box, exchanged, swapped, verdict_of, Ruling, Rules, unsound, no_number, too_far, judged}
 use Rattle.gate.specs.Laws.{IsSwapped, Laws}
 use Rattle.gate.specs.declared.Gate.{Gate}
 use Rattle.gate.specs.declared.Position.{Position}
 use Rattle.gate.specs.declared.Verdict.{Verdict}
 use Rattle.gate.specs.declared.Verdict.TheVariants.{Inside, Swapped, Suspect}
-use Rattle.gate.specs.declared.Ruling.{Ruling}
-use Rattle.gate.specs.declared.Ruling.TheVariants.{Judged}
 use Rattle.gate.proofs.Rulings.{rules, one-ruling}
 use Rattle.gate.proofs.Attributes.{attribute, bare}
 
@@ -63,7 +62,7 @@ is-swapped g p = (
 Exchanges : Gate → Text → Text → Type 0
 Exchanges g lat lon = (x : Float) × (y : Float) × Valued lat x × Valued lon y × IsSwapped g (position x y)
 
-swapped-texts : (g : Gate) (lat lon : Text) (r : Ruling) → Rules g lat lon r → r ≡ Judged Swapped → Exchanges g lat lon
+swapped-texts : (g : Gate) (lat lon : Text) (r : Ruling) → Rules g lat lon r → r ≡ Ok Swapped → Exchanges g lat lon
 unfolding Exchanges
 swapped-texts g lat lon r (unsound u) e = absurd (let z : ◌≡◌ {A = ℕ} 0 1 = cc in omega arith)
 swapped-texts g lat lon r (no_number s n) e = absurd (let z : ◌≡◌ {A = ℕ} 0 1 = cc in omega arith)
@@ -80,7 +79,7 @@ laws-hold = record {
   twice = λ p. refl;
   is_inside = λ g p. inside-test (inside g p) (swapped g p);
   is_swapped = is-swapped;
-  swapped_texts = λ g lat lon h. swapped-texts g lat lon (Judged Swapped) h refl;
+  swapped_texts = λ g lat lon h. swapped-texts g lat lon (Ok Swapped) h refl;
   attribute = attribute;
   bare = bare;
 }

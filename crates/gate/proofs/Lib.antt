@@ -1,4 +1,3 @@
-pub mod Itself
 pub mod Constants
 pub mod Rulings
 pub mod Answers

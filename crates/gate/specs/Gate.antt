@@ -1,5 +1,5 @@
 -- Positions, gates and verdicts.
-use Rattle.std.specs.Prelude.{Bool, true, false, not, ◌&&◌, ◌||◌, T, Float}
+use Rattle.std.specs.Prelude.{Bool, true, false, not, ◌&&◌, ◌||◌, T, Float, Result, Ok, Err}
 use Rattle.std.specs.Float.Ieee.{lt, le, neg}
 use Rattle.text.specs.Lists.{Text, pick}
 use Rattle.decimal.specs.Nearest.{finite}
@@ -10,8 +10,8 @@ use Rattle.gate.specs.declared.Gate.TheVariants.{Box, Band, Anywhere}
 use Rattle.gate.specs.declared.Position.{Position}
 use Rattle.gate.specs.declared.Verdict.{Verdict}
 use Rattle.gate.specs.declared.Verdict.TheVariants.{Inside, Swapped, Suspect}
-use Rattle.gate.specs.declared.Ruling.{Ruling}
-use Rattle.gate.specs.declared.Ruling.TheVariants.{Judged, Refused}
+use Rattle.gate.specs.declared.GateRefusal.{GateRefusal}
+use Rattle.gate.specs.declared.GateRefusal.TheVariants.{UnsoundGate, NoNumber, OutOfRange}
 
 -- "A position is a pair of floating numbers"
 abbrev pub position : Float → Float → Position
@@ -60,11 +60,15 @@ swapped g p = is_box g && (not (beyond (num 90) (exchanged p).lat.0) && inside g
 abbrev pub verdict_of : Gate → Position → Verdict
 verdict_of g p = pick (inside g p) Inside (pick (swapped g p) Swapped Suspect)
 
+-- a verdict, or why there is none
+abbrev pub Ruling : Type 0
+Ruling = Result Verdict GateRefusal
+
 -- The texts of "two attributes, latitude and longitude", and what a gate makes of them: "refused as 30; then any other number text as 31; then a
 -- value beyond 90 or 180 degrees before any exchange as 32. No verdict comes with a refusal."
 pub data Rules (g : Gate) (lat lon : Text) : Ruling → Type 0 where
-  unsound : T (not (sound g)) → Rules g lat lon (Refused 30)
-  no_number : T (sound g) → (NumberText lat × NumberText lon → ⊥) → Rules g lat lon (Refused 31)
-  too_far : {x y : Float} → T (sound g) → Valued lat x → Valued lon y → T (out_of_range (position x y)) → Rules g lat lon (Refused 32)
+  unsound : T (not (sound g)) → Rules g lat lon (Err UnsoundGate)
+  no_number : T (sound g) → (NumberText lat × NumberText lon → ⊥) → Rules g lat lon (Err NoNumber)
+  too_far : {x y : Float} → T (sound g) → Valued lat x → Valued lon y → T (out_of_range (position x y)) → Rules g lat lon (Err OutOfRange)
   judged : {x y : Float} → T (sound g) → Valued lat x → Valued lon y → T (not (out_of_range (position x y)))
-      → Rules g lat lon (Judged (verdict_of g (position x y)))
+      → Rules g lat lon (Ok (verdict_of g (position x y)))

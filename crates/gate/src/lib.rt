@@ -8,11 +8,9 @@ ghost use Rattle.decimal.specs.Nearest.{finite as is_finite};
 ghost use Rattle.gate.specs.Gate.{limits, sound, beyond, out_of_range, inside as is_inside, exchanged as exchange};
 ghost use Rattle.gate.specs.Gate.{is_box, swapped, verdict_of};
 ghost use Rattle.gate.specs.Compute.{placed, ruling_of};
-ghost use Rattle.gate.specs.Calls.{verdict_number, shown as shows, Ruled, NumberRead};
+ghost use Rattle.gate.specs.Calls.{verdict_number, refusal_number, shown as shows, Ruled, NumberRead};
 
-use decimal::Number;
-
-// The refusals.
+// How the exported answers number the refusals.
 const UNSOUND_GATE: u32 = 30;
 
 const NO_NUMBER: u32 = 31;
@@ -70,11 +68,13 @@ pub enum Verdict {
     Suspect,
 }
 
-// What two texts come to: a verdict, or the number of a refusal.
+// Why there is no verdict: a limit that is not finite or above its other one, a text that is no number text, a value beyond the
+// greatest sizes.
 #[derive(Clone, Copy)]
-pub enum Ruling {
-    Judged(Verdict),
-    Refused(u32),
+pub enum GateRefusal {
+    UnsoundGate,
+    NoNumber,
+    OutOfRange,
 }
 
 // A ruling as it is exported: 0 and a verdict by its number, or a refusal and no verdict.
@@ -93,24 +93,17 @@ pub struct NumberAnswer {
     pub value: f64,
 }
 
-// Infinity less itself is no number, and no other number is unequal to itself.
+#[tactic(auto, using(crate::proofs::Constants::finite_law))]
 fn finite(x: f64) -> bool
     ensures { result ≡ is_finite x }
 {
-    let d = x - x;
-    d == d
+    x.is_finite()
 }
 
 fn are_limits(low: f64, high: f64) -> bool
     ensures { result ≡ limits low high }
 {
-    if !finite(low) {
-        return false;
-    }
-    if !finite(high) {
-        return false;
-    }
-    !(high < low)
+    finite(low) && finite(high) && !(high < low)
 }
 
 fn is_sound(gate: Gate) -> bool
@@ -122,12 +115,7 @@ fn is_sound(gate: Gate) -> bool
             north,
             west,
             east,
-        } => {
-            if !are_limits(south, north) {
-                return false;
-            }
-            are_limits(west, east)
-        }
+        } => are_limits(south, north) && are_limits(west, east),
         Gate::Band { south, north } => are_limits(south, north),
         Gate::Anywhere => true,
     }
@@ -136,29 +124,21 @@ fn is_sound(gate: Gate) -> bool
 fn is_beyond(most: f64, x: f64) -> bool
     ensures { result ≡ beyond most x }
 {
-    if x < -most {
-        return true;
-    }
-    most < x
+    x < -most || most < x
 }
 
+#[tactic(auto, using(crate::proofs::Constants::ninety, crate::proofs::Constants::half_turn))]
 fn is_out_of_range(position: Position) -> bool
     ensures { result ≡ out_of_range position }
 {
-    if is_beyond(MOST_LATITUDE, position.lat.0) {
-        return true;
-    }
-    is_beyond(MOST_LONGITUDE, position.lon.0)
+    is_beyond(MOST_LATITUDE, position.lat.0) || is_beyond(MOST_LONGITUDE, position.lon.0)
 }
 
 // The limits are included.
 fn between(low: f64, high: f64, x: f64) -> bool
     ensures { result ≡ (le low x && le x high) }
 {
-    if low <= x {
-        return x <= high;
-    }
-    false
+    low <= x && x <= high
 }
 
 fn inside(gate: Gate, position: Position) -> bool
@@ -172,12 +152,7 @@ fn inside(gate: Gate, position: Position) -> bool
             north,
             west,
             east,
-        } => {
-            if between(south, north, lat) {
-                return between(west, east, lon);
-            }
-            false
-        }
+        } => between(south, north, lat) && between(west, east, lon),
         Gate::Band { south, north } => between(south, north, lat),
         Gate::Anywhere => true,
     }
@@ -198,30 +173,16 @@ fn exchanged(position: Position) -> Position
 fn is_box(gate: Gate) -> bool
     ensures { result ≡ is_box gate }
 {
-    match gate {
-        Gate::Box {
-            south: _,
-            north: _,
-            west: _,
-            east: _,
-        } => true,
-        Gate::Band { south: _, north: _ } => false,
-        Gate::Anywhere => false,
-    }
+    matches!(gate, Gate::Box { .. })
 }
 
 // Inside once the values are exchanged, as only a box can tell.
+#[tactic(auto, using(crate::proofs::Constants::ninety))]
 fn is_swapped(gate: Gate, position: Position) -> bool
     ensures { result ≡ swapped gate position }
 {
-    if !is_box(gate) {
-        return false;
-    }
     let other = exchanged(position);
-    if is_beyond(MOST_LATITUDE, other.lat.0) {
-        return false;
-    }
-    inside(gate, other)
+    is_box(gate) && !is_beyond(MOST_LATITUDE, other.lat.0) && inside(gate, other)
 }
 
 // The verdict on a position.
@@ -238,30 +199,24 @@ pub fn judge(gate: Gate, position: Position) -> Verdict
 }
 
 // A position that is out of range is refused before any exchange.
-fn place(gate: Gate, position: Position) -> Ruling
+fn place(gate: Gate, position: Position) -> Result<Verdict, GateRefusal>
     ensures { result ≡ placed gate position }
 {
     if is_out_of_range(position) {
-        return Ruling::Refused(OUT_OF_RANGE);
+        return Err(GateRefusal::OutOfRange);
     }
-    Ruling::Judged(judge(gate, position))
+    Ok(judge(gate, position))
 }
 
 // The gate is judged first, then both texts, then the position.
-pub fn rule(gate: Gate, lat: &[u8], lon: &[u8]) -> Ruling
+pub fn rule(gate: Gate, lat: &[u8], lon: &[u8]) -> Result<Verdict, GateRefusal>
     ensures { result ≡ ruling_of gate lat.now lon.now }
 {
     if !is_sound(gate) {
-        return Ruling::Refused(UNSOUND_GATE);
+        return Err(GateRefusal::UnsoundGate);
     }
-    let latitude = decimal::read_number(lat);
-    let Number::Value(x) = latitude else {
-        return Ruling::Refused(NO_NUMBER);
-    };
-    let longitude = decimal::read_number(lon);
-    let Number::Value(y) = longitude else {
-        return Ruling::Refused(NO_NUMBER);
-    };
+    let x = decimal::read_number(lat).ok_or(GateRefusal::NoNumber)?;
+    let y = decimal::read_number(lon).ok_or(GateRefusal::NoNumber)?;
     place(
         gate,
         Position {
@@ -281,16 +236,26 @@ fn number_of(verdict: Verdict) -> u32
     }
 }
 
-fn shown(ruling: Ruling) -> GateAnswer
+fn number_of_refusal(refusal: GateRefusal) -> u32
+    ensures { result ≡ refusal_number refusal }
+{
+    match refusal {
+        GateRefusal::UnsoundGate => UNSOUND_GATE,
+        GateRefusal::NoNumber => NO_NUMBER,
+        GateRefusal::OutOfRange => OUT_OF_RANGE,
+    }
+}
+
+fn shown(ruling: Result<Verdict, GateRefusal>) -> GateAnswer
     ensures { result ≡ shows ruling }
 {
     match ruling {
-        Ruling::Judged(verdict) => GateAnswer {
+        Ok(verdict) => GateAnswer {
             number: ANSWERED,
             verdict: number_of(verdict),
         },
-        Ruling::Refused(number) => GateAnswer {
-            number,
+        Err(refusal) => GateAnswer {
+            number: number_of_refusal(refusal),
             verdict: NO_VERDICT,
         },
     }
@@ -337,15 +302,14 @@ pub fn ixml_gate_anywhere(lat: &[u8], lon: &[u8]) -> GateAnswer
 pub fn ixml_number(text: &[u8]) -> NumberAnswer
     ensures { NumberRead text.now result }
 {
-    let number = decimal::read_number(text);
-    let Number::Value(value) = number else {
-        return NumberAnswer {
+    match decimal::read_number(text) {
+        Some(value) => NumberAnswer {
+            number: ANSWERED,
+            value,
+        },
+        None => NumberAnswer {
             number: NO_NUMBER,
             value: 0.0,
-        };
-    };
-    NumberAnswer {
-        number: ANSWERED,
-        value,
+        },
     }
 }

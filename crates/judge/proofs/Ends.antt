@@ -16,7 +16,7 @@ use Rattle.left_parse.proofs.Walks.{spot, list-head}
 use Rattle.left_parse.proofs.Scratch.{notes-of}
 use Rattle.left_parse.proofs.Notes.{begins, going-begin, going_end}
 use Rattle.judge.specs.Due.{Named, Due}
-use Rattle.judge.specs.Tracks.{none_open, Table, Tracks, Some, Walked, Given, Asked, Judged}
+use Rattle.judge.specs.Tracks.{none_open, Table, Tracks, SomeTracks, Walked, Given, Asked, Judged}
 use Rattle.judge.proofs.Due.{into-node, node-back, nothing-after, after_nothing}
 
 -- the rules of a grammar whose items stand in the table
@@ -62,7 +62,7 @@ module _ {T : List ℕ} {R : ℕ} {P : List ℕ} {r : Text} {a : ℕ} (ae : a �
               (node-back g r (root g) [] 0 (get_or P 0 0) [] (drop 1 P) u (after_nothing g r (alternative g (root g) (get_or P 0 0)) 0 (drop 1 P) d));
         }
 
-    pub some-begun : Asked T R P r S → Some T P r S (spot item 1 0 0)
+    pub some-begun : Asked T R P r S → SomeTracks T P r S (spot item 1 0 0)
     some-begun w = record { lent = w.lent; g = w.g; starts = w.given.items.starts; table = table_of w.given; tracks = begun w.g w.given }
 
     pub judged : {S' : List ℕ} {v : Bool} → Asked T R P r S → Walked T P r S S' (spot item 1 0 0) v → Judged T R P r S' v

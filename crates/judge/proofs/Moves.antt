@@ -22,7 +22,7 @@ use Rattle.left_parse.proofs.Items.{leaf-stands}
 use Rattle.left_parse.proofs.Walks.{spot, list-head, falls, falls-on, later}
 use Rattle.left_parse.proofs.Notes.{going-leaf, going-enter, going-leave}
 use Rattle.judge.specs.Due.{Named, Due}
-use Rattle.judge.specs.Tracks.{Open, afters, Opens, none_open, some-open, Table, Tracks, Some, Moved, Refuted}
+use Rattle.judge.specs.Tracks.{Open, afters, Opens, none_open, some-open, Table, Tracks, SomeTracks, Moved, Refuted}
 use Rattle.judge.proofs.Due.{at-end, end-at, out_of, out-back, over-leaf, leaf-back, into-node, node-back}
 use Rattle.judge.proofs.Tracks.{opens-set, opens-more, no-terminals, alternatives-at, token-here, Next, n-end, n-leaf, n-node, next_of, item_in}
 
@@ -32,7 +32,7 @@ fit r i {x = x} te says B st = says x (rw te (token-here B st))
 
 module _ {T P : List ℕ} {r : Text} {S : List ℕ} {h : Position} where
   -- 1. A terminal.
-  pub terminal-there : Some T P r S h → kind_at T h.item ≡ 1 → (token : ℕ) → token ≡ token_at T h.item → TerminalHere T token
+  pub terminal-there : SomeTracks T P r S h → kind_at T h.item ≡ 1 → (token : ℕ) → token ≡ token_at T h.item → TerminalHere T token
   terminal-there w k token e = go (next_of w.tracks.spells)
     where
       go : {ss : List Symbol} → Next T w.g w.starts h.item ss → TerminalHere T token
@@ -66,7 +66,7 @@ module _ {T P : List ℕ} {r : Text} {S : List ℕ} {h : Position} where
                 back = λ d. e (leaf-back g r x us h.place.0 (afters D.os) (drop h.entry P) t d);
               })
 
-      pub moved-leaf : Some T P r S h → b ≡ true → Moved T P r S S h n
+      pub moved-leaf : SomeTracks T P r S h → b ≡ true → Moved T P r S S h n
       moved-leaf w y = record {
         tracks = leaf-on y;
         goes = λ F e i G. rw K.spot (going-leaf G k K.w K.wide);
@@ -146,7 +146,7 @@ module _ {T P : List ℕ} {r : Text} {S : List ℕ} {h : Position} where
                       (node-back g r s us h.place.0 (get_or P h.entry 0) (afters D.os) (drop (h.entry + 1) P) u d));
                 })
 
-        pub moved-node : Some T P r S h → b ≡ true → Moved T P r S S' h n
+        pub moved-node : SomeTracks T P r S h → b ≡ true → Moved T P r S S' h n
         moved-node w y = record {
           tracks = λ g starts B D. node-on y g starts (item_in w) B D;
           goes = λ F e i G. rw (E.spot, E.scratch) (going-enter G k k₄ n.item E.found).1;
@@ -185,14 +185,14 @@ module _ {T P : List ℕ} {r : Text} {S : List ℕ} {h : Position} where
               back = λ d. e (out-back g r h.place.0 o.symbols (afters us) (drop h.entry P) d);
             })
 
-    lower : Some T P r S h → get_or S (2 * (h.inner - 1)) 0 < h.inner
+    lower : SomeTracks T P r S h → get_or S (2 * (h.inner - 1)) 0 < h.inner
     lower w = go w.tracks.opens
       where
         go : {os : List Open} → Opens T S w.g w.starts os h.inner → get_or S (2 * (h.inner - 1)) 0 < h.inner
         go (none_open z) = absurd (omega arith)
         go (some-open {o = o} z l a b i sp O) = let j : h.inner - 1 ≡ o.entry = omega arith in let ue : get_or S (2 * (h.inner - 1)) 0 ≡ o.link = rw j a in omega arith
 
-    pub moved-leave : Some T P r S h → Moved T P r S S' h n
+    pub moved-leave : SomeTracks T P r S h → Moved T P r S S' h n
     moved-leave w =
         let u = get_or S (2 * (h.inner - 1)) 0 in
         let p = get_or S (2 * (h.inner - 1) + 1) 0 in

@@ -18,7 +18,7 @@ use Rattle.items.specs.Items.{kind_at, target_at, token_at, Starts, Stands, st-t
 use Rattle.left_parse.specs.declared.Position.{Position}
 use Rattle.left_parse.specs.Steps.{Small, Enters, Leaves}
 use Rattle.left_parse.proofs.Items.{in_table, spells-kind}
-use Rattle.judge.specs.Tracks.{Open, Opens, none_open, some-open, Table, Some}
+use Rattle.judge.specs.Tracks.{Open, Opens, none_open, some-open, Table, SomeTracks}
 
 -- open nodes stay where they are while later entries are written
 pub opens-set : {T S : List ℕ} {g : Grammar} {starts : Starts} {os : List Open} {n : ℕ} → Opens T S g starts os n → (k v : ℕ) → 2 * n ≤ k
@@ -71,7 +71,7 @@ next_of {T} {g} {starts} (sp-item (st-name {p = p} {m = m} {n = n} k r a) sp) =
 next_of (sp-item (st-made q k r a) sp) = n-node (omega arith) (omega arith) (st-made q k r a) sp
 
 -- the numbers of a position are small
-module _ {T P : List ℕ} {r : Text} {S : List ℕ} {h : Position} (w : Some T P r S h) where
+module _ {T P : List ℕ} {r : Text} {S : List ℕ} {h : Position} (w : SomeTracks T P r S h) where
   pub item_in : h.item < length T
   item_in = in_table T h.item (spells-kind w.tracks.spells)
 

@@ -5,30 +5,29 @@ use mathlib.Core.List.{List}
 use Prim.Native.Nat.{ℕ, ◌<◌, ◌≤◌}
 use native.Mathlib.Omega.{arith}
 use lib.ListN.{length, set}
+use Rattle.std.specs.Prelude.{Option, Some, None}
 use Rattle.text.specs.Lists.{Text}
 use Rattle.tree.specs.Tree.{Grammar}
 use Rattle.items.specs.Items.{Starts}
 use Rattle.left_parse.specs.declared.Position.{Position}
 use Rattle.left_parse.specs.Walk.{Over}
 use Rattle.left_parse.specs.Steps.{Going}
-use Rattle.judge.specs.declared.Went.{Went}
-use Rattle.judge.specs.declared.Went.TheVariants.{On, Stuck}
 use Rattle.judge.specs.Due.{Named}
-use Rattle.judge.specs.Tracks.{Table, Tracks, Some, Moved, Refuted, Steps, Walked}
+use Rattle.judge.specs.Tracks.{Table, Tracks, SomeTracks, Moved, Refuted, Steps, Walked}
 use Rattle.judge.proofs.Moves.{over-named, over-list, over-record}
 
 -- what holds of every turn, from where the walk began
 pub record Turned (T P : List ℕ) (r : Text) (S₀ S : List ℕ) (h₀ h : Position) : Type 0 where
-  pub some : Some T P r S h
+  pub some : SomeTracks T P r S h
   pub long : length S ≡ length S₀
   pub tracks : (g : Grammar) (starts : Starts) → Table T g starts → Tracks T P r S₀ h₀ g starts → Tracks T P r S h g starts
   pub goes : (F : List ℕ) (e i : ℕ) → Going T P S₀ h₀ F e i → Going T P S h F e i
 
-pub turn-begin : {T P : List ℕ} {r : Text} {S : List ℕ} {h : Position} → Some T P r S h → Turned T P r S S h h
+pub turn-begin : {T P : List ℕ} {r : Text} {S : List ℕ} {h : Position} → SomeTracks T P r S h → Turned T P r S S h h
 turn-begin w = record { some = w; long = refl; tracks = λ g starts B D. D; goes = λ F e i G. G }
 
 module _ {T P : List ℕ} {r : Text} {S₀ S : List ℕ} {h₀ h : Position} (w : Turned T P r S₀ S h₀ h) where
-  pub turn_on : {S' : List ℕ} {v : Went} {n : Position} → Steps T P r S S' h v → v ≡ On n → length S' ≡ length S → Turned T P r S₀ S' h₀ n
+  pub turn_on : {S' : List ℕ} {v : Option Position} {n : Position} → Steps T P r S S' h v → v ≡ Some n → length S' ≡ length S → Turned T P r S₀ S' h₀ n
   turn_on {S'} {v} {n} s e l =
       let m : Moved T P r S S' h n = subst (Steps T P r S S' h) e s in
       let o = w.some in
@@ -45,7 +44,7 @@ module _ {T P : List ℕ} {r : Text} {S₀ S : List ℕ} {h₀ h : Position} (w 
         goes = λ F e i G. m.goes F e i (w.goes F e i G);
       }
 
-  pub turn-falls : {S' : List ℕ} {v : Went} {n : Position} → Steps T P r S S' h v → v ≡ On n → Moved T P r S S' h n
+  pub turn-falls : {S' : List ℕ} {v : Option Position} {n : Position} → Steps T P r S S' h v → v ≡ Some n → Moved T P r S S' h n
   turn-falls {S'} s e = subst (Steps T P r S S' h) e s
 
   -- a list that names nothing
@@ -60,7 +59,7 @@ module _ {T P : List ℕ} {r : Text} {S₀ S : List ℕ} {h₀ h : Position} (w 
       clash : b ≡ true → ⊥
       clash e = let f : true ≡ false = sym e ∙ y in let z : ◌≡◌ {A = ℕ} 0 1 = cc in omega arith
 
-  pub walked-stuck : {S' : List ℕ} {v : Went} → Steps T P r S S' h v → v ≡ Stuck → Walked T P r S₀ S' h₀ false
+  pub walked-stuck : {S' : List ℕ} {v : Option Position} → Steps T P r S S' h v → v ≡ None → Walked T P r S₀ S' h₀ false
   walked-stuck {S'} s e = let f : Refuted T P r S h = subst (Steps T P r S S' h) e s in named_none refl f.no
 
   pub walked-list : Over T h → h.entry < length P → Walked T P r S₀ S h₀ false

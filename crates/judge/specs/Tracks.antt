@@ -1,6 +1,6 @@
 -- A walk over a list that may be no left parse: where it stands, what is due, and what its steps promise.
-use Rattle.std.specs.Prelude.{◌≡◌, Bool, true, false, ℕ, ◌+◌, ◌*◌, ◌<◌, ◌≤◌, length, get_or, set, drop}
-use mathlib.Core.List.{List, [], ◌∷◌, ◌++◌, Memᴰ as In}
+use Rattle.std.specs.Prelude.{◌≡◌, Bool, true, false, ℕ, ◌+◌, ◌*◌, ◌<◌, ◌≤◌, length, get_or, set, drop, Option, Some, None}
+use mathlib.Core.List.{List, [], ◌∷◌, Memᴰ as In}
 use Rattle.text.specs.Limits.{grammar_table, record_chars}
 use Rattle.text.specs.Lists.{Text}
 use Rattle.tree.specs.Tree.{Terminal, Symbol, Grammar}
@@ -14,8 +14,6 @@ use Rattle.left_parse.specs.Walk.{weight, Over}
 use Rattle.left_parse.specs.Steps.{Going}
 use Rattle.left_parse.specs.declared.Position.{Position}
 use Rattle.judge.specs.Due.{Named, Due}
-use Rattle.judge.specs.declared.Went.{Went}
-use Rattle.judge.specs.declared.Went.TheVariants.{On, Stuck}
 
 -- an open node: its entry, the number that was open before it, its item, and the symbols after it
 pub record Open : Type 0 where
@@ -58,7 +56,7 @@ pub record Lent (T P : List ℕ) (r : Text) (S : List ℕ) : Type 0 where
   pub short : length r ≤ record_chars
   pub room : 2 * length P ≤ length S
 
-pub record Some (T P : List ℕ) (r : Text) (S : List ℕ) (h : Position) : Type 0 where
+pub record SomeTracks (T P : List ℕ) (r : Text) (S : List ℕ) (h : Position) : Type 0 where
   pub lent : Lent T P r S
   pub g : Grammar
   pub starts : Starts
@@ -75,9 +73,9 @@ pub record Moved (T P : List ℕ) (r : Text) (S S' : List ℕ) (h n : Position) 
 pub record Refuted (T P : List ℕ) (r : Text) (S : List ℕ) (h : Position) : Type 0 where
   pub no : (g : Grammar) (starts : Starts) → Table T g starts → Tracks T P r S h g starts → Named P g r → ⊥
 
-abbrev pub Steps : (T P : List ℕ) (r : Text) (S S' : List ℕ) → Position → Went → Type 0
-Steps T P r S S' h (On n) = Moved T P r S S' h n
-Steps T P r S S' h Stuck = Refuted T P r S h
+abbrev pub Steps : (T P : List ℕ) (r : Text) (S S' : List ℕ) → Position → Option Position → Type 0
+Steps T P r S S' h (Some n) = Moved T P r S S' h n
+Steps T P r S S' h None = Refuted T P r S h
 
 -- all steps together: whether the list names a derivation, and then all is noted but for the first entry
 pub record Ended (T P S S' : List ℕ) (h : Position) (F : List ℕ) (e i : ℕ) : Type 0 where

@@ -4,7 +4,7 @@
 ghost use Rattle.std.specs.Prelude.{◌≡◌, ℕ, ◌+◌, ◌*◌, ◌<◌, ◌≤◌, length};
 ghost use Rattle.items.specs.Items.{kind_at};
 ghost use Rattle.left_parse.specs.Walk.{Over};
-ghost use Rattle.judge.specs.Tracks.{Some, Steps, Walked, Asked, Judged};
+ghost use Rattle.judge.specs.Tracks.{SomeTracks, Steps, Walked, Asked, Judged};
 
 use left_parse::Position;
 use text::CharPlace;
@@ -17,43 +17,54 @@ const ALTERNATIVE_END: usize = items::ALTERNATIVE_END as usize;
 // What is noted of an entry: two numbers, the second its place.
 const NOTE_PLACE: usize = 1;
 
-// A step: on to a position, or none.
-#[derive(Clone, Copy)]
-pub enum Went {
-    On(Position),
-    Stuck,
-}
-
-// Over a terminal that fits.
-fn on_terminal(table: &[u32], list: &[u32], record: &[u32], scratch: &[u64], h: Position) -> Went
-    requires { (kind_at table.now h.item ≡ 1) × Some table.now list.now «record».now scratch.now h }
+// A step over a terminal that fits: where the walk stands then; nothing, if the list names no derivation.
+fn on_terminal(
+    table: &[u32],
+    list: &[u32],
+    record: &[u32],
+    scratch: &[u64],
+    h: Position,
+) -> Option<Position>
+    requires { (kind_at table.now h.item ≡ 1) × SomeTracks table.now list.now «record».now scratch.now h }
     ensures { Steps table.now list.now «record».now scratch.now scratch.now h result }
 {
     let token = items::token_at(table, h.item);
     let place = h.place;
     if terminals::terminal_fits(table, token, record, place) {
-        return Went::On(left_parse::skip(table, h));
+        return Some(left_parse::skip(table, h));
     }
-    Went::Stuck
+    None
 }
 
-// Into a node, by the alternative that the list has next.
-fn on_node(table: &[u32], list: &[u32], record: &[u32], scratch: &mut [u64], h: Position) -> Went
-    requires { (2 ≤ kind_at table.now h.item) × (kind_at table.now h.item ≤ 4) × Some table.now list.now «record».now scratch.old h }
+// A step into a node, by the alternative that the list has next.
+fn on_node(
+    table: &[u32],
+    list: &[u32],
+    record: &[u32],
+    scratch: &mut [u64],
+    h: Position,
+) -> Option<Position>
+    requires { (2 ≤ kind_at table.now h.item) × (kind_at table.now h.item ≤ 4) × SomeTracks table.now list.now «record».now scratch.old h }
     ensures { Steps table.now list.now «record».now scratch.old scratch.new h result }
 {
     if h.entry < list.len() {
         let a = tokens::look(list, h.entry);
         let x = items::target_at(table, h.item);
         if left_parse::has_alternative(table, x, a) {
-            return Went::On(left_parse::enter(table, list, scratch, h));
+            return Some(left_parse::enter(table, list, scratch, h));
         }
     }
-    Went::Stuck
+    None
 }
 
-fn step(table: &[u32], list: &[u32], record: &[u32], scratch: &mut [u64], h: Position) -> Went
-    requires { (Over table.now h → ⊥) × Some table.now list.now «record».now scratch.old h }
+fn step(
+    table: &[u32],
+    list: &[u32],
+    record: &[u32],
+    scratch: &mut [u64],
+    h: Position,
+) -> Option<Position>
+    requires { (Over table.now h → ⊥) × SomeTracks table.now list.now «record».now scratch.old h }
     ensures { Steps table.now list.now «record».now scratch.old scratch.new h result }
 {
     let k = items::kind_at(table, h.item);
@@ -63,18 +74,17 @@ fn step(table: &[u32], list: &[u32], record: &[u32], scratch: &mut [u64], h: Pos
     if k < ALTERNATIVE_END {
         return on_node(table, list, record, scratch, h);
     }
-    Went::On(left_parse::leave(scratch, h))
+    Some(left_parse::leave(scratch, h))
 }
 
 // From the first entry's children on: whether list and record are used up.
 fn walk(table: &[u32], list: &[u32], record: &[u32], scratch: &mut [u64], first: Position) -> bool
-    requires { (1 ≤ length list.now) × Some table.now list.now «record».now scratch.old first }
+    requires { (1 ≤ length list.now) × SomeTracks table.now list.now «record».now scratch.old first }
     ensures { Walked table.now list.now «record».now scratch.old scratch.new first result }
 {
     let mut h = first;
     while left_parse::more(table, h) {
-        let went = step(table, list, record, scratch, h);
-        let Went::On(n) = went else {
+        let Some(n) = step(table, list, record, scratch, h) else {
             return false;
         };
         h = n;

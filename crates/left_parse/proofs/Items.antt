@@ -1,8 +1,8 @@
 -- What an item's kind tells of its symbol, and what a token's numbers are.
 use mathlib.Core.Path.{◌≡◌, refl, sym, ap, ◌∙◌}
-use mathlib.Core.Logic.{◌⊎◌, ⊎_elim}
+use mathlib.Core.Logic.{⊎_elim}
 use mathlib.Core.List.{List, [], ◌∷◌, ◌++◌}
-use Prim.Native.Nat.{ℕ, suc, ◌+◌, ◌-◌, ◌*◌, ◌<◌, ◌≤◌}
+use Prim.Native.Nat.{ℕ, suc, ◌+◌, ◌*◌, ◌<◌, ◌≤◌}
 use native.Mathlib.Omega.{arith}
 use lib.Dec.{T as Holds}
 use lib.ListN.{length, get_or, take, drop, length-drop, length-take, get_or-eq_default}
@@ -129,20 +129,16 @@ pub record Rest (T : List ℕ) (g : Grammar) (starts : Starts) (x a : ℕ) (ss :
   pub same : get_or left a [] ≡ ss
 
 module _ {T : List ℕ} {g : Grammar} {starts : Starts} where
-  pub rest-on : {x a : ℕ} {ss : List Symbol} → Rest T g starts x a ss → 0 < a → (e : ℕ)
-      → ((ts : List Symbol) → Spells T g starts x ts → e ≡ x + length ts) → (kind_at T e ≡ 5) × Rest T g starts (e + 1) (a - 1) ss
-  rest-on {x} {a} {ss} R h e f = go R.stands R.number R.same
+  pub rest-on : {x a b : ℕ} {ss : List Symbol} → Rest T g starts x a ss → suc b ≡ a → (e : ℕ)
+      → ((ts : List Symbol) → Spells T g starts x ts → e ≡ x + length ts) → (kind_at T e ≡ 5) × Rest T g starts (e + 1) b ss
+  rest-on {x} {a} {b} {ss} R h e f = go R.stands R.number R.same
     where
-      back : (a : ℕ) → 0 < a → suc (a - 1) ≡ a
-      back a h = omega arith
-
-      go : {left : List (List Symbol)} → Alternatives T g starts x left → a < length left → get_or left a [] ≡ ss → (kind_at T e ≡ 5) × Rest T g starts (e + 1) (a - 1) ss
+      go : {left : List (List Symbol)} → Alternatives T g starts x left → a < length left → get_or left a [] ≡ ss → (kind_at T e ≡ 5) × Rest T g starts (e + 1) b ss
       go (al-last sp k) n q = absurd (omega arith)
       go (al-more {ss = us} {ts = ts} sp k al) n q =
           let p = f us sp in
-          let b = back a h in
           let z : x + (length us + 1) ≡ e + 1 = omega arith in
-          (rw p k, record { left = ts; stands = rw z at al; number = omega arith; same = rw (← b) at q })
+          (rw p k, record { left = ts; stands = rw z at al; number = omega arith; same = rw (← h) at q })
 
   pub rest_end : {x : ℕ} {ss : List Symbol} → Rest T g starts x 0 ss → Spells T g starts x ss
   rest_end {x} {ss} R = go R.stands R.same
@@ -158,13 +154,13 @@ pub record Counting (T : List ℕ) (g : Grammar) (starts : Starts) (number x a t
   pub sum : a + total ≡ number + length left
 
 module _ {T : List ℕ} {g : Grammar} {starts : Starts} where
-  pub counting-on : {number x a total : ℕ} → Counting T g starts number x a total → 0 < a → (e : ℕ)
+  pub counting-on : {number x a b total : ℕ} → Counting T g starts number x a total → suc b ≡ a → (e : ℕ)
       → ((ts : List Symbol) → Spells T g starts x ts → e ≡ x + length ts)
-      → (kind_at T e ≡ 5 → Counting T g starts number (e + 1) (a - 1) total) × ((kind_at T e ≡ 5 → ⊥) → total ≤ number)
-  counting-on {number} {x} {a} {total} C h e f = go C.stands C.sum
+      → (kind_at T e ≡ 5 → Counting T g starts number (e + 1) b total) × ((kind_at T e ≡ 5 → ⊥) → total ≤ number)
+  counting-on {number} {x} {a} {b} {total} C h e f = go C.stands C.sum
     where
       go : {left : List (List Symbol)} → Alternatives T g starts x left → a + total ≡ number + length left
-          → (kind_at T e ≡ 5 → Counting T g starts number (e + 1) (a - 1) total) × ((kind_at T e ≡ 5 → ⊥) → total ≤ number)
+          → (kind_at T e ≡ 5 → Counting T g starts number (e + 1) b total) × ((kind_at T e ≡ 5 → ⊥) → total ≤ number)
       go (al-last {ss = us} sp k) q = let p = f us sp in let k' : kind_at T e ≡ 6 = rw p k in (λ z. absurd (omega arith), λ z. omega arith)
       go (al-more {ss = us} {ts = ts} sp k al) q =
           let p = f us sp in

@@ -1,5 +1,5 @@
 -- What is noted of each entry of a left parse, in two numbers: the entry after its subtree, and the place where its stretch ends.
-use Rattle.std.specs.Prelude.{◌≡◌, List, [], ◌∷◌, ◌++◌, ℕ, ◌+◌, ◌*◌, ◌<◌, ◌≤◌, length, get_or}
+use Rattle.std.specs.Prelude.{◌≡◌, List, ℕ, ◌+◌, ◌*◌, ◌<◌, ◌≤◌, length, get_or}
 use Rattle.text.specs.Lists.{Text}
 use Rattle.tree.specs.Tree.{Grammar}
 use Rattle.derive.specs.Derive.{Row, end, leaf, node, left_parse, Derivation}

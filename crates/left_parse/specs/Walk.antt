@@ -2,10 +2,9 @@
 use Rattle.std.specs.Prelude.{◌≡◌, List, [], ◌∷◌, ◌++◌, ℕ, ◌+◌, ◌-◌, ◌*◌, ◌<◌, ◌≤◌, length, get_or, set, drop}
 use Rattle.text.specs.Lists.{Text}
 use Rattle.tree.specs.Tree.{Symbol, Grammar}
-use Rattle.tree.specs.Tokens.{terminal_tokens}
-use Rattle.plain.specs.Plain.{alts, width}
+use Rattle.plain.specs.Plain.{alts}
 use Rattle.derive.specs.Derive.{Row, left_parse, Derives}
-use Rattle.items.specs.Items.{Starts, Among, Stands, Spells, Alternatives, Reads, kind_at, target_at, token_at}
+use Rattle.items.specs.Items.{Starts, Among, Stands, Spells, Alternatives, kind_at}
 use Rattle.left_parse.specs.Noted.{Noted}
 use Rattle.left_parse.specs.declared.Position.{Position}
 

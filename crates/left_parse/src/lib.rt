@@ -1,7 +1,7 @@
 // The way through a left parse, and what is noted of its entries: no recursion, and two numbers for each entry.
 #![tactic(auto)]
 
-ghost use Rattle.std.specs.Prelude.{◌≡◌, Bool, true, false, List, ℕ, ◌+◌, ◌*◌, ◌<◌, ◌≤◌, length, get_or};
+ghost use Rattle.std.specs.Prelude.{◌≡◌, Bool, true, false, List, ℕ, ◌+◌, ◌*◌, ◌<◌, ◌≤◌, length, get_or, is_some, IfSome};
 ghost use Rattle.text.specs.Lists.{Text};
 ghost use Rattle.tree.specs.Tree.{Grammar};
 ghost use Rattle.derive.specs.Derive.{Row};
@@ -49,10 +49,7 @@ fn symbolic(table: &[u32], item: usize) -> bool
     ensures { Symbolic table.now item result }
 {
     let k = items::kind_at(table, item);
-    if k == 0 {
-        return false;
-    }
-    k < ALTERNATIVE_END
+    0 < k && k < ALTERNATIVE_END
 }
 
 // The end of the alternative that goes on from the item.
@@ -66,50 +63,33 @@ fn pass(table: &[u32], item: usize) -> usize
     p
 }
 
-// An alternative of a rule: its first item, and whether there is one of that number.
-#[derive(Clone, Copy)]
-struct Sought {
-    item: usize,
-    there: bool,
-}
-
-// The alternative of that number of the rule whose first item is `first`.
-fn find_alternative(table: &[u32], first: usize, number: usize) -> Sought
-    ensures { Found table.now first number result.item × Counted table.now first number result.there }
+// The first item of the alternative of that number of the rule whose first item is `first`, if there is one.
+fn find_alternative(table: &[u32], first: usize, number: usize) -> Option<usize>
+    ensures { IfSome result (Found table.now first number) × Counted table.now first number (is_some result) }
 {
     let mut x = first;
-    let mut a = number;
-    while a > 0 {
+    for _ in 0..number {
         let e = pass(table, x);
         if items::kind_at(table, e) != ALTERNATIVE_END {
-            return Sought {
-                item: e,
-                there: false,
-            };
+            return None;
         }
         x = e + 1;
-        a -= 1;
     }
-    Sought {
-        item: x,
-        there: true,
-    }
+    Some(x)
 }
 
-// The first item of an alternative, by its number, of the rule whose first item is `first`.
+// The first item of an alternative, by its number, of the rule whose first item is `first`; of one that is not there any number.
 pub fn alternative(table: &[u32], first: usize, number: usize) -> usize
     ensures { Found table.now first number result }
 {
-    let found = find_alternative(table, first, number);
-    found.item
+    find_alternative(table, first, number).unwrap_or(0)
 }
 
 // Whether the rule whose first item is `first` has an alternative of that number.
 pub fn has_alternative(table: &[u32], first: usize, number: usize) -> bool
     ensures { Counted table.now first number result }
 {
-    let found = find_alternative(table, first, number);
-    found.there
+    find_alternative(table, first, number).is_some()
 }
 
 // Into a node: its two numbers are the number that was open before it and its item, until it is left.
@@ -202,10 +182,7 @@ pub fn inside(table: &[u32], parse: &[u32], h: Position) -> Position
 pub fn more(table: &[u32], h: Position) -> bool
     ensures { (result ≡ true → Over table.now h → ⊥) × (result ≡ false → Over table.now h) }
 {
-    if items::kind_at(table, h.item) < ALTERNATIVE_END {
-        return true;
-    }
-    h.inner > 0
+    items::kind_at(table, h.item) < ALTERNATIVE_END || 0 < h.inner
 }
 
 fn step(table: &[u32], parse: &[u32], scratch: &mut [u64], h: Position) -> Position

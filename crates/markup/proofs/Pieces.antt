@@ -19,7 +19,7 @@ use Rattle.markup.specs.declared.Piece.{Piece}
 use Rattle.markup.specs.declared.Source.TheVariants.{Table, Record}
 use Rattle.left_parse.specs.Steps.{Wide, Named}
 use Rattle.markup.specs.Pieces.{Says, Pieced}
-use Rattle.encode.proofs.Texts.{spelt-capped}
+use Rattle.encode.proofs.Texts.{escape-capped}
 
 -- a list begins a part of another
 begin : (m : ℕ) (l xs ys : List ℕ) → take m l ≡ xs ++ ys → take (length xs) l ≡ xs
@@ -89,7 +89,7 @@ module _ (T : List ℕ) (token place : ℕ) where
           let N : Named T token 29 cs = record { more = R.more; stands = R.stands ∙ ap (λ (t : Text). 29 ∷ length cs ∷ (t ++ R.more)) (append-nil cs) } in
           let c : n ≡ length cs = ne ∙ named_count N in
           let t : take n (drop (token + 2) T) ≡ cs = ap (λ (k : ℕ). take k (drop (token + 2) T)) c ∙ named-text N in
-          record { same = λ mode h. rw t; tests = λ f h. rw t; none = λ z. none_of cs (sym c ∙ z); some = λ z. some_of cs n (sym c) z }
+          record { same = λ v. rw t; tests = λ f h. rw t; none = λ z. none_of cs (sym c ∙ z); some = λ z. some_of cs n (sym c) z }
 
   -- an inserted character
   pub pieced-coded : get_or T token 0 ≡ 30 → Pieced T token place (inserted (token + 1) 1)
@@ -104,7 +104,7 @@ module _ (T : List ℕ) (token place : ℕ) where
       go (insertion (string cs)) r R f = absurd (omega (arith, reads_first T token (insertion (string cs)) R))
       go (insertion (hex k)) r R f =
           let t : take 1 (drop (token + 1) T) ≡ capped k ∷ [] = token-text T (token + 1) (capped k ∷ []) R.more (tokens-in T token 30 (capped k ∷ R.more) R.stands).2 in
-          record { same = λ mode h. rw t (spelt-capped mode k h); tests = λ f h. rw t (ap (λ (b : Bool). b || false) (h k)); none = λ z. absurd (omega arith); some = λ z. omega arith }
+          record { same = λ v. rw t (escape-capped v k); tests = λ f h. rw t (ap (λ (b : Bool). b || false) (h k)); none = λ z. absurd (omega arith); some = λ z. omega arith }
 
   -- deleted
   pub pieced-deleted : (get_or T token 0 ≡ 29 → ⊥) → (get_or T token 0 ≡ 30 → ⊥) → get_or T token 0 % 4 ≡ 3 → Pieced T token place (taken place 0)
@@ -112,13 +112,15 @@ module _ (T : List ℕ) (token place : ℕ) where
   pieced-deleted a b e = record { says = go }
     where
       none : (r t : Text) → t ≡ [] → Says T r (taken place 0) t
-      none r t z = record { same = λ mode h. rw z; tests = λ f h. rw z; none = λ _. z; some = λ h. absurd (h refl) }
+      none r t z = record { same = λ v. rw z; tests = λ f h. rw z; none = λ _. z; some = λ h. absurd (h refl) }
 
       go : (x : Terminal) (r : Text) → Reads T token (terminal_tokens x) → Holds (fits x (drop place r)) → Says T r (taken place 0) (terminal_text x (stretch r place (place + width x)))
       go (literal m (string cs)) r R f =
           none r (terminal_text (literal m (string cs)) (stretch r place (place + length cs)))
           (rw (mark-deleted m 4 (rw (reads_first T token (literal m (string cs)) R) at e) (omega arith)))
-      go (literal m (hex k)) r R f = none r (terminal_text (literal m (hex k)) (stretch r place (place + 1))) (rw (mark-deleted m 8 (rw (reads_first T token (literal m (hex k)) R) at e) (omega arith)))
+      go (literal m (hex k)) r R f =
+          none r (terminal_text (literal m (hex k)) (stretch r place (place + 1)))
+          (rw (mark-deleted m 8 (rw (reads_first T token (literal m (hex k)) R) at e) (omega arith)))
       go (inclusion m ms) r R f = none r (terminal_text (inclusion m ms) (stretch r place (place + 1))) (rw (mark-deleted m 12 (rw (reads_first T token (inclusion m ms) R) at e) (omega arith)))
       go (exclusion m ms) r R f = none r (terminal_text (exclusion m ms) (stretch r place (place + 1))) (rw (mark-deleted m 16 (rw (reads_first T token (exclusion m ms) R) at e) (omega arith)))
       go (insertion (string cs)) r R f = absurd (a (reads_first T token (insertion (string cs)) R))
@@ -155,7 +157,7 @@ module _ (T : List ℕ) (token place : ℕ) where
           let z : place + width x - place ≡ w = omega arith in
           let s : t ≡ take w (drop place r) = te ∙ ap (λ (k : ℕ). take k (drop place r)) z in
           record {
-            same = λ mode h. rw s;
+            same = λ v. rw s;
             tests = λ f h. rw s;
             none = λ n. s ∙ ap (λ (k : ℕ). take k (drop place r)) n;
             some = λ n. rw s (one-of (drop place r) w (fits-some x (drop place r) f (λ q. n (we ∙ q))) n);

@@ -1,13 +1,14 @@
 -- What is read of tokens.
-use Rattle.std.specs.Prelude.{◌≡◌, Bool, List, [], ◌∷◌, ◌++◌, ℕ, ◌+◌, ◌<◌, T as Holds, length, take, drop}
+use Rattle.std.specs.Prelude.{◌≡◌, Bool, List, [], ℕ, ◌+◌, ◌<◌, T as Holds, length, take, drop}
 use Rattle.text.specs.Lists.{Text, any, concat_map}
 use Rattle.tree.specs.Tree.{Terminal, Grammar}
 use Rattle.tree.specs.Tokens.{terminal_tokens, grammar_tokens, capped, mark_number}
 use Rattle.plain.specs.Plain.{fits, width}
+use Rattle.xml.specs.Bytes.{escape}
 use Rattle.items.specs.Items.{Reads}
 use Rattle.xml.specs.Document.{terminal_text, stretch}
 use Rattle.left_parse.specs.Steps.{Named}
-use Rattle.encode.specs.Out.{enc, spelt}
+use Rattle.encode.specs.Out.{enc}
 use Rattle.markup.specs.declared.Piece.{Piece}
 use Rattle.markup.specs.declared.Source.{Source}
 use Rattle.markup.specs.declared.Source.TheVariants.{Table, Record}
@@ -23,7 +24,7 @@ said T r p = take p.count (sourced T r p.from)
 
 -- they are written as the text is, and a test that takes every number above 10FFFF for 110000 finds the same in both
 pub record Says (T : List ℕ) (r : Text) (p : Piece) (t : Text) : Type 0 where
-  pub same : (mode : ℕ) → (mode ≡ 0 → ⊥) → enc (concat_map (spelt mode) (said T r p)) ≡ enc (concat_map (spelt mode) t)
+  pub same : (v : Bool) → enc (concat_map (escape v) (said T r p)) ≡ enc (concat_map (escape v) t)
   pub tests : (f : ℕ → Bool) → ((c : ℕ) → f (capped c) ≡ f c) → any f (said T r p) ≡ any f t
   pub none : p.count ≡ 0 → t ≡ []
   pub some : (p.count ≡ 0 → ⊥) → 0 < length t

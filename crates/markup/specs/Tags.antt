@@ -1,5 +1,5 @@
 -- The parts of tags, and the state.
-use Rattle.std.specs.Prelude.{Bool, true, false, List, [], ◌∷◌, ◌++◌}
+use Rattle.std.specs.Prelude.{Bool, true, false, [], ◌++◌}
 use Rattle.text.specs.Lists.{Text, chars}
 use Rattle.xml.specs.Bytes.{state}
 use Rattle.markup.specs.declared.StateWords.{StateWords}

@@ -10,6 +10,7 @@ ghost use Rattle.encode.specs.Out.{enc, Wrote, spelt};
 ghost use Rattle.markup.specs.Pieces.{said, Pieced, Headed};
 ghost use Rattle.markup.specs.Tags.{closing, lead_of, end_of, state_of, no_words};
 
+use encode::Spelling;
 use text::{BytePlace, CharPlace};
 
 // Kinds of tokens, as numbers that are looked up.
@@ -24,6 +25,15 @@ const MARKS: usize = tokens::MARKS as usize;
 const DELETED: usize = tokens::DELETED as usize;
 
 // The name that a token holds.
+pub fn name_of(table: &[u32], token: usize) -> &[u32]
+    requires { token < 4294967298 }
+    ensures { (k : ℕ) (n : Text) → Named table.now token k n → result.now ≡ n }
+{
+    let count = tokens::look(table, token + tokens::COUNT);
+    encode::stretch(table, token + tokens::CHARS, count)
+}
+
+// It is written as it stands.
 pub fn put_name(
     out: &mut [u8],
     limit: BytePlace,
@@ -34,16 +44,7 @@ pub fn put_name(
     requires { (limit.0 ≤ length out.old) × (token < 4294967298) }
     ensures { (k : ℕ) (n : Text) → Named table.now token k n → Wrote limit.0 pos.0 out.old result.0 out.new n }
 {
-    let n = tokens::look(table, token + tokens::COUNT);
-    encode::put_text(
-        out,
-        limit,
-        pos,
-        encode::PLAIN,
-        table,
-        token + tokens::CHARS,
-        n,
-    )
+    encode::put_text(out, limit, pos, Spelling::Plain, name_of(table, token))
 }
 
 // Where text stands: at a cell of the table, if it is inserted, or at a place in the record.
@@ -82,23 +83,30 @@ pub fn piece_of(table: &[u32], token: usize, place: CharPlace) -> Piece
     Piece { from, count }
 }
 
+// Its characters.
+pub fn said<'a>(table: &'a [u32], record: &'a [u32], p: Piece) -> &'a [u32]
+    ensures { result.now ≡ said table.now «record».now p }
+{
+    let from = p.from;
+    match from {
+        Source::Table(cell) => encode::stretch(table, cell, p.count),
+        Source::Record(place) => encode::stretch(record, place.0, p.count),
+    }
+}
+
 pub fn put_piece(
     out: &mut [u8],
     limit: BytePlace,
     pos: BytePlace,
-    mode: usize,
+    spelling: Spelling,
     table: &[u32],
     record: &[u32],
     p: Piece,
 ) -> BytePlace
     requires { limit.0 ≤ length out.old }
-    ensures { Wrote limit.0 pos.0 out.old result.0 out.new (concat_map (spelt mode) (said table.now «record».now p)) }
+    ensures { Wrote limit.0 pos.0 out.old result.0 out.new (concat_map (spelt spelling) (said table.now «record».now p)) }
 {
-    let from = p.from;
-    match from {
-        Source::Table(cell) => encode::put_text(out, limit, pos, mode, table, cell, p.count),
-        Source::Record(place) => encode::put_text(out, limit, pos, mode, record, place.0, p.count),
-    }
+    encode::put_text(out, limit, pos, spelling, said(table, record, p))
 }
 
 // The words of a state.

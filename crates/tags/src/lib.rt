@@ -10,6 +10,7 @@ ghost use Rattle.markup.specs.Pieces.{Says};
 ghost use Rattle.markup.specs.Tags.{closing, lead_of, end_of, state_of, no_words};
 ghost use Rattle.tags.specs.Stated.{turned};
 
+use encode::Spelling;
 use markup::{Piece, StateWords};
 use text::BytePlace;
 
@@ -39,7 +40,7 @@ pub fn put_quoted(
         → Wrote limit.0 pos.0 out.old result.0 out.new (pick quoted (concat_map (escape true) t) (chars "")) }
 {
     if quoted {
-        return markup::put_piece(out, limit, pos, encode::IN_VALUE, table, record, p);
+        return markup::put_piece(out, limit, pos, Spelling::InValue, table, record, p);
     }
     pos
 }
@@ -108,7 +109,7 @@ pub fn put_text(table: &[u32], record: &[u32], out: &mut [u8], o: Output, p: Pie
     let due = o.due;
     let q = o.pos;
     let q = markup::put_lead(out, limit, q, o.unclosed);
-    let pos = markup::put_piece(out, limit, q, encode::IN_CONTENT, table, record, p);
+    let pos = markup::put_piece(out, limit, q, Spelling::InContent, table, record, p);
     Output {
         limit,
         pos,

@@ -6,7 +6,7 @@ use Prim.Native.Nat.{ℕ, zero, suc, ◌+◌, ◌*◌, ◌/◌, ◌%◌, ◌<◌
 use native.Mathlib.Nat.{div-div-eq-div-mul}
 use native.Mathlib.Omega.{arith}
 use lib.Dec.{eqb}
-use lib.ListN.{take}
+use lib.ListN.{length, take}
 use borrow.Author.Tests.{eq-eqb, ne_eqb, lt-ltb, le-ltb}
 use Rattle.text.specs.Lists.{Text, chars, pick, concat_map}
 use Rattle.text.specs.Utf8.{utf8}
@@ -119,15 +119,12 @@ module _ (c : ℕ) where
   pub in-quotes-other : (c ≡ 0x22 → ⊥) → quoted_char c ≡ c ∷ []
   in-quotes-other f = rw (ne_eqb c 0x22 f)
 
--- a quote, characters until none is left, a quote
-pub quotes-around : (l p₂ : ℕ) (o₂ : List ℕ) {p p₁ p₃ : ℕ} {o o₁ o₃ : List ℕ} (cs ds : Text) (n : ℕ) → n ≤ 0 → state p₁ o₁ ≡ puts l (state p o) (0x22 ∷ [])
-    → puts l (state p₂ o₂) (enc (concat_map quoted_char (take n ds))) ≡ puts l (state p₁ o₁) (enc (concat_map quoted_char cs))
-    → state p₃ o₃ ≡ puts l (state p₂ o₂) (0x22 ∷ []) → Wrote l p o p₃ o₃ (quoted_text cs)
-quotes-around l p₂ o₂ cs ds n h a e b =
-    let z : n ≡ 0 = omega arith in
+-- a quote, all characters, a quote
+pub quotes-around : {l p p₁ p₂ p₃ : ℕ} {o o₁ o₂ o₃ : List ℕ} (cs : Text) (i : ℕ) → length cs ≤ i → state p₁ o₁ ≡ puts l (state p o) (0x22 ∷ [])
+    → Wrote l p₁ o₁ p₂ o₂ (concat_map quoted_char (take i cs)) → state p₃ o₃ ≡ puts l (state p₂ o₂) (0x22 ∷ []) → Wrote l p o p₃ o₃ (quoted_text cs)
+quotes-around cs i h a w b =
     let quote = enc-low 0x22 (omega arith) in
-    and_then {ys = concat_map quoted_char cs ++ chars "\""} (wrote-bytes _ a quote)
-    (and_then {xs = concat_map quoted_char cs} (record { is = text-end l p₂ o₂ quoted_char (take n ds) (ap (λ (k : ℕ). take k ds) z) e }) (wrote-bytes _ b quote))
+    and_then {ys = concat_map quoted_char cs ++ chars "\""} (wrote-bytes _ a quote) (and_then (text-end quoted_char cs i h w) (wrote-bytes _ b quote))
 
 -- a hex number behind its sign
 pub after-hash : {l p p₁ p₂ : ℕ} {o o₁ o₂ : List ℕ} (n m : ℕ) → m ≡ capped n → state p₁ o₁ ≡ puts l (state p o) (0x23 ∷ [])

@@ -1,7 +1,7 @@
 // The parts of a token in the tidy text: signs, hex numbers, quoted text, put into a buffer up to a limit.
 #![tactic(auto)]
 
-ghost use Rattle.std.specs.Prelude.{◌≡◌, [], ◌∷◌, ◌+◌, ◌<◌, ◌≤◌, length, take, drop};
+ghost use Rattle.std.specs.Prelude.{◌≡◌, [], ◌∷◌, ◌<◌, ◌≤◌, length};
 ghost use Rattle.encode.specs.Out.{Wrote};
 ghost use Rattle.tidy.specs.Tidy.{quoted_char, quoted_text, lower_digit, hex_text};
 ghost use Rattle.tidy.specs.Numbers.{sign_by};
@@ -86,25 +86,14 @@ fn put_in_quotes(out: &mut [u8], limit: BytePlace, pos: BytePlace, c: usize) -> 
     encode::put_char(out, limit, pos, c)
 }
 
-// Characters that stand in a table, in double quotes.
-pub fn put_quoted(
-    out: &mut [u8],
-    limit: BytePlace,
-    pos: BytePlace,
-    t: &[u32],
-    from: usize,
-    count: usize,
-) -> BytePlace
-    requires { (limit.0 ≤ length out.old) × (from + count ≤ length t.now) }
-    ensures { Wrote limit.0 pos.0 out.old result.0 out.new (quoted_text (take count (drop from t.now))) }
+// A text in double quotes.
+pub fn put_quoted(out: &mut [u8], limit: BytePlace, pos: BytePlace, text: &[u32]) -> BytePlace
+    requires { limit.0 ≤ length out.old }
+    ensures { Wrote limit.0 pos.0 out.old result.0 out.new (quoted_text text.now) }
 {
     let mut q = encode::put(out, limit, pos, b'"');
-    let mut i = from;
-    let mut n = count;
-    while n > 0 {
-        q = put_in_quotes(out, limit, q, tokens::look(t, i));
-        i += 1;
-        n -= 1;
+    for c in text {
+        q = put_in_quotes(out, limit, q, *c as usize);
     }
     encode::put(out, limit, q, b'"')
 }

@@ -1,11 +1,11 @@
 -- All tokens of a grammar, and what tidying them answers.
-use Rattle.std.specs.Prelude.{◌≡◌, ◌⊎◌, List, [], ◌∷◌, ◌++◌, ℕ, ◌<◌, ◌≤◌, length, drop}
+use Rattle.std.specs.Prelude.{◌≡◌, ◌⊎◌, List, [], ◌∷◌, ◌++◌, ℕ, ◌<◌, ◌≤◌, length, drop, Result, Ok, Err}
 use Rattle.text.specs.Limits.{grammar_bytes}
-use Rattle.text.specs.Stages.{StageAnswer, answered, refused, number_of, Settles}
+use Rattle.text.specs.Stages.{StageAnswer, answered, refused, Settles}
 use Rattle.tree.specs.Tokens.{Token}
 use Rattle.tidy_writer.specs.Parts.{Fit}
-use Rattle.tidy_text.specs.declared.Tidied.{Tidied}
-use Rattle.tidy_text.specs.declared.Tidied.TheVariants.{Text, Refused}
+use Rattle.tidy_text.specs.declared.TidyError.{TidyError}
+use Rattle.tidy_text.specs.declared.TidyError.TheVariants.{TidyTooLong, ResultTooLong}
 
 -- the table tells all of each token
 abbrev pub AllFit : List Token → Type 0
@@ -13,12 +13,13 @@ AllFit [] = Unit {0}
 AllFit (t ∷ ts) = Fit t × AllFit ts
 
 -- document 01's number and values for each case
-abbrev pub stage_of : Tidied → StageAnswer ℕ ℕ
-stage_of (Text n) = answered n
-stage_of (Refused n) = refused n
+abbrev pub error_number : TidyError → ℕ
+error_number TidyTooLong = 28
+error_number ResultTooLong = 23
 
-abbrev pub tidied_number : Tidied → ℕ
-tidied_number t = number_of (stage_of t)
+abbrev pub stage_of : Result ℕ TidyError → StageAnswer ℕ ℕ
+stage_of (Ok n) = answered n
+stage_of (Err e) = refused (error_number e)
 
 -- the bytes fit
 pub record Written (bs old new : List ℕ) (n : ℕ) : Type 0 where
@@ -32,5 +33,5 @@ pub record NotWritten (bs old new : List ℕ) (n : ℕ) : Type 0 where
   pub why : ((n ≡ 28) × (grammar_bytes < length bs)) ⊎ ((n ≡ 23) × (length bs ≤ grammar_bytes) × (length old < length bs))
   pub buffer : new ≡ old
 
-abbrev pub Concludes : List ℕ → List ℕ → List ℕ → Tidied → Type 0
+abbrev pub Concludes : List ℕ → List ℕ → List ℕ → Result ℕ TidyError → Type 0
 Concludes bs old new t = Settles (Written bs old new) (NotWritten bs old new) (stage_of t)

@@ -9,11 +9,11 @@ ghost use Rattle.encode.specs.Out.{Wrote, enc};
 ghost use Rattle.tidy.specs.Scan.{kind_of, past, joint, before, begins, scan};
 ghost use Rattle.tidy.specs.Numbers.{kind_by, joint_by};
 ghost use Rattle.tidy_writer.specs.Walk.{SomeLeft};
-ghost use Rattle.tidy_text.specs.Whole.{AllFit, tidied_number, Concludes};
+ghost use Rattle.tidy_text.specs.Whole.{AllFit, error_number, Concludes};
 
 use text::{BytePlace, limits, refusals};
 
-// The tidy text has more bytes than a grammar may have.
+// The refusal of a tidy text that has more bytes than a grammar may have.
 pub const TIDY_TOO_LONG: u32 = 28;
 
 // What joins two factors, by the kind of the token behind the second.
@@ -123,25 +123,27 @@ pub fn put_grammar(out: &mut [u8], limit: BytePlace, t: &[u32], end: usize) -> B
     pos
 }
 
-// The count of the text's bytes, or the refusal.
+// Why there is no tidy text: it has more bytes than a grammar may have, or than the lent buffer.
 #[derive(Clone, Copy)]
-pub enum Tidied {
-    Text(usize),
-    Refused(u32),
+pub enum TidyError {
+    TidyTooLong,
+    ResultTooLong,
 }
 
-// Why there is no text.
-pub fn why_not_tidied(tidied: Tidied) -> u32
-    ensures { result ≡ tidied_number tidied }
-{
-    match tidied {
-        Tidied::Text(_) => refusals::ANSWERED,
-        Tidied::Refused(number) => number,
+impl TidyError {
+    // The number of the refusal.
+    pub fn number(self) -> u32
+        ensures { result ≡ error_number self }
+    {
+        match self {
+            TidyError::TidyTooLong => TIDY_TOO_LONG,
+            TidyError::ResultTooLong => refusals::RESULT_TOO_LONG,
+        }
     }
 }
 
-// 28, and then 23: the text is written into 4,096 local bytes first, so that 28 is told whatever buffer is lent.
-pub fn tidy(t: &[u32], end: usize, res: &mut [u8]) -> Tidied
+// The count of the tidy text's bytes; or 28, and then 23: the text is written into 4,096 local bytes first, so that 28 is told whatever buffer is lent.
+pub fn tidy(t: &[u32], end: usize, res: &mut [u8]) -> Result<usize, TidyError>
     requires { SomeLeft t.now end 0 }
     ensures { (ts : List Token) → Left t.now end 0 ts → AllFit ts
         → Concludes (enc (scan true ts)) res.old res.new result }
@@ -150,12 +152,12 @@ pub fn tidy(t: &[u32], end: usize, res: &mut [u8]) -> Tidied
     let n = put_grammar(&mut whole, BytePlace(limits::GRAMMAR_BYTES), t, end);
     let count = n.0;
     if count > limits::GRAMMAR_BYTES {
-        return Tidied::Refused(TIDY_TOO_LONG);
+        return Err(TidyError::TidyTooLong);
     }
     let room = res.len();
     if count > room {
-        return Tidied::Refused(refusals::RESULT_TOO_LONG);
+        return Err(TidyError::ResultTooLong);
     }
     encode::put_all(res, BytePlace(room), BytePlace(0), &whole[..count]);
-    Tidied::Text(count)
+    Ok(count)
 }

@@ -15,6 +15,7 @@ use Rattle.tokens.specs.Lengths.{form_of, first_number, TokenAt}
 use Rattle.tokens.specs.Names.{name_at}
 use Rattle.tokens.proofs.Walk.{by-mark, form, stands-first, stands-form, stands-reads, stands-spelt}
 use Rattle.encode.specs.Out.{spelt, Wrote}
+use Rattle.encode.specs.declared.Spelling.TheVariants.{Plain}
 use Rattle.encode.proofs.Puts.{wrote-text}
 use Rattle.encode.proofs.Texts.{spelt-plain}
 use Rattle.tidy.specs.Tidy.{quoted_text, hex_text, chars_text, mark_text}
@@ -42,7 +43,7 @@ module _ (T : List ℕ) (k : ℕ) where
   class-two c d e g f = rw (← g, ne_eqb d 0 f, e)
 
   module _ (f n : ℕ) (e : n ≡ get_or T (k + 1) 0) where
-    pub held-name : f < 2 → held_at f T k ≡ concat_map (spelt 0) (take n (drop (k + 2) T))
+    pub held-name : f < 2 → held_at f T k ≡ concat_map (spelt Plain) (take n (drop (k + 2) T))
     unfolding held_at
     held-name h = rw (lt-ltb f 2 h, e) (sym (spelt-plain (name_at T k)))
 

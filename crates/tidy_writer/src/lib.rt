@@ -10,6 +10,7 @@ ghost use Rattle.tidy.specs.Numbers.{kind_by};
 ghost use Rattle.tidy_writer.specs.Parts.{end_at, range_at, class_at, held_at, Fit};
 ghost use Rattle.tidy_writer.specs.Walk.{SomeLeft};
 
+use encode::Spelling;
 use text::BytePlace;
 
 // The cells of a range's end: whether it is coded, and its character.
@@ -23,7 +24,7 @@ fn put_end(out: &mut [u8], limit: BytePlace, pos: BytePlace, t: &[u32], k: usize
     ensures { Wrote limit.0 pos.0 out.old result.0 out.new (end_at t.now k) }
 {
     if tokens::look(t, k) == 0 {
-        return tidy_parts::put_quoted(out, limit, pos, t, k + END_CHARACTER, 1);
+        return tidy_parts::put_quoted(out, limit, pos, encode::stretch(t, k + END_CHARACTER, 1));
     }
     tidy_parts::put_coded(out, limit, pos, tokens::look(t, k + END_CHARACTER))
 }
@@ -59,11 +60,12 @@ fn put_held(out: &mut [u8], limit: BytePlace, pos: BytePlace, t: &[u32], k: usiz
 {
     let form = tokens::form(t[k]);
     let second = tokens::look(t, k + tokens::COUNT);
+    let text = encode::stretch(t, k + tokens::CHARS, second);
     if form < tokens::FORM_TEXT {
-        return encode::put_text(out, limit, pos, encode::PLAIN, t, k + tokens::CHARS, second);
+        return encode::put_text(out, limit, pos, Spelling::Plain, text);
     }
     if form == tokens::FORM_TEXT {
-        return tidy_parts::put_quoted(out, limit, pos, t, k + tokens::CHARS, second);
+        return tidy_parts::put_quoted(out, limit, pos, text);
     }
     if form == tokens::FORM_CODE {
         return tidy_parts::put_coded(out, limit, pos, second);
@@ -89,15 +91,6 @@ pub fn put_token(out: &mut [u8], limit: BytePlace, pos: BytePlace, t: &[u32], k:
     tidy_parts::put_after(out, limit, q, kind as usize)
 }
 
-fn one_less(nested: usize) -> usize
-    ensures { result ≡ nested - 1 }
-{
-    if nested == 0 {
-        return 0;
-    }
-    nested - 1
-}
-
 // Sets and brackets open after a token of a kind.
 fn depth_after(nested: usize, kind: u32) -> usize
     requires { nested < 18446744073709551615 }
@@ -113,7 +106,7 @@ fn depth_after(nested: usize, kind: u32) -> usize
         return nested;
     }
     if kind == tokens::SET_END {
-        return one_less(nested);
+        return nested.saturating_sub(1);
     }
     if kind < tokens::OPEN_GROUP {
         return nested;
@@ -122,7 +115,7 @@ fn depth_after(nested: usize, kind: u32) -> usize
         return nested + 1;
     }
     if kind == tokens::CLOSE_GROUP {
-        return one_less(nested);
+        return nested.saturating_sub(1);
     }
     nested
 }

@@ -2,7 +2,7 @@
 use mathlib.Core.Path.{◌≡◌, refl, sym, ap, ◌∙◌}
 use mathlib.Core.Bool.{Bool, true, false}
 use mathlib.Core.List.{[], ◌∷◌, ◌++◌, append_assoc}
-use Prim.Native.Nat.{ℕ, ◌+◌, ◌<◌}
+use Prim.Native.Nat.{ℕ, ◌<◌}
 use native.Mathlib.Omega.{arith}
 use lib.ListN.{length, length-append}
 use Rattle.text.specs.Lists.{Text, chars, concat_map}
@@ -55,7 +55,8 @@ module _ (e c : Text) where
       regroup : (a b c d : Text) → (a ++ (b ++ c)) ++ d ≡ a ++ (b ++ (c ++ d))
       regroup a b c d = simp append_assoc
 
-  pub owed-text : (st : Text) (unclosed : Bool) (t : Text) (k : Rest) → 0 < length t → owed e c st unclosed (before (text t) k) ≡ (lead_of unclosed ++ concat_map (escape false) t) ++ owed e c st false k
+  pub owed-text : (st : Text) (unclosed : Bool) (t : Text) (k : Rest) → 0 < length t
+      → owed e c st unclosed (before (text t) k) ≡ (lead_of unclosed ++ concat_map (escape false) t) ++ owed e c st false k
   owed-text st unclosed t k h =
       owed-some st st unclosed (concat_map (escape false) t) (text t) k (some-text t h) (stated-text st t)
       ∙ sym (append_assoc (lead_of unclosed) (concat_map (escape false) t) (owed e c st false k))

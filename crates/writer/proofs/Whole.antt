@@ -2,10 +2,11 @@
 use mathlib.Core.Path.{◌≡◌, refl, sym, ap, ◌∙◌}
 use mathlib.Core.Bool.{Bool, true, false}
 use mathlib.Core.List.{List, [], ◌∷◌, ◌++◌, append-nil, append_assoc}
-use Prim.Native.Nat.{ℕ, ◌+◌, ◌-◌, ◌≤◌, ◌<◌, min}
+use Prim.Native.Nat.{ℕ, ◌+◌, ◌≤◌, ◌<◌, min}
 use native.Mathlib.Omega.{arith}
 use lib.ListN.{length, get_or, drop}
 use borrow.Author.Tests.{eq-eqb}
+use Rattle.std.specs.Prelude.{Some, None}
 use Rattle.text.specs.Lists.{Text, chars, pick, same}
 use Rattle.tree.specs.Tree.{Mark, unmarked, included, attribute, deleted, Grammar}
 use Rattle.tree.specs.Tokens.{counted, mark_number}
@@ -28,8 +29,7 @@ use Rattle.extent.specs.Extent.{most_of, attributes_of, Covers, Fits}
 use Rattle.extent.proofs.Sizes.{start-size, state-size, row-size, no-attributes}
 use Rattle.tags.specs.Stated.{late, start_of, stated, turned}
 use Rattle.writer.specs.Markup.{fresh_at, May, Attributed, Came}
-use Rattle.writer.specs.Whole.{Job, Some, Writable, Documented, Answered}
-use Rattle.writer.specs.declared.Written.TheVariants.{Xml as Fits', TooLong}
+use Rattle.writer.specs.Whole.{Job, SomeJob, Writable, Documented, Answered}
 use Rattle.text.specs.declared.BytePlace.{BytePlace}
 use Rattle.tags.specs.declared.Output.{Output}
 use Rattle.writer.specs.declared.Plan.{Plan}
@@ -167,24 +167,24 @@ document-fits {g} {r} {t} plan W C F =
     omega (arith, F.enough)
 
 -- measured too long
-pub too_long : (m : ℕ) (o' o bs : List ℕ) → state m o' ≡ puts 0 (state 0 o) bs → length o < m → Answered bs o o' TooLong
+pub too_long : (m : ℕ) (o' o bs : List ℕ) → state m o' ≡ puts 0 (state 0 o) bs → length o < m → Answered bs o o' None
 too_long m o' o bs e h =
     let d = e ∙ dry 0 o bs (omega arith) in
     let p : m ≡ min (0 + length bs) (length o + 1) = ap (λ (s : State). s.pos) d in
     record { fits = λ f. absurd (omega arith); long = λ f. (refl, ap (λ (s : State). s.out) d) }
 
 -- known to fit, and written
-pub all-written : (n : ℕ) (o'' o bs : List ℕ) → length bs ≤ length o → state n o'' ≡ puts (length o) (state 0 o) bs → Answered bs o o'' (Fits' n)
+pub all-written : (n : ℕ) (o'' o bs : List ℕ) → length bs ≤ length o → state n o'' ≡ puts (length o) (state 0 o) bs → Answered bs o o'' (Some n)
 all-written n o'' o bs h w =
     let f = w ∙ room 0 (length o) o bs (omega arith) (omega arith) in
     let z : 0 + length bs ≡ length bs = omega arith in
     let fn : n ≡ length bs = ap (λ (s : State). s.pos) f ∙ z in
     let fo : o'' ≡ bs ++ drop (0 + length bs) o = ap (λ (s : State). s.out) f in
-    record { fits = λ k. (refl, fn, fo ∙ rw z); long = λ k. absurd (omega arith) }
+    record { fits = λ k. (ap Some fn, fo ∙ rw z); long = λ k. absurd (omega arith) }
 
 -- measured and written
 pub written : (m n : ℕ) (o' o'' o bs : List ℕ) → state m o' ≡ puts 0 (state 0 o) bs → m ≤ length o
-    → state n o'' ≡ puts (length o) (state 0 o') bs → Answered bs o o'' (Fits' n)
+    → state n o'' ≡ puts (length o) (state 0 o') bs → Answered bs o o'' (Some n)
 written m n o' o'' o bs e h w =
     let d = e ∙ dry 0 o bs (omega arith) in
     let p : m ≡ min (0 + length bs) (length o + 1) = ap (λ (s : State). s.pos) d in
@@ -195,7 +195,7 @@ written m n o' o'' o bs e h w =
 pub room-again : {T P S S' : List ℕ} → S' ≡ S → Room T P S → Room T P S'
 room-again e R = rw e R
 
-pub job-again : {T : List ℕ} {R : ℕ} {P : List ℕ} {r : Text} {S S' : List ℕ} → S' ≡ S → Some T R P r S → Some T R P r S'
+pub job-again : {T : List ℕ} {R : ℕ} {P : List ℕ} {r : Text} {S S' : List ℕ} → S' ≡ S → SomeJob T R P r S → SomeJob T R P r S'
 job-again e J = rw e J
 
 -- at the root's row

@@ -1,5 +1,5 @@
 -- What is written of rows.
-use Rattle.std.specs.Prelude.{◌≡◌, Bool, true, false, List, ◌++◌, ℕ}
+use Rattle.std.specs.Prelude.{◌≡◌, true, false, List, ◌++◌, ℕ}
 use Rattle.text.specs.Lists.{Text}
 use Rattle.xml.specs.Document.{Xml}
 use Rattle.xml.specs.Bytes.{attributes}

@@ -1,5 +1,5 @@
 -- The document as a whole.
-use Rattle.std.specs.Prelude.{◌≡◌, Bool, true, false, List, [], ◌∷◌, ◌++◌, ℕ, ◌+◌, ◌*◌, ◌<◌, ◌≤◌, length, drop}
+use Rattle.std.specs.Prelude.{◌≡◌, false, List, ◌++◌, ℕ, ◌<◌, ◌≤◌, length, drop, Option, Some, None}
 use Rattle.text.specs.Lists.{Text}
 use Rattle.tree.specs.Tree.{Grammar}
 use Rattle.tree.specs.Tokens.{grammar_tokens}
@@ -15,8 +15,6 @@ use Rattle.tags.specs.Stated.{stated}
 use Rattle.writer.specs.Markup.{May}
 use Rattle.tags.specs.declared.Output.{Output}
 use Rattle.writer.specs.declared.Plan.{Plan}
-use Rattle.writer.specs.declared.Written.{Written}
-use Rattle.writer.specs.declared.Written.TheVariants.{Xml, TooLong}
 
 -- a derivation that the list names, with its notes and the grammar's tokens
 pub record Job (T : List ℕ) (root : ℕ) (P : List ℕ) (r : Text) (S : List ℕ) (g : Grammar) (t : Row) : Type 0 where
@@ -24,7 +22,7 @@ pub record Job (T : List ℕ) (root : ℕ) (P : List ℕ) (r : Text) (S : List �
   pub noted : Noted S 0 t
   pub tokens : Reads T 0 (grammar_tokens g)
 
-pub record Some (T : List ℕ) (root : ℕ) (P : List ℕ) (r : Text) (S : List ℕ) : Type 0 where
+pub record SomeJob (T : List ℕ) (root : ℕ) (P : List ℕ) (r : Text) (S : List ℕ) : Type 0 where
   pub g : Grammar
   pub t : Row
   pub job : Job T root P r S g t
@@ -35,19 +33,10 @@ pub record Writable (g : Grammar) (r : Text) (t : Row) : Type 0 where
   pub chars : unwritable (document g r t) ≡ false
   pub one : not_one (document g r t) ≡ false
 
--- the number and the count of bytes that each case stands for
-abbrev pub written_number : Written → ℕ
-written_number (Xml n) = 0
-written_number TooLong = 23
-
-abbrev pub written_count : Written → ℕ
-written_count (Xml n) = n
-written_count TooLong = 0
-
 -- the bytes, if they fit; else nothing
-pub record Answered (bs old new : List ℕ) (a : Written) : Type 0 where
-  pub fits : length bs ≤ length old → (written_number a ≡ 0) × (written_count a ≡ length bs) × (new ≡ bs ++ drop (length bs) old)
-  pub long : length old < length bs → (written_number a ≡ 23) × (new ≡ old)
+pub record Answered (bs old new : List ℕ) (a : Option ℕ) : Type 0 where
+  pub fits : length bs ≤ length old → (a ≡ Some (length bs)) × (new ≡ bs ++ drop (length bs) old)
+  pub long : length old < length bs → (a ≡ None) × (new ≡ old)
 
 pub record Documented (T : List ℕ) (root : ℕ) (P : List ℕ) (r : Text) (S S' out out' : List ℕ) (o : Output) (q : ℕ) : Type 0 where
   pub kept : S' ≡ S
@@ -55,6 +44,6 @@ pub record Documented (T : List ℕ) (root : ℕ) (P : List ℕ) (r : Text) (S S
       → Wrote o.limit.0 o.pos.0 out q out' (stated (state_of o.due) (document g r t))
 
 -- the answer to a document, if what was known of it is so
-pub record Wrotes (T : List ℕ) (root : ℕ) (P : List ℕ) (r : Text) (S old new : List ℕ) (p : Plan) (a : Written) : Type 0 where
+pub record Wrotes (T : List ℕ) (root : ℕ) (P : List ℕ) (r : Text) (S old new : List ℕ) (p : Plan) (a : Option ℕ) : Type 0 where
   pub answered : (g : Grammar) (t : Row) → Job T root P r S g t → Writable g r t → Covers p.extent (document g r t)
       → Answered (bytes p.due.ambiguous p.due.mismatch (document g r t)) old new a

@@ -6,8 +6,7 @@ ghost use Rattle.items.specs.Items.{kind_at};
 ghost use Rattle.cursor.specs.Ahead.{SomeRow, SomeNode};
 ghost use Rattle.extent.specs.Extent.{Fits};
 ghost use Rattle.left_parse.specs.Noted.{Room};
-ghost use Rattle.writer.specs.Whole.{Documented, Wrotes};
-ghost use Rattle.writer.specs.Whole.{Some as SomeJob};
+ghost use Rattle.writer.specs.Whole.{SomeJob, Documented, Wrotes};
 ghost use Rattle.writer.specs.Markup.{fresh_at, Attributed, Opened, Came};
 
 use cursor::{Cursor, Event};
@@ -160,13 +159,6 @@ fn put_document(
     whole.pos
 }
 
-// The count of bytes that were written, or that they do not fit.
-#[derive(Clone, Copy)]
-pub enum Written {
-    Xml(usize),
-    TooLong,
-}
-
 // At the beginning, with room up to a place.
 fn fresh(limit: usize, plan: Plan) -> Output
     ensures { result ≡ fresh_at limit plan }
@@ -191,7 +183,7 @@ fn write_fitting(
     plan: Plan,
     scratch: &mut [u64],
     out: &mut [u8],
-) -> Written
+) -> Option<usize>
     requires fits { Fits plan.extent (length out.old) }
     requires room { Room table.now parse.now scratch.old × SomeJob table.now root parse.now «record».now scratch.old }
     ensures { Wrotes table.now root parse.now «record».now scratch.old
@@ -199,7 +191,7 @@ fn write_fitting(
 {
     let all = fresh(out.len(), plan);
     let n = put_document(table, root, parse, record, scratch, out, all);
-    Written::Xml(n.0)
+    Some(n.0)
 }
 
 // A document that is measured first, so that nothing is stored of one that does not fit.
@@ -211,7 +203,7 @@ fn write_measured(
     plan: Plan,
     scratch: &mut [u64],
     out: &mut [u8],
-) -> Written
+) -> Option<usize>
     requires { Room table.now parse.now scratch.old × SomeJob table.now root parse.now «record».now scratch.old }
     ensures { Wrotes table.now root parse.now «record».now scratch.old
         out.old out.new plan result }
@@ -220,13 +212,14 @@ fn write_measured(
     let dry = fresh(0, plan);
     let m = put_document(table, root, parse, record, scratch, out, dry);
     if m.0 > room {
-        return Written::TooLong;
+        return None;
     }
     let wet = fresh(room, plan);
     let n = put_document(table, root, parse, record, scratch, out, wet);
-    Written::Xml(n.0)
+    Some(n.0)
 }
 
+// The count of bytes that were written; nothing, if they do not fit.
 pub fn write_xml(
     table: &[u32],
     root: usize,
@@ -235,7 +228,7 @@ pub fn write_xml(
     plan: Plan,
     scratch: &mut [u64],
     out: &mut [u8],
-) -> Written
+) -> Option<usize>
     requires { Room table.now parse.now scratch.old × SomeJob table.now root parse.now «record».now scratch.old }
     ensures { Wrotes table.now root parse.now «record».now scratch.old
         out.old out.new plan result }

@@ -2,7 +2,7 @@
 use mathlib.Core.Path.{◌≡◌, refl, sym, ap, ◌∙◌}
 use mathlib.Core.Bool.{Bool, true, false, not, ◌||◌}
 use mathlib.Core.List.{[], ◌∷◌, ◌++◌}
-use Prim.Native.Nat.{ℕ, ◌+◌}
+use Prim.Native.Nat.{ℕ}
 use Rattle.text.specs.Lists.{Text, chars, same}
 use Rattle.text.proofs.Lists.{any_append, or-false}
 use Rattle.xml.specs.Document.{Xml, none, char, attr, elem, join, text, misnamed, unwritable, namespaced}

@@ -1,8 +1,8 @@
 -- The three faults that forbid to write a tree, and how they add up.
-use Rattle.std.specs.Prelude.{◌≡◌, Bool, false, not, ◌||◌, [], ℕ}
-use Rattle.text.specs.Lists.{Text, chars, pick, any, same}
+use Rattle.std.specs.Prelude.{◌≡◌, Bool, false, not, ◌||◌, ℕ}
+use Rattle.text.specs.Lists.{Text, chars, any, same}
 use Rattle.xml.specs.Document.{Xml, misnamed, unwritable, namespaced}
-use Rattle.xml.specs.Names.{xml_char, name_char, xml_name}
+use Rattle.xml.specs.Names.{xml_char, xml_name}
 use Rattle.xml_names.specs.declared.Faults.{Faults}
 
 -- the three, in the order of the table
@@ -20,10 +20,6 @@ both a b = flags (a.misnamed || b.misnamed) (a.unwritable || b.unwritable) (a.na
 -- a number that is no XML character
 abbrev pub bad : ℕ → Bool
 bad c = not (xml_char c)
-
--- a number that may not stand after the first of a name, or else that is no XML character
-abbrev pub odd : Bool → ℕ → Bool
-odd name c = pick name (not (name_char c)) (bad c)
 
 -- of text
 abbrev pub of_text : Text → Faults

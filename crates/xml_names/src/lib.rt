@@ -2,13 +2,14 @@
 #![tactic(auto)]
 
 ghost use Rattle.std.specs.Prelude.{◌≡◌, true, false, not, ◌&&◌, ◌||◌, ℕ, ◌<◌, eqb, get_or, take, drop};
+ghost use Rattle.std.specs.List.{list_all, list_any};
 ghost use Rattle.text.specs.Lists.{Text, chars, any, same, span, inside};
 ghost use Rattle.xml.specs.Names.{xml_char, name_start, name_char, xml_name};
 ghost use Rattle.left_parse.specs.Steps.{Named};
 ghost use Rattle.markup.specs.Pieces.{said, Says};
-ghost use Rattle.xml_names.specs.Flags.{both, bad, odd, of_text, of_name, of_attribute_name};
+ghost use Rattle.xml_names.specs.Flags.{both, bad, of_text, of_name, of_attribute_name};
 
-use markup::{Piece, Source};
+use markup::Piece;
 
 // Lines 18, 19 and 22 of the table: a name that is no XML name, a character that is no XML character, an attribute named xmlns.
 #[derive(Clone, Copy)]
@@ -18,167 +19,105 @@ pub struct Faults {
     pub namespaced: bool,
 }
 
-// Whether a number is between two, or a test before has passed.
-fn within(c: u32, low: u32, high: u32, before: bool) -> bool
-    ensures { result ≡ (inside c (span low high) || before) }
-{
-    text::either(text::between(c, low, high), before)
-}
-
-// Production 2 of XML, from its last span to its first.
+// Production 2 of XML.
+#[tactic(auto, unfolding(xml::specs::Names::xml_char))]
 fn xml_char(c: u32) -> bool
     ensures { result ≡ xml_char c }
 {
-    let r = within(c, 0x10000, 0x10ffff, false);
-    let r = within(c, 0xe000, 0xfffd, r);
-    let r = within(c, 0x20, 0xd7ff, r);
-    let r = within(c, 0xd, 0xd, r);
-    within(c, 0x9, 0xa, r)
+    matches!(c, 0x9..=0xa | 0xd | 0x20..=0xd7ff | 0xe000..=0xfffd | 0x10000..=0x10ffff)
 }
 
 // Production 4.
+#[tactic(auto, unfolding(xml::specs::Names::name_start))]
 fn name_start(c: u32) -> bool
     ensures { result ≡ name_start c }
 {
-    let r = within(c, 0x10000, 0xeffff, false);
-    let r = within(c, 0xfdf0, 0xfffd, r);
-    let r = within(c, 0xf900, 0xfdcf, r);
-    let r = within(c, 0x3001, 0xd7ff, r);
-    let r = within(c, 0x2c00, 0x2fef, r);
-    let r = within(c, 0x2070, 0x218f, r);
-    let r = within(c, 0x200c, 0x200d, r);
-    let r = within(c, 0x37f, 0x1fff, r);
-    let r = within(c, 0x370, 0x37d, r);
-    let r = within(c, 0xf8, 0x2ff, r);
-    let r = within(c, 0xd8, 0xf6, r);
-    let r = within(c, 0xc0, 0xd6, r);
-    let r = within(c, 0x61, 0x7a, r);
-    let r = within(c, 0x5f, 0x5f, r);
-    let r = within(c, 0x41, 0x5a, r);
-    within(c, 0x3a, 0x3a, r)
+    matches!(
+        c,
+        0x3a
+            | 0x41..=0x5a
+            | 0x5f
+            | 0x61..=0x7a
+            | 0xc0..=0xd6
+            | 0xd8..=0xf6
+            | 0xf8..=0x2ff
+            | 0x370..=0x37d
+            | 0x37f..=0x1fff
+            | 0x200c..=0x200d
+            | 0x2070..=0x218f
+            | 0x2c00..=0x2fef
+            | 0x3001..=0xd7ff
+            | 0xf900..=0xfdcf
+            | 0xfdf0..=0xfffd
+            | 0x10000..=0xeffff
+    )
 }
 
 // Production 4a.
+#[tactic(auto, unfolding(xml::specs::Names::name_char))]
 fn name_char(c: u32) -> bool
     ensures { result ≡ name_char c }
 {
-    let r = within(c, 0x203f, 0x2040, false);
-    let r = within(c, 0x300, 0x36f, r);
-    let r = within(c, 0xb7, 0xb7, r);
-    let r = within(c, 0x30, 0x39, r);
-    let r = within(c, 0x2d, 0x2e, r);
-    text::either(name_start(c), r)
+    name_start(c) || matches!(c, 0x2d..=0x2e | 0x30..=0x39 | 0xb7 | 0x300..=0x36f | 0x203f..=0x2040)
 }
 
-// Whether a number may not stand after the first of a name, or else is no XML character.
-fn is_odd(c: u32, name: bool) -> bool
-    ensures { result ≡ odd name c }
+fn all_name_chars(chars: &[u32]) -> bool
+    ensures { result ≡ list_all name_char chars.now }
 {
-    if name {
-        return !name_char(c);
-    }
-    !xml_char(c)
+    chars.iter().all(|c| name_char(*c))
 }
 
-// Whether one is among the characters that stand in a table.
-fn some_odd(t: &[u32], from: usize, count: usize, name: bool) -> bool
-    ensures { result ≡ any (odd name) (take count (drop from t.now)) }
+// Production 5.
+#[tactic(auto, using(crate::proofs::Names::all_of), unfolding(xml::specs::Names::xml_name))]
+fn is_xml_name(name: &[u32]) -> bool
+    ensures { result ≡ xml_name name.now }
 {
-    let mut i = from;
-    let mut n = count;
-    while n > 0 {
-        if i >= t.len() {
-            return false;
-        }
-        let c = tokens::look(t, i) as u32;
-        if is_odd(c, name) {
-            return true;
-        }
-        i += 1;
-        n -= 1;
-    }
-    false
+    let Some((first, others)) = name.split_first() else {
+        return false;
+    };
+    name_start(*first) && all_name_chars(others)
 }
-
-// The second character of a token.
-const AFTER_FIRST: usize = tokens::CHARS + 1;
 
 // Whether the name that a token holds is no XML name.
 pub fn bad_name(table: &[u32], token: usize) -> bool
     requires { token < 4294967298 }
     ensures { (k : ℕ) (n : Text) → Named table.now token k n → result ≡ not (xml_name n) }
 {
-    let n = tokens::look(table, token + tokens::COUNT);
-    if n == 0 {
-        return true;
-    }
-    let first = tokens::look(table, token + tokens::CHARS) as u32;
-    if name_start(first) {
-        return some_odd(table, token + AFTER_FIRST, n - 1, true);
-    }
-    true
+    !is_xml_name(markup::name_of(table, token))
 }
 
-// The letters of xmlns in a token that holds it.
-const XMLNS_LENGTH: usize = 5;
+// The characters of `xmlns`.
+const XMLNS: [u32; 5] = [0x78, 0x6d, 0x6c, 0x6e, 0x73];
 
-const X: usize = tokens::CHARS;
-
-const M: usize = X + 1;
-
-const L: usize = X + 2;
-
-const N: usize = X + 3;
-
-const S: usize = X + 4;
-
-// Whether a character stands at a place, and those after it are right too.
-fn spells(t: &[u32], at: usize, c: usize, after: bool) -> bool
-    ensures { result ≡ (eqb (get_or t.now at 0) c && after) }
+#[tactic(auto, using(crate::proofs::Names::same_of))]
+fn is_xmlns(name: &[u32]) -> bool
+    ensures { result ≡ same name.now (chars "xmlns") }
 {
-    if tokens::look(t, at) == c {
-        return after;
-    }
-    false
+    name == XMLNS.as_slice()
 }
 
-// Whether a token holds the name xmlns.
-fn is_xmlns(table: &[u32], token: usize) -> bool
-    requires { token < 4294967298 }
-    ensures { (k : ℕ) (n : Text) → Named table.now token k n → result ≡ same n (chars "xmlns") }
+fn some_bad(chars: &[u32]) -> bool
+    ensures { result ≡ list_any bad chars.now }
 {
-    if tokens::look(table, token + tokens::COUNT) != XMLNS_LENGTH {
-        return false;
-    }
-    let r = spells(table, token + S, 0x73, true);
-    let r = spells(table, token + N, 0x6e, r);
-    let r = spells(table, token + L, 0x6c, r);
-    let r = spells(table, token + M, 0x6d, r);
-    spells(table, token + X, 0x78, r)
+    chars.iter().any(|c| !xml_char(*c))
 }
 
 // Whether some character of a terminal's text is no XML character.
+#[tactic(auto, using(crate::proofs::Names::any_of))]
 fn bad_piece(table: &[u32], record: &[u32], p: Piece) -> bool
     ensures { result ≡ any bad (said table.now «record».now p) }
 {
-    let from = p.from;
-    match from {
-        Source::Table(cell) => some_odd(table, cell, p.count, false),
-        Source::Record(place) => some_odd(record, place.0, p.count, false),
-    }
+    some_bad(markup::said(table, record, p))
 }
 
 // The faults of either.
 pub fn join(a: Faults, b: Faults) -> Faults
     ensures { result ≡ both a b }
 {
-    let misnamed = text::either(a.misnamed, b.misnamed);
-    let unwritable = text::either(a.unwritable, b.unwritable);
-    let namespaced = text::either(a.namespaced, b.namespaced);
     Faults {
-        misnamed,
-        unwritable,
-        namespaced,
+        misnamed: a.misnamed || b.misnamed,
+        unwritable: a.unwritable || b.unwritable,
+        namespaced: a.namespaced || b.namespaced,
     }
 }
 
@@ -213,7 +152,7 @@ pub fn of_attribute(table: &[u32], token: usize) -> Faults
     ensures { (k : ℕ) (n : Text) → Named table.now token k n → result ≡ of_attribute_name n }
 {
     let misnamed = bad_name(table, token);
-    let namespaced = is_xmlns(table, token);
+    let namespaced = is_xmlns(markup::name_of(table, token));
     Faults {
         misnamed,
         unwritable: false,

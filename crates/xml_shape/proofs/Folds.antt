@@ -4,7 +4,6 @@ use mathlib.Core.Bool.{Bool, true, false, not, ◌||◌}
 use mathlib.Core.List.{List, [], ◌∷◌, ◌++◌, append_assoc}
 use Prim.Native.Nat.{ℕ, ◌+◌, ◌≤◌, ◌<◌}
 use native.Mathlib.Omega.{arith}
-use lib.Dec.{eqb}
 use lib.ListN.{length, set}
 use Rattle.text.specs.Lists.{Text, repeats, pick}
 use Rattle.text.proofs.Lists.{or_assoc, or-false}
@@ -16,7 +15,9 @@ use Rattle.cursor.specs.Ahead.{Ahead, SomeRow}
 use Rattle.cursor.specs.declared.Cursor.{Cursor}
 use Rattle.xml_shape.specs.Judges.{Judges}
 use Rattle.xml_shape.specs.Names.{repeated, clashes, Listed, Seen, Fresh, name_tokens}
-use Rattle.xml_shape.specs.One.{more, shape}
+use Rattle.xml_shape.specs.One.{more, shape, is_one}
+use Rattle.xml_shape.specs.declared.Shape.{Shape}
+use Rattle.xml_shape.specs.declared.Shape.TheVariants.{Nothing, Other}
 use Rattle.xml_shape.proofs.Laws.{clashes-begin, listed-set, listed_more, else, one-shape}
 use Rattle.xml_shape.proofs.Room.{room_for}
 
@@ -113,36 +114,36 @@ pub tally-end : {T seen : List ℕ} {count : ℕ} {twice : Bool} {r : Text} {x :
 tally-end {twice = twice} O = sym (or-false twice) ∙ O.owes
 
 -- the shape of all that is ahead, after what came
-abbrev pub shape_of : ℕ → Rest → ℕ
+abbrev pub shape_of : Shape → Rest → Shape
 shape_of n (row x) = shape n x
 shape_of n (within m x k) = shape_of (shape n x) k
 
-shape-join : (n : ℕ) (x y : Xml) → shape n (join x y) ≡ shape (shape n x) y
+shape-join : (n : Shape) (x y : Xml) → shape n (join x y) ≡ shape (shape n x) y
 shape-join n none y = refl
-shape-join n (char c x) y = shape-join 2 x y
-shape-join n (attr m v x) y = shape-join 2 x y
+shape-join n (char c x) y = shape-join Other x y
+shape-join n (attr m v x) y = shape-join Other x y
 shape-join n (elem m i x) y = shape-join (more n) x y
 
-shape-before : (n : ℕ) (x : Xml) (k : Rest) → shape_of n (before x k) ≡ shape_of (shape n x) k
+shape-before : (n : Shape) (x : Xml) (k : Rest) → shape_of n (before x k) ≡ shape_of (shape n x) k
 shape-before n x (row y) = shape-join n x y
-shape-before n x (within m y k) = ap (λ (q : ℕ). shape_of q k) (shape-join n x y)
+shape-before n x (within m y k) = ap (λ (q : Shape). shape_of q k) (shape-join n x y)
 
-pub record Sight (sort : ℕ) (r : Text) (k₀ k : Rest) : Type 0 where
-  pub owes : shape_of sort k ≡ shape_of 0 k₀
+pub record Sight (sort : Shape) (r : Text) (k₀ k : Rest) : Type 0 where
+  pub owes : shape_of sort k ≡ shape_of Nothing k₀
 
-module _ {n : ℕ} {r : Text} {k₀ : Rest} where
-  pub sight-on : (x : Xml) (k : Rest) {q : ℕ} → q ≡ shape n x → Sight n r k₀ (before x k) → Sight q r k₀ k
-  sight-on x k e O = record { owes = ap (λ (j : ℕ). shape_of j k) e ∙ sym (shape-before n x k) ∙ O.owes }
+module _ {n : Shape} {r : Text} {k₀ : Rest} where
+  pub sight-on : (x : Xml) (k : Rest) {q : Shape} → q ≡ shape n x → Sight n r k₀ (before x k) → Sight q r k₀ k
+  sight-on x k e O = record { owes = ap (λ (j : Shape). shape_of j k) e ∙ sym (shape-before n x k) ∙ O.owes }
 
-  pub sight-text : (t : Text) (k : Rest) → 0 < length t → Sight n r k₀ (before (text t) k) → Sight 2 r k₀ k
+  pub sight-text : (t : Text) (k : Rest) → 0 < length t → Sight n r k₀ (before (text t) k) → Sight Other r k₀ k
   sight-text [] k l O = absurd (omega arith)
   sight-text (c ∷ t) k l O = sight-on (text (c ∷ t)) k (sym (else (text t))) O
 
   pub sight-close : (m : Text) (k : Rest) → Sight n r k₀ (within m none k) → Sight n r k₀ k
   sight-close m k O = record { owes = O.owes }
 
-pub sight-begin : {r : Text} {k : Rest} → Sight 0 r k k
+pub sight-begin : {r : Text} {k : Rest} → Sight Nothing r k k
 sight-begin = record { owes = refl }
 
-pub sight-end : {n : ℕ} {r : Text} {x : Xml} → Sight n r (row x) (row none) → (b : Bool) → b ≡ not (eqb n 1) → b ≡ not_one x
-sight-end {x = x} O b e = e ∙ ap (λ (q : ℕ). not (eqb q 1)) O.owes ∙ one-shape x
+pub sight-end : {n : Shape} {r : Text} {x : Xml} → Sight n r (row x) (row none) → (b : Bool) → b ≡ not (is_one n) → b ≡ not_one x
+sight-end {x = x} O b e = e ∙ ap (λ (q : Shape). not (is_one q)) O.owes ∙ one-shape x

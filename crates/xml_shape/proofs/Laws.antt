@@ -14,7 +14,8 @@ use Rattle.text.proofs.Tests.{look}
 use Rattle.xml.specs.Document.{Xml, none, char, attr, elem, not_one}
 use Rattle.left_parse.specs.Steps.{Named}
 use Rattle.xml_shape.specs.Names.{clashes, Listed}
-use Rattle.xml_shape.specs.One.{shape}
+use Rattle.xml_shape.specs.One.{shape, is_one}
+use Rattle.xml_shape.specs.declared.Shape.TheVariants.{Nothing, Other}
 
 -- equality either way round
 eqb-sym : (a b : ℕ) → eqb a b ≡ eqb b a
@@ -60,14 +61,14 @@ pub clashes-begin : (ms : List Text) → clashes [] ms ≡ repeats ms
 clashes-begin ms = clashes-are [] ms ∙ rw (none-known ms)
 
 -- what is anything else stays so
-pub else : (x : Xml) → shape 2 x ≡ 2
+pub else : (x : Xml) → shape Other x ≡ Other
 else none = refl
 else (char c x) = else x
 else (attr m v x) = else x
 else (elem m i x) = else x
 
 -- one element, and nothing beside it
-pub one-shape : (x : Xml) → not (eqb (shape 0 x) 1) ≡ not_one x
+pub one-shape : (x : Xml) → not (is_one (shape Nothing x)) ≡ not_one x
 unfolding not_one
 one-shape none = refl
 one-shape (char c x) = rw (else x)

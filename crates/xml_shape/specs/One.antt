@@ -1,15 +1,23 @@
 -- Whether a row comes to one element.
-use Rattle.std.specs.Prelude.{ℕ, eqb}
-use Rattle.text.specs.Lists.{pick}
+use Rattle.std.specs.Prelude.{Bool, true, false}
 use Rattle.xml.specs.Document.{Xml, none, char, attr, elem}
+use Rattle.xml_shape.specs.declared.Shape.{Shape}
+use Rattle.xml_shape.specs.declared.Shape.TheVariants.{Nothing, OneElement, Other}
 
--- a row is 0 nothing, 1 one element, 2 anything else: with one element more
-abbrev pub more : ℕ → ℕ
-more n = pick (eqb n 0) 1 2
+-- a row with one element more
+abbrev pub more : Shape → Shape
+more Nothing = OneElement
+more OneElement = Other
+more Other = Other
 
 -- with a row after it
-abbrev pub shape : ℕ → Xml → ℕ
-shape n none = n
-shape n (char c x) = shape 2 x
-shape n (attr m v x) = shape 2 x
-shape n (elem m i x) = shape (more n) x
+abbrev pub shape : Shape → Xml → Shape
+shape s none = s
+shape s (char c x) = shape Other x
+shape s (attr m v x) = shape Other x
+shape s (elem m i x) = shape (more s) x
+
+abbrev pub is_one : Shape → Bool
+is_one Nothing = false
+is_one OneElement = true
+is_one Other = false

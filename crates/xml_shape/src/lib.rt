@@ -8,7 +8,7 @@ ghost use Rattle.left_parse.specs.Steps.{Named};
 ghost use Rattle.cursor.specs.Ahead.{SomeRow};
 ghost use Rattle.xml_shape.specs.Judges.{Judges};
 ghost use Rattle.xml_shape.specs.Names.{repeated, Seen, name_tokens};
-ghost use Rattle.xml_shape.specs.One.{more as oneMore};
+ghost use Rattle.xml_shape.specs.One.{more as oneMore, is_one};
 
 use cursor::{Cursor, Event};
 
@@ -90,24 +90,27 @@ pub fn repeats_attribute(
 }
 
 // What a row is: nothing yet, one element, or anything else: text, attributes or more elements.
-const NOTHING: usize = 0;
-
-const ONE: usize = 1;
-
-const TEXT: usize = 2;
-
-const ATTRIBUTE: usize = 2;
-
-const MORE: usize = 2;
+#[derive(Clone, Copy)]
+pub enum Shape {
+    Nothing,
+    OneElement,
+    Other,
+}
 
 // One element more.
-fn one_more(sort: usize) -> usize
-    ensures { result ≡ oneMore sort }
+fn one_more(shape: Shape) -> Shape
+    ensures { result ≡ oneMore shape }
 {
-    if sort == NOTHING {
-        return ONE;
+    match shape {
+        Shape::Nothing => Shape::OneElement,
+        Shape::OneElement | Shape::Other => Shape::Other,
     }
-    MORE
+}
+
+fn is_one(shape: Shape) -> bool
+    ensures { result ≡ is_one shape }
+{
+    matches!(shape, Shape::OneElement)
 }
 
 // Whether a row comes to anything else than one element.
@@ -116,27 +119,27 @@ pub fn not_one(table: &[u32], parse: &[u32], scratch: &mut [u64], first: Cursor)
     ensures { Judges not_one table.now parse.now scratch.old scratch.new first result }
 {
     let mut at = first;
-    let mut sort = NOTHING;
+    let mut shape = Shape::Nothing;
     loop {
         let event = cursor::next(table, parse, scratch, at);
         match event {
             Event::Text(n) => {
-                sort = TEXT;
+                shape = Shape::Other;
                 at = cursor::skip(table, parse, scratch, n);
             }
             Event::Open(_, n) => {
-                sort = one_more(sort);
+                shape = one_more(shape);
                 at = cursor::past(table, parse, scratch, n);
             }
             Event::Attribute(_, n) => {
-                sort = ATTRIBUTE;
+                shape = Shape::Other;
                 at = cursor::past(table, parse, scratch, n);
             }
             Event::Close(_, n) => {
                 at = n;
             }
             Event::End => {
-                return sort != ONE;
+                return !is_one(shape);
             }
         }
     }

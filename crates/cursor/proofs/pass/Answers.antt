@@ -7,32 +7,26 @@ use Rattle.cursor.proofs.Steps.{ahead_small, ahead-kind, ahead-enters, ahead-lea
 use Rattle.cursor.proofs.Turns.{turn-empty, turn-into, turn-out, came-begin, came-on, came-settled, came-some}
 use Rattle.cursor.proofs.pass.Goals as goal
 
--- src/lib.rt:65:5
 pub loop-p-init : goal.loop-p-init
 loop-p-init c = (refl, c.requires, came-begin)
 
--- src/lib.rt:72:17
 pub shape_of-scratch-then-p-gt0 : goal.shape_of-scratch-then-p-gt0
 shape_of-scratch-then-p-gt0 c = c.loop-p.invariant.0
 
--- src/lib.rt:72:17
 pub returns-then-p-gt0 : goal.returns-then-p-gt0
 returns-then-p-gt0 c =
     came-settled c.loop-p.invariant.2 (s-text (c.kind_in-k.ensures.text c.if-k-eq-TERMINAL.true) _
     (rw c.token_at.ensures.0 at c.piece_of-p.ensures) (above-none c.if-p-gt0.true))
 
--- src/lib.rt:74:17
 pub skip-n-requires : goal.skip-n-requires
 skip-n-requires c = ahead_small c.loop-p.invariant.1.ahead
 
--- src/lib.rt:65:5
 pub loop-p-smaller-then-k-eq-TERMINAL : goal.loop-p-smaller-then-k-eq-TERMINAL
 loop-p-smaller-then-k-eq-TERMINAL c =
     (turn-empty c.loop-p.invariant.1 (c.kind_in-k.ensures.text c.if-k-eq-TERMINAL.true)
     (rw c.token_at.ensures.0 at c.piece_of-p.ensures) (none_above c.if-p-gt0.false)
     c.skip-n.ensures).falls
 
--- src/lib.rt:65:5
 pub loop-p-preserved-then-k-eq-TERMINAL : goal.loop-p-preserved-then-k-eq-TERMINAL
 loop-p-preserved-then-k-eq-TERMINAL c =
     let M = turn-empty c.loop-p.invariant.1 (c.kind_in-k.ensures.text c.if-k-eq-TERMINAL.true)
@@ -40,78 +34,64 @@ loop-p-preserved-then-k-eq-TERMINAL c =
     c.skip-n.ensures in
     (c.loop-p.invariant.0, came-some c.loop-p.invariant.1 M, came-on c.loop-p.invariant.2 M)
 
--- src/lib.rt:77:13
 pub shape_of-scratch-then-k-eq-ELEMENT : goal.shape_of-scratch-then-k-eq-ELEMENT
 shape_of-scratch-then-k-eq-ELEMENT c = c.loop-p.invariant.0
 
--- src/lib.rt:77:13
 pub returns-then-k-eq-ELEMENT : goal.returns-then-k-eq-ELEMENT
 returns-then-k-eq-ELEMENT c =
     let n = c.kind_in-k.ensures.node (inl c.if-k-eq-ELEMENT.true) in
     came-settled c.loop-p.invariant.2 (s-node n.0 (omega (arith, n.1, c.if-k-eq-ELEMENT.true)) (omega (arith, n.1, c.if-k-eq-ELEMENT.true)))
 
--- src/lib.rt:79:13
 pub shape_of-scratch-then-k-eq-ATTRIBUTE : goal.shape_of-scratch-then-k-eq-ATTRIBUTE
 shape_of-scratch-then-k-eq-ATTRIBUTE c = c.loop-p.invariant.0
 
--- src/lib.rt:79:13
 pub returns-then-k-eq-ATTRIBUTE : goal.returns-then-k-eq-ATTRIBUTE
 returns-then-k-eq-ATTRIBUTE c =
     let n = c.kind_in-k.ensures.node (inr c.if-k-eq-ATTRIBUTE.true) in
     came-settled c.loop-p.invariant.2 (s-node n.0 (omega (arith, n.1, c.if-k-eq-ATTRIBUTE.true)) (omega (arith, n.1, c.if-k-eq-ATTRIBUTE.true)))
 
--- src/lib.rt:81:17
 pub enter-n-requires : goal.enter-n-requires
 enter-n-requires c =
     let n = c.kind_in-k.ensures.into c.if-k-eq-DELETED.true in
     ahead-enters c.loop-p.invariant.1.ahead n.0 n.1
 
--- src/lib.rt:65:5
 pub loop-p-smaller-then-k-eq-DELETED : goal.loop-p-smaller-then-k-eq-DELETED
 loop-p-smaller-then-k-eq-DELETED c =
     let n = c.kind_in-k.ensures.into c.if-k-eq-DELETED.true in
     (turn-into c.loop-p.invariant.1 n.0 n.1 n.2 c.enter-n.ensures).falls
 
--- src/lib.rt:65:5
 pub loop-p-preserved-then-k-eq-DELETED : goal.loop-p-preserved-then-k-eq-DELETED
 loop-p-preserved-then-k-eq-DELETED c =
     let n = c.kind_in-k.ensures.into c.if-k-eq-DELETED.true in
     let M = turn-into c.loop-p.invariant.1 n.0 n.1 n.2 c.enter-n.ensures in
     (omega (arith, c.loop-p.invariant.0), came-some c.loop-p.invariant.1 M, came-on c.loop-p.invariant.2 M)
 
--- src/lib.rt:84:13
 pub shape_of-scratch-then-h-eq0 : goal.shape_of-scratch-then-h-eq0
 shape_of-scratch-then-h-eq0 c = c.loop-p.invariant.0
 
--- src/lib.rt:84:13
 pub returns-then-h-eq0 : goal.returns-then-h-eq0
 returns-then-h-eq0 c =
     came-settled c.loop-p.invariant.2 (s-end (c.kind_in-k.ensures.ends c.if-k-eq-TERMINAL.false c.if-k-eq-ELEMENT.false
     c.if-k-eq-ATTRIBUTE.false c.if-k-eq-DELETED.false (ahead-kind c.loop-p.invariant.1.ahead)) c.if-h-eq0.true)
 
--- src/lib.rt:88:17
 pub shape_of-scratch-then-closes : goal.shape_of-scratch-then-closes
 shape_of-scratch-then-closes c = c.loop-p.invariant.0
 
--- src/lib.rt:88:17
 pub returns-then-closes : goal.returns-then-closes
 returns-then-closes c =
     let five = c.kind_in-k.ensures.ends c.if-k-eq-TERMINAL.false c.if-k-eq-ELEMENT.false c.if-k-eq-ATTRIBUTE.false c.if-k-eq-DELETED.false (ahead-kind c.loop-p.invariant.1.ahead) in
     came-settled c.loop-p.invariant.2 (s-close five (decide-zero _ c.if-h-eq0.false) _ c.note_at-item.ensures (c.closes.ensures.yes c.if-closes.true))
 
--- src/lib.rt:90:17
 pub leave-n-requires : goal.leave-n-requires
 leave-n-requires c =
     ahead-leaves c.loop-p.invariant.1.ahead (decide-zero _ c.if-h-eq0.false)
 
--- src/lib.rt:65:5
 pub loop-p-smaller : goal.loop-p-smaller
 loop-p-smaller c =
     let five = c.kind_in-k.ensures.ends c.if-k-eq-TERMINAL.false c.if-k-eq-ELEMENT.false c.if-k-eq-ATTRIBUTE.false c.if-k-eq-DELETED.false (ahead-kind c.loop-p.invariant.1.ahead) in
     let n = c.closes.ensures.no c.if-closes.false in
     (turn-out c.loop-p.invariant.1 five (decide-zero _ c.if-h-eq0.false) c.leave-n.ensures c.note_at-item.ensures n.0 n.1).falls
 
--- src/lib.rt:65:5
 pub loop-p-preserved : goal.loop-p-preserved
 loop-p-preserved c =
     let five = c.kind_in-k.ensures.ends c.if-k-eq-TERMINAL.false c.if-k-eq-ELEMENT.false c.if-k-eq-ATTRIBUTE.false c.if-k-eq-DELETED.false (ahead-kind c.loop-p.invariant.1.ahead) in

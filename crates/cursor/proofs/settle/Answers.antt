@@ -4,21 +4,17 @@ use Rattle.cursor.proofs.Laws.{decide-zero}
 use Rattle.cursor.proofs.Turns.{came-begin, came-settled}
 use Rattle.cursor.proofs.settle.Goals as goal
 
--- src/lib.rt:106:17
 pub returns-then-k-eq-ELEMENT : goal.returns-then-k-eq-ELEMENT
 returns-then-k-eq-ELEMENT c =
     came-settled came-begin (s-node c.if-c-eq0.true (omega (arith, c.kind_at-k.ensures, c.if-k-eq-ELEMENT.true)) (omega (arith, c.kind_at-k.ensures, c.if-k-eq-ELEMENT.true)))
 
--- src/lib.rt:109:17
 pub returns-then-k-eq-ATTRIBUTE : goal.returns-then-k-eq-ATTRIBUTE
 returns-then-k-eq-ATTRIBUTE c =
     came-settled came-begin (s-node c.if-c-eq0.true (omega (arith, c.kind_at-k.ensures, c.if-k-eq-ATTRIBUTE.true)) (omega (arith, c.kind_at-k.ensures, c.if-k-eq-ATTRIBUTE.true)))
 
--- src/lib.rt:115:9
 pub returns-then-h-eq0 : goal.returns-then-h-eq0
 returns-then-h-eq0 c = came-settled came-begin (s-end (omega (arith, c.kind_at-k.ensures, c.if-k-lt-ALTERNATIVE_END.false)) c.if-h-eq0.true)
 
--- src/lib.rt:119:9
 pub returns-then-closes : goal.returns-then-closes
 returns-then-closes c =
     came-settled came-begin (s-close (omega (arith, c.kind_at-k.ensures, c.if-k-lt-ALTERNATIVE_END.false)) (decide-zero _ c.if-h-eq0.false) _

@@ -1,17 +1,17 @@
 use mathlib.Core.Path.{ap, sym, ◌∙◌}
 use Prim.Native.Nat.{◌-◌}
 use lib.ListN.{length, take, drop}
+use Rattle.std.specs.Prelude.{Some}
 use Rattle.text.specs.Lists.{Text}
 use Rattle.decimal.specs.Value.{decimal, value_of}
 use Rattle.decimal.specs.Compute.{is_fraction}
-use Rattle.decimal.specs.declared.Number.TheVariants.{Value}
 use Rattle.decimal.proofs.Steps.{from_place, short-fraction, no_fraction, no-point, bad-fraction, good-fraction}
 use Rattle.decimal.proofs.read_fraction.Goals as goal
 
 pub returns-then-rest-lt1 : goal.returns-then-rest-lt1
 returns-then-rest-lt1 c =
     let args = c.args in
-    ap Value c.value.ensures ∙ no_fraction args.minus args.whole.now args.rest.now c.if-rest-lt1.true
+    ap Some c.value.ensures ∙ no_fraction args.minus args.whole.now args.rest.now c.if-rest-lt1.true
 
 pub returns-then-rest-ne46 : goal.returns-then-rest-ne46
 returns-then-rest-ne46 c =
@@ -35,5 +35,5 @@ returns c =
     let rest = args.rest.now in
     let tail = from_place 1 rest in
     let good = ap is_fraction (sym tail) ∙ sym c.is_fraction.ensures ∙ c.if-not-is_fraction.false in
-    ap Value (c.value-2.ensures ∙ ap (λ (f : Text). value_of (decimal args.minus args.whole.now f)) tail)
+    ap Some (c.value-2.ensures ∙ ap (λ (f : Text). value_of (decimal args.minus args.whole.now f)) tail)
     ∙ good-fraction _ _ rest c.if-rest-lt1.false c.if-rest-ne46.false good

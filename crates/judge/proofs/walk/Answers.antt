@@ -9,22 +9,22 @@ loop-scratch-init c = turn-begin c.requires.1
 pub more-requires : goal.more-requires
 more-requires c = tt
 
-pub step-went-requires : goal.step-went-requires
-step-went-requires c = (c.more.ensures.0 c.loop-scratch-test.true, c.loop-scratch.invariant.some)
+pub step-requires : goal.step-requires
+step-requires c = (c.more.ensures.0 c.loop-scratch-test.true, c.loop-scratch.invariant.some)
 
 pub shape_of-scratch-in_default : goal.shape_of-scratch-in_default
-shape_of-scratch-in_default c = omega (arith, c.loop-scratch.invariant.long, c.step-went.auto.scratch)
+shape_of-scratch-in_default c = omega (arith, c.loop-scratch.invariant.long, c.step.auto.scratch)
 
 pub returns-in_default : goal.returns-in_default
-returns-in_default c = walked-stuck c.loop-scratch.invariant c.step-went.ensures c.in_default.is
+returns-in_default c = walked-stuck c.loop-scratch.invariant c.step.ensures c.in_default.is
 
 pub loop-scratch-smaller : goal.loop-scratch-smaller
 loop-scratch-smaller c =
-    (turn-falls c.loop-scratch.invariant c.step-went.ensures c.in-On.is).falls
+    (turn-falls c.loop-scratch.invariant c.step.ensures c.in-Some.is).falls
 
 pub loop-scratch-preserved : goal.loop-scratch-preserved
 loop-scratch-preserved c =
-    turn_on c.loop-scratch.invariant c.step-went.ensures c.in-On.is (omega (arith, c.step-went.auto.scratch))
+    turn_on c.loop-scratch.invariant c.step.ensures c.in-Some.is (omega (arith, c.step.auto.scratch))
 
 pub shape_of-scratch-then-list-h : goal.shape_of-scratch-then-list-h
 shape_of-scratch-then-list-h c = c.loop-scratch.invariant.long

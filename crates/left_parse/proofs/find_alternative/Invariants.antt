@@ -6,9 +6,7 @@ use Rattle.items.specs.Items.{Starts, Alternatives}
 use Rattle.left_parse.proofs.Items.{Rest, Counting}
 use Rattle.left_parse.proofs.find_alternative.Given as goal
 
-abbrev pub invariant-loop-a : goal.invariant-loop-a
-invariant-loop-a l = (g : Grammar) (starts : Starts) (ts : List (List Symbol)) → Alternatives l.table g starts l.first ts
-    → (l.number < length ts → Rest l.table g starts l.x l.a (get_or ts l.number [])) × Counting l.table g starts l.number l.x l.a (length ts)
-
-abbrev pub decreases-loop-a : goal.decreases-loop-a
-decreases-loop-a l = l.a
+abbrev pub invariant-loop : goal.invariant-loop
+invariant-loop l = (g : Grammar) (starts : Starts) (ts : List (List Symbol)) → Alternatives l.table g starts l.first ts
+    → (l.number < length ts → Rest l.table g starts l.x (l.number - l.counter) (get_or ts l.number []))
+    × Counting l.table g starts l.number l.x (l.number - l.counter) (length ts)

@@ -1,6 +1,5 @@
 use native.Mathlib.Omega.{arith}
 use mathlib.Core.Path.{refl}
-use Prim.Native.Nat.{◌-◌}
 use Rattle.left_parse.proofs.Items.{in_table, ahead-on, ahead-end, ahead-kind}
 use Rattle.left_parse.proofs.pass.Goals as goal
 

@@ -2,7 +2,6 @@ use Rattle.encode.proofs.Puts.{and_then}
 use Rattle.tidy_parts.specs.Parts.{tail_by}
 use Rattle.tidy_parts.proofs.put_after.Goals as goal
 
--- src/lib.rt:228:1
 pub returns : goal.returns
 unfolding tail_by
 returns c =

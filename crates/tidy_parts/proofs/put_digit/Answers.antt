@@ -5,7 +5,6 @@ use Rattle.encode.proofs.Puts.{wrote-bytes, wrote-text}
 use Rattle.tidy_parts.proofs.Parts.{enc-low}
 use Rattle.tidy_parts.proofs.put_digit.Goals as goal
 
--- src/lib.rt:39:1
 pub returns : goal.returns
 returns c =
     let e = c.lower_digit-digit.ensures in

@@ -5,13 +5,11 @@ use Rattle.encode.proofs.Puts.{wrote-bytes, wrote-text}
 use Rattle.tidy_parts.proofs.Parts.{in-quotes-quote, in-quotes-other}
 use Rattle.tidy_parts.proofs.put_in_quotes.Goals as goal
 
--- src/lib.rt:83:9
 pub returns-then-c-eq-QUOTE : goal.returns-then-c-eq-QUOTE
 unfolding enc utf8
 returns-then-c-eq-QUOTE c =
     wrote-text (in-quotes-quote c.args.c c.if-c-eq-QUOTE.true) (wrote-bytes _ c.put_all.ensures refl)
 
--- src/lib.rt:78:1
 pub returns : goal.returns
 returns c =
     wrote-text (in-quotes-other c.args.c c.if-c-eq-QUOTE.false) c.put_char.ensures

@@ -1,15 +1,8 @@
-use mathlib.Core.Path.{◌≡◌}
-use Prim.Native.Nat.{◌+◌, ◌≤◌}
-use lib.ListN.{length, take, drop}
+use lib.ListN.{take}
 use Rattle.text.specs.Lists.{concat_map}
 use Rattle.tidy.specs.Tidy.{quoted_char}
-use Rattle.encode.specs.Out.{state, puts, enc}
+use Rattle.encode.specs.Out.{Wrote}
 use Rattle.tidy_parts.proofs.put_quoted.Given as goal
 
-abbrev pub invariant-loop-n : goal.invariant-loop-n
-invariant-loop-n l =
-    (length l.out ≡ length l.initial.out) × (l.i + l.n ≤ length l.t) × (puts l.limit.0 (state l.q.0 l.out) (enc (concat_map quoted_char (take l.n (drop l.i l.t))))
-    ≡ puts l.limit.0 (state l.initial.q.0 l.initial.out) (enc (concat_map quoted_char (take l.count (drop l.from l.t)))))
-
-abbrev pub decreases-loop-n : goal.decreases-loop-n
-decreases-loop-n l = l.n
+abbrev pub invariant-loop-c : goal.invariant-loop-c
+invariant-loop-c l = Wrote l.limit.0 l.initial.q.0 l.initial.out l.q.0 l.out (concat_map quoted_char (take l.c-index l.text))

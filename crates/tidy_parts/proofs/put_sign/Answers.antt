@@ -5,12 +5,10 @@ use Rattle.encode.proofs.Puts.{wrote-bytes, wrote_none, wrote-text}
 use Rattle.tidy_parts.proofs.Parts.{sign-0, sign-1, sign-2, sign-3}
 use Rattle.tidy_parts.proofs.put_sign.Goals as goal
 
--- src/lib.rt:17:9
 pub returns-then-mark-eq-INCLUDED : goal.returns-then-mark-eq-INCLUDED
 unfolding enc utf8
 returns-then-mark-eq-INCLUDED c = wrote-text (sign-1 c.args.mark c.if-mark-eq-INCLUDED.true) (wrote-bytes _ c.put.ensures refl)
 
--- src/lib.rt:20:9
 pub returns-then-mark-eq-ATTRIBUTE : goal.returns-then-mark-eq-ATTRIBUTE
 unfolding enc utf8
 returns-then-mark-eq-ATTRIBUTE c =
@@ -19,7 +17,6 @@ returns-then-mark-eq-ATTRIBUTE c =
     c.if-mark-eq-ATTRIBUTE.true)
     (wrote-bytes _ c.put-then-mark-eq-ATTRIBUTE.ensures refl)
 
--- src/lib.rt:23:9
 pub returns-then-mark-eq-DELETED : goal.returns-then-mark-eq-DELETED
 unfolding enc utf8
 returns-then-mark-eq-DELETED c =
@@ -29,6 +26,5 @@ returns-then-mark-eq-DELETED c =
     c.if-mark-eq-DELETED.true)
     (wrote-bytes _ c.put-then-mark-eq-DELETED.ensures refl)
 
--- src/lib.rt:12:1
 pub returns : goal.returns
 returns c = wrote-text (sign-0 c.args.mark c.if-mark-eq-INCLUDED.false c.if-mark-eq-ATTRIBUTE.false c.if-mark-eq-DELETED.false) wrote_none

@@ -1,45 +1,35 @@
 use mathlib.Core.Path.{refl}
-use mathlib.Core.Bool.{true}
-use Prim.Native.Nat.{◌-◌}
 use native.Mathlib.Omega.{arith}
 use Rattle.tidy_text.proofs.Owed.{owed-next, owed_none, some_next, some-within, some-forward}
 use Rattle.tidy_text.proofs.put_grammar.Goals as goal
 
--- src/lib.rt:115:5
 pub loop-k-init : goal.loop-k-init
 loop-k-init c =
     (refl, c.requires.1, λ ts w f. record { tokens = ts; left = w; fit = f; owed = refl })
 
--- src/lib.rt:116:9
 pub put_between-pos-requires : goal.put_between-pos-requires
 put_between-pos-requires c =
     (omega (arith, c.requires.0, c.loop-k.invariant.0), c.loop-k.invariant.1, c.loop-k-test.true)
 
--- src/lib.rt:117:9
 pub put_token-pos-requires : goal.put_token-pos-requires
 put_token-pos-requires c =
     (omega (arith, c.requires.0, c.loop-k.invariant.0), some-within c.loop-k-test.true c.loop-k.invariant.1)
 
--- src/lib.rt:118:29
 pub bounds-t-k : goal.bounds-t-k
 bounds-t-k c =
     omega (arith, c.loop-k-test.true, c.loop-k.invariant.1.inside)
 
--- src/lib.rt:118:9
 pub begins_list-first-requires : goal.begins_list-first-requires
 begins_list-first-requires c = tt
 
--- src/lib.rt:119:9
 pub token_end-k-requires : goal.token_end-k-requires
 token_end-k-requires c =
     some-within c.loop-k-test.true c.loop-k.invariant.1
 
--- src/lib.rt:115:5
 pub loop-k-smaller : goal.loop-k-smaller
 loop-k-smaller c =
     omega (arith, c.loop-k-test.true, some-forward c.loop-k-test.true c.loop-k.invariant.1, c.token_end-k.ensures)
 
--- src/lib.rt:115:5
 pub loop-k-preserved : goal.loop-k-preserved
 loop-k-preserved c = (
   omega arith,
@@ -48,10 +38,8 @@ loop-k-preserved c = (
       c.put_between-pos.ensures c.put_token-pos.ensures c.begins_list-first.ensures c.token_end-k.ensures,
 )
 
--- src/lib.rt:107:1
 pub shape_of-out : goal.shape_of-out
 shape_of-out c = omega (arith, c.loop-k.invariant.0)
 
--- src/lib.rt:107:1
 pub returns : goal.returns
 returns c = λ ts w f. record { is = owed_none c.loop-k.invariant.1.inside c.loop-k-test.false (c.loop-k.invariant.2 ts w f) }

@@ -7,7 +7,6 @@ use Rattle.tidy_writer.specs.Parts.{end_at}
 use Rattle.tidy_parts.proofs.Parts.{enc-low}
 use Rattle.tidy_writer.proofs.put_range.Goals as goal
 
--- src/lib.rt:140:1
 pub returns : goal.returns
 returns c =
     let T = c.args.t.now in

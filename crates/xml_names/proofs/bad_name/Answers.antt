@@ -1,19 +1,7 @@
-use native.Mathlib.Omega.{arith}
-use mathlib.Core.Path.{sym, ap, ◌∙◌}
-use Rattle.xml.specs.Names.{name_start}
-use Rattle.xml_names.proofs.Names.{name-none, name-start, name-other}
+use mathlib.Core.Bool.{not}
+use mathlib.Core.Path.{ap, ◌∙◌}
+use Rattle.xml.specs.Names.{xml_name}
 use Rattle.xml_names.proofs.bad_name.Goals as goal
 
-pub returns-then-n-eq0 : goal.returns-then-n-eq0
-returns-then-n-eq0 c = λ k n N. name-none N (sym c.look-n.ensures.0 ∙ c.if-n-eq0.true)
-
-pub overflow_cast-first : goal.overflow_cast-first
-overflow_cast-first c = omega (arith, c.look-first.ensures.1)
-
-pub returns-then-name_start : goal.returns-then-name_start
-returns-then-name_start c =
-    λ k n N. c.some_odd.ensures ∙ name-start N c.look-n.result c.look-n.ensures.0 c.if-n-eq0.false
-    (ap name_start (sym c.look-first.ensures.0) ∙ sym c.name_start.ensures ∙ c.if-name_start.true)
-
 pub returns : goal.returns
-returns c = λ k n N. name-other N (ap name_start (sym c.look-first.ensures.0) ∙ sym c.name_start.ensures ∙ c.if-name_start.false)
+returns c = λ k n N. ap not (c.is_xml_name.ensures ∙ ap xml_name (c.name_of.ensures k n N))

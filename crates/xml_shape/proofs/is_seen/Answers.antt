@@ -1,4 +1,3 @@
-use Prim.Native.Nat.{◌-◌}
 use native.Mathlib.Omega.{arith}
 use Rattle.left_parse.proofs.Items.{named-holding}
 use Rattle.xml_shape.proofs.Laws.{searched-begin, searched-hit, searched-next, searched-end}

@@ -1,4 +1,5 @@
-use mathlib.Core.Path.{refl}
+use mathlib.Core.Path.{refl, ap}
+use mathlib.Core.Bool.{not}
 use native.Mathlib.Omega.{arith}
 use Rattle.xml.specs.Document.{none, attr, elem, not_one}
 use Rattle.cursor.proofs.Turns.{text-is, open_is, attribute-is, close-is}
@@ -37,7 +38,7 @@ loop-n-preserved-in-Open c = (
   omega (arith, c.loop-n.invariant.0),
   open-past (Sight _) c.loop-n.invariant.1 c.next-event.ensures
       c.in-Open.is c.past-at.ensures (Sight _)
-      (λ r k₀ k m n x N. sight-on (elem n x none) k c.one_more-sort.ensures),
+      (λ r k₀ k m n x N. sight-on (elem n x none) k c.one_more-shape.ensures),
 )
 
 pub past-at-requires-in-Attribute : goal.past-at-requires-in-Attribute
@@ -68,4 +69,4 @@ shape_of-scratch-in-End c = omega (arith, c.loop-n.invariant.0)
 pub returns-in-End : goal.returns-in-End
 returns-in-End c =
     judged not_one (c.requires) (λ r S₀ x A. let m = on-end (Sight _) c.loop-n.invariant.1 c.next-event.ensures
-    c.in-End.is r S₀ (Rattle.cursor.specs.Rest.row x) A in (m.0, sight-end m.1 _ refl))
+    c.in-End.is r S₀ (Rattle.cursor.specs.Rest.row x) A in (m.0, sight-end m.1 _ (ap not c.is_one.ensures)))
