@@ -35,9 +35,9 @@ use Rattle.tidy.specs.Call.{tidy_bytes, tidy_tests, Tidies, tidy_of}
 use Rattle.tidy.proofs.Answers.{tidy-answers}
 use Rattle.tidy.proofs.Same.{known-text}
 use Rattle.tidy_writer.specs.Walk.{SomeLeft}
-use Rattle.tidy_text.specs.declared.Tidied.{Tidied}
-use Rattle.tidy_text.specs.declared.Tidied.TheVariants.{Text as Tidied-text, Refused as Not-tidied}
-use Rattle.tidy_text.specs.Whole.{AllFit, Written, NotWritten, Concludes}
+use Rattle.std.specs.Prelude.{Result, Ok, Err}
+use Rattle.tidy_text.specs.declared.TidyError.{TidyError}
+use Rattle.tidy_text.specs.Whole.{error_number, AllFit, Written, NotWritten, Concludes}
 use Rattle.tidy_text.proofs.Fits.{grammar-fits}
 use Rattle.tidy_text.proofs.Encoded.{tidy-encoded}
 use Rattle.exported.specs.declared.Answer.{Answer}
@@ -93,7 +93,7 @@ module _ {bs U : List ℕ} {p : Rules} (y : Kept bs U p) where
   bytes-are : enc (scan true (grammar_tokens g)) ≡ tidy_bytes g
   bytes-are = tidy-encoded tree.0 g tree.2 (known-text bs g tree accepted)
 
-  module _ (old new : List ℕ) (v : Tidied) (h : (ts : List Token) → Left U p.end 0 ts → AllFit ts → Concludes (enc (scan true ts)) old new v) where
+  module _ (old new : List ℕ) (v : Result ℕ TidyError) (h : (ts : List Token) → Left U p.end 0 ts → AllFit ts → Concludes (enc (scan true ts)) old new v) where
     abbrev cells : List ℕ
     cells = tidy_bytes g
 
@@ -116,7 +116,7 @@ module _ {bs U : List ℕ} {p : Rules} (y : Kept bs U p) where
             → a ≡ refusal_of (record { why = plainly k; mismatch = false }) → TidiedAs bs old a old
         at k n e f z s r q = refused_as bs old (plainly n) (y.first (tidy_tests bs old) ∙ f) z s r a (q ∙ ap (λ (m : ℕ). refusal_of (record { why = plainly m; mismatch = false })) e)
 
-    tidied : (n : ℕ) (a : Answer) → v ≡ Tidied-text n → a ≡ done n false p.mismatch → TidiedAs bs old a new
+    tidied : (n : ℕ) (a : Answer) → v ≡ Ok n → a ≡ done n false p.mismatch → TidiedAs bs old a new
     unfolding tidy_of
     tidied n a e z =
         let w : Written cells old new n = subst (Concludes cells old new) e concludes in
@@ -140,6 +140,6 @@ tidy-given bs old U (Refused d) t new a h =
     rw h.1 (refused_as bs old d (t.first (tidy_tests bs old)) t.some (λ q. ⊎_elim (λ l. omega arith) (λ l. omega arith) t.early) t.places a h.0)
 tidy-given bs old U (A-grammar p) y new a h = go h.tidied h.concludes h.answer
   where
-    go : (v : Tidied) → ((ts : List Token) → Left U p.end 0 ts → AllFit ts → Concludes (enc (scan true ts)) old new v) → a ≡ tidied_of v p.mismatch → TidiedAs bs old a new
-    go (Tidied-text n) c z = tidied y old new (Tidied-text n) c n a refl z
-    go (Not-tidied k) c z = refused-at y old new (Not-tidied k) c k (concludes y old new (Not-tidied k) c) a z
+    go : (v : Result ℕ TidyError) → ((ts : List Token) → Left U p.end 0 ts → AllFit ts → Concludes (enc (scan true ts)) old new v) → a ≡ tidied_of v p.mismatch → TidiedAs bs old a new
+    go (Ok n) c z = tidied y old new (Ok n) c n a refl z
+    go (Err e) c z = refused-at y old new (Err e) c (error_number e) (concludes y old new (Err e) c) a z

@@ -25,11 +25,10 @@ use Rattle.answer.specs.Compute.{fault_in, value, places_at, job_values, Outcome
 use Rattle.answer.proofs.Noted.{value-skip, placeless}
 use Rattle.exported.specs.declared.Refusal.{Refusal}
 use Rattle.dynamic_errors.specs.Judgment.{topmost, judgment_of}
-use Rattle.convert.specs.declared.Converted.{Converted}
-use Rattle.convert.specs.declared.Converted.TheVariants.{Xml, Refused as Not-converted}
-use Rattle.convert.specs.Concluded.{Written, NotWritten, Concludes}
-use Rattle.convert.proofs.Conclusions.{written-case, refused-case}
-use Rattle.exported.specs.Exported.{shown}
+use Rattle.std.specs.Prelude.{Result, Ok, Err}
+use Rattle.convert.specs.declared.ConvertError.{ConvertError}
+use Rattle.convert.specs.Concluded.{refusal_number, Written, NotWritten, Concludes}
+use Rattle.exported.specs.Exported.{shown, refusal_of}
 use Rattle.outcome.specs.Outcome.{answer_of}
 use Rattle.outcome.proofs.Outcomes.{answering, refused-outcome, done-is}
 
@@ -125,7 +124,7 @@ module _ {c : Finder} {j : Job} {g : Grammar} {r : Text} {row : Row} (y : Spoken
       marks = version ∙ rw y.is
 
       not_written : (n : ℕ) → NotWritten cells (judgment_of g r row) old new n → (N : ℕ) → N ≡ first_of tests
-          → made N ≡ record { answer = shown (answer_of (Not-converted n) mark m); buffer = new }
+          → made N ≡ record { answer = shown (refusal_of (record { why = plainly n; mismatch = m })); buffer = new }
       not_written n u N f =
           let some : n ≡ 0 → ⊥ = λ z. ⊎_elim (λ p. p.1 z) (λ p. (let l = p.1 in omega arith)) u.why in
           let at : first_of tests ≡ n = ⊎_elim (λ p. failing (long_test_by c k as_xml j old ∷ []) n p.0 p.1)
@@ -136,17 +135,17 @@ module _ {c : Finder} {j : Job} {g : Grammar} {r : Text} {row : Row} (y : Spoken
           ∙ rw u.buffer refl
 
       written : (n : ℕ) → Written cells (judgment_of g r row) old new n → (N : ℕ) → N ≡ first_of tests
-          → made N ≡ record { answer = shown (answer_of (Xml n) mark m); buffer = new }
+          → made N ≡ record { answer = shown (answer_of (Ok n) mark m); buffer = new }
       written n u N f =
           let first = f ∙ passing (long_test_by c k as_xml j old ∷ []) u.allowed ∙ fits_in k as_xml old u.fits in
           ap made first ∙ ap (answering old (mismatch j.grammar)) (found-result k as_xml) ∙ ap (λ (b : Bool). answering old b (result_with k as_xml g r row)) (sym version)
           ∙ done-is old new cells m (k g r row) mark n u.buffer u.count marked
 
       -- whatever is concluded of it
-      pub concluded : (v : Converted) → Concludes g r row mark m old new v → (N : ℕ) → N ≡ first_of tests → made N ≡ record { answer = shown (answer_of v mark m); buffer = new }
+      pub concluded : (v : Result ℕ ConvertError) → Concludes g r row mark m old new v → (N : ℕ) → N ≡ first_of tests → made N ≡ record { answer = shown (answer_of v mark m); buffer = new }
       concluded v h = go v (subst (λ (b : Bool). Concludes g r row b (mismatched g) old new v) marked (subst (λ (b : Bool). Concludes g r row mark b old new v) marks h))
         where
-          go : (v : Converted) → Concludes g r row (k g r row) (mismatched g) old new v → (N : ℕ) → N ≡ first_of tests
+          go : (v : Result ℕ ConvertError) → Concludes g r row (k g r row) (mismatched g) old new v → (N : ℕ) → N ≡ first_of tests
               → made N ≡ record { answer = shown (answer_of v mark m); buffer = new }
-          go (Xml n) h = written n (written-case h refl)
-          go (Not-converted n) h = not_written n (refused-case h refl)
+          go (Ok n) h = written n (h.written n refl)
+          go (Err e) h = not_written (refusal_number e) (h.not_written e refl)

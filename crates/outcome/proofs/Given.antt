@@ -13,7 +13,7 @@ use Rattle.tokens.specs.Lengths.{Left}
 use Rattle.encode.specs.Out.{enc}
 use Rattle.tidy.specs.Scan.{scan}
 use Rattle.tidy_writer.specs.Walk.{SomeLeft}
-use Rattle.tidy_text.specs.declared.Tidied.{Tidied}
+use Rattle.tidy_text.specs.declared.TidyError.{TidyError}
 use Rattle.tidy_text.specs.Whole as tidy
 use Rattle.accept.specs.declared.Rules.{Rules}
 use Rattle.accept.specs.declared.Accepted.{Accepted}
@@ -23,7 +23,6 @@ use Rattle.derive.specs.Derive.{Row}
 use Rattle.job.specs.declared.LeftParse.{LeftParse}
 use Rattle.exported.specs.declared.Refusal.{Refusal}
 use Rattle.std.specs.Prelude.{Result, Ok, Err}
-use Rattle.convert.specs.declared.Converted.{Converted}
 use Rattle.convert.specs.Concluded.{Parsing, Concludes}
 use Rattle.exported.specs.declared.Answer.{Answer}
 use Rattle.exported.specs.Exported.{done, refusal_of}
@@ -40,6 +39,6 @@ module _ (q : Accepted) (T old : List ℕ) where
     pub tokened : Tokened q T → SomeLeft T p.end 0
     tokened h = subst (λ (x : Accepted). Tokened x T) e h
 
-    pub tidy-concluded : (new : List ℕ) (v : Tidied) (a : Answer)
+    pub tidy-concluded : (new : List ℕ) (v : Result ℕ TidyError) (a : Answer)
         → ((ts : List Token) → Left T p.end 0 ts → tidy.AllFit ts → tidy.Concludes (enc (scan true ts)) old new v) → a ≡ tidied_of v p.mismatch → GivesTidy q T old new a
     tidy-concluded new v a h z = subst (λ (x : Accepted). GivesTidy x T old new a) (sym e) (record { tidied = v; concludes = h; answer = z })

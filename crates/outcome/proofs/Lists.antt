@@ -11,7 +11,8 @@ use Rattle.tree.specs.Tree.{Grammar}
 use Rattle.derive.specs.Derive.{Row}
 use Rattle.judge.specs.Due.{Named}
 use Rattle.judge.specs.Tracks.{Asked, Judged}
-use Rattle.convert.specs.declared.Converted.{Converted}
+use Rattle.std.specs.Prelude.{Result}
+use Rattle.convert.specs.declared.ConvertError.{ConvertError}
 use Rattle.convert.specs.Concluded.{Parsing, Annotated, Concludes}
 use Rattle.exported.specs.declared.Answer.{Answer}
 use Rattle.exported.specs.Exported.{refusal_of}
@@ -38,7 +39,7 @@ module _ {T : List ℕ} {R : ℕ} {P : List ℕ} {r : Text} {S : List ℕ} (w : 
       noted = J.noted e;
     }
 
-    pub concluded-list : {m : Bool} {old new : List ℕ} {v : Converted} {a : Answer} → b ≡ true
+    pub concluded-list : {m : Bool} {old new : List ℕ} {v : Result ℕ ConvertError} {a : Answer} → b ≡ true
         → ((g : Grammar) (t : Row) → Parsing T R P r g t → Concludes g r t false m old new v) → a ≡ answer_of v false m → Concluded T R P r m old new a
     concluded-list {v = v} e h z = λ g s.
         let n : Named P g r = J.yes e g s.given in

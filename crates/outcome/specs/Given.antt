@@ -7,8 +7,7 @@ use Rattle.tokens.specs.Lengths.{Left}
 use Rattle.encode.specs.Out.{enc}
 use Rattle.tidy.specs.Scan.{scan}
 use Rattle.tidy_writer.specs.Walk.{SomeLeft}
-use Rattle.tidy_text.specs.declared.Tidied.{Tidied}
-use Rattle.tidy_text.specs.declared.Tidied.TheVariants.{Text as Tidy, Refused as Not-tidied}
+use Rattle.tidy_text.specs.declared.TidyError.{TidyError}
 use Rattle.tidy_text.specs.Whole as tidy
 use Rattle.accept.specs.declared.Rules.{Rules}
 use Rattle.accept.specs.declared.Accepted.{Accepted}
@@ -16,7 +15,7 @@ use Rattle.accept.specs.declared.Accepted.TheVariants.{Grammar as A-grammar, Ref
 use Rattle.derive.specs.Derive.{Row}
 use Rattle.job.specs.declared.LeftParse.{LeftParse}
 use Rattle.exported.specs.declared.Refusal.{Refusal}
-use Rattle.convert.specs.declared.Converted.{Converted}
+use Rattle.convert.specs.declared.ConvertError.{ConvertError}
 use Rattle.convert.specs.Concluded.{Parsing, Ready, Concludes}
 use Rattle.exported.specs.declared.Answer.{Answer}
 use Rattle.exported.specs.Exported.{done, refusal_of}
@@ -55,7 +54,7 @@ Named (Err k) T R P = Unit
 
 -- whatever derivation they name, this is concluded of it
 pub record Concluding (f : LeftParse) (T R P old new : List ℕ) (a : Answer) : Type 0 where
-  pub converted : Converted
+  pub converted : Result ℕ ConvertError
   pub concludes : (g : Grammar) (t : Row) → Parsing T f.root (take f.count P) (take f.chars.0 R) g t
       → Concludes g (take f.chars.0 R) t f.ambiguous f.mismatch old new converted
   pub answer : a ≡ answer_of converted f.ambiguous f.mismatch
@@ -69,13 +68,13 @@ abbrev pub Tokened : Accepted → List ℕ → Type 0
 Tokened (A-grammar p) T = SomeLeft T p.end 0
 Tokened (Not-accepted d) T = Unit
 
-abbrev pub tidied_of : Tidied → Bool → Answer
-tidied_of (Tidy n) m = done n false m
-tidied_of (Not-tidied k) m = refusal_of (record { why = plainly k; mismatch = false })
+abbrev pub tidied_of : Result ℕ TidyError → Bool → Answer
+tidied_of (Ok n) m = done n false m
+tidied_of (Err e) m = refusal_of (record { why = plainly (tidy.error_number e); mismatch = false })
 
 -- whatever tokens they are, this is concluded of them
 pub record Tidying (p : Rules) (T old new : List ℕ) (a : Answer) : Type 0 where
-  pub tidied : Tidied
+  pub tidied : Result ℕ TidyError
   pub concludes : (ts : List Token) → Left T p.end 0 ts → tidy.AllFit ts → tidy.Concludes (enc (scan true ts)) old new tidied
   pub answer : a ≡ tidied_of tidied p.mismatch
 

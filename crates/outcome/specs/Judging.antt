@@ -1,5 +1,5 @@
 -- A list that is judged, once none of 1 to 15 applies, nor 24.
-use Rattle.std.specs.Prelude.{Bool, false, ◌≡◌, List, ℕ}
+use Rattle.std.specs.Prelude.{Bool, false, ◌≡◌, List, ℕ, Result}
 use Rattle.text.specs.Lists.{Text}
 use Rattle.text.specs.Stages.{plainly}
 use Rattle.tree.specs.Tree.{Grammar}
@@ -8,7 +8,7 @@ use Rattle.derive.specs.Derive.{Row}
 use Rattle.items.specs.Items.{Reads}
 use Rattle.judge.specs.Due.{Named}
 use Rattle.judge.specs.Tracks.{Lent, Given}
-use Rattle.convert.specs.declared.Converted.{Converted}
+use Rattle.convert.specs.declared.ConvertError.{ConvertError}
 use Rattle.convert.specs.Concluded.{Concludes}
 use Rattle.exported.specs.declared.Answer.{Answer}
 use Rattle.exported.specs.Exported.{refusal_of}
@@ -29,7 +29,7 @@ pub record Accepted (g : Grammar) (P : List ℕ) (r : Text) (m : Bool) (old new 
   pub row : Row
   pub named : Named P g r
   pub is : named.0 ≡ row
-  pub converted : Converted
+  pub converted : Result ℕ ConvertError
   pub concludes : Concludes g r row false m old new converted
   pub answer : a ≡ answer_of converted false m
 

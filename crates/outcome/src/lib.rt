@@ -7,21 +7,25 @@ ghost use Rattle.outcome.specs.Given.{Counted, GivesNumbers, Named, GivesXml, To
 ghost use Rattle.outcome.specs.Judging.{Judgeable, Concluded};
 
 use accept::{Accepted, Rules};
-use convert::Converted;
+use convert::ConvertError;
 use exported::{Answer, Refusal, answered, refuse};
 use job::LeftParse;
 use markup::StateWords;
 use text::refusals;
-use tidy_text::Tidied;
+use tidy_text::TidyError;
 
 // The answer to XML that is written, or refused.
-pub fn answer_to(converted: Converted, ambiguous: bool, mismatch: bool) -> Answer
+pub fn answer_to(
+    converted: Result<usize, ConvertError>,
+    ambiguous: bool,
+    mismatch: bool,
+) -> Answer
     ensures { result ≡ answer_of converted ambiguous mismatch }
 {
     match converted {
-        Converted::Xml(length) => answered(length, ambiguous, mismatch),
-        Converted::Refused(number) => refuse(Refusal {
-            why: text::plain(number),
+        Ok(length) => answered(length, ambiguous, mismatch),
+        Err(error) => refuse(Refusal {
+            why: text::plain(error.number()),
             mismatch,
         }),
     }
@@ -105,15 +109,12 @@ pub fn conclude_list(
 }
 
 // The answer to tidy text that is written, or refused.
-fn answer_to_tidied(tidied: Tidied, mismatch: bool) -> Answer
+fn answer_to_tidied(tidied: Result<usize, TidyError>, mismatch: bool) -> Answer
     ensures { result ≡ tidied_of tidied mismatch }
 {
     match tidied {
-        Tidied::Text(length) => answered(length, false, mismatch),
-        Tidied::Refused(number) => refuse(Refusal {
-            why: text::plain(number),
-            mismatch: false,
-        }),
+        Ok(length) => answered(length, false, mismatch),
+        Err(error) => refuse(Refusal::from(text::plain(error.number()))),
     }
 }
 
