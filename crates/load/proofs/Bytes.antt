@@ -22,7 +22,6 @@ use Rattle.text.specs.Stages.{at_byte, plainly}
 use Rattle.text.proofs.Faults.{break-of}
 use Rattle.text.proofs.Decode.{some_bytes, decode-sound}
 use Rattle.tree.specs.Tree.{Grammar}
-use Rattle.syntax.specs.Parser.{parse}
 use Rattle.plain.specs.Static.{undefined, duplicate, beyond, banned, backwards, unclassed}
 use Rattle.plain.specs.Plain.{size}
 use Rattle.derive.specs.Yield.{unproductive}

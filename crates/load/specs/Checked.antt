@@ -1,5 +1,5 @@
 -- A grammar's tree in a table, and what checking it by the static rules and the size answers.
-use Rattle.std.specs.Prelude.{Bool, ◌≡◌, List, ◌∷◌, ℕ, ◌≤◌, ◌<◌, ltb, length, take}
+use Rattle.std.specs.Prelude.{◌≡◌, List, ◌∷◌, ℕ, ◌≤◌, ltb, length, take}
 use Rattle.text.specs.Limits.{grammar_bytes, most_size, grammar_table}
 use Rattle.text.specs.Lists.{Text, pick}
 use Rattle.text.specs.Stages.{StageAnswer, answered, refused, Settles}

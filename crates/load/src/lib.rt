@@ -9,7 +9,6 @@ ghost use Rattle.load.specs.Loaded.{Roomy, Reads, Loads};
 ghost use Rattle.text.specs.Limits.{grammar_table};
 
 use decode::Decoding;
-use reader::Reading;
 use static_errors::Ruling;
 use text::{BytePlace, CharPlace, Diagnostic, Places, limits, refusals};
 
@@ -96,8 +95,7 @@ pub fn read_text(text: &[u32], table: &mut [u32]) -> Loaded
     requires { Roomy text.now table.old }
     ensures { Reads text.now table.new (stage_of result) }
 {
-    let read = reader::read_grammar(text, table);
-    let Reading::Grammar(end) = read else {
+    let Some(end) = reader::read_grammar(text, table) else {
         return Loaded::Refused(text::plain(refusals::NOT_IXML));
     };
     check_tree(text, table, end.0)
