@@ -1,5 +1,5 @@
 -- From the stages' answers to the whole: characters, then bytes.
-use Rattle.std.specs.Prelude.{Some, None}
+use Rattle.std.specs.Prelude.{Some, None, Ok, Err}
 use mathlib.Core.Path.{◌≡◌, refl, sym, subst, ap}
 use mathlib.Core.List.{List}
 use Prim.Native.Nat.{ℕ, ◌≤◌}
@@ -13,9 +13,7 @@ use Rattle.syntax.proofs.Sound.{sound}
 use Rattle.places.specs.Tokens.{place_of}
 use Rattle.spacing.specs.declared.Cell.{Cell}
 use Rattle.reader.specs.Answers.{Readable, Held, Read-as}
-use Rattle.load.specs.declared.Loaded.{Loaded}
-use Rattle.load.specs.declared.Loaded.TheVariants.{Grammar as Accepted, Refused}
-use Rattle.load.specs.Checked.{Stands, Standing, at_character, place_for, Placed, TreeChecked, Passes, stage_of}
+use Rattle.load.specs.Checked.{Loaded, Stands, Standing, at_character, place_for, Placed, TreeChecked, Passes, stage_of}
 use Rattle.load.specs.Loaded.{Roomy, Reads, reads_none, reads-refused, reads-grammar}
 
 -- a refusal from 5 to 10, with its place; 11, which has none
@@ -44,7 +42,7 @@ standing s T b w l n =
     record { grammar = w.tree; parse = w.same; stands = stands s T b.0 w; chars = l; within = omega arith; short = omega arith }
 
 pub checked : (s : Text) (T : List ℕ) (b : Cell) → Read-as s (Some b) T → length s ≤ 4096 → (r : Loaded) → TreeChecked s T b.0 r → Reads s T (stage_of r)
-checked s T b w l (Accepted p) j =
+checked s T b w l (Ok p) j =
     let q = j w.tree (stands s T b.0 w) in
     let k = w.cells in
     let t = q.tokens in
@@ -55,6 +53,6 @@ checked s T b w l (Accepted p) j =
       inside = omega arith;
       passes = subst (λ (n : ℕ). Passes w.tree n p) (sym t) q;
     })
-checked s T b w l (Refused d) j =
+checked s T b w l (Err d) j =
     let k = j w.tree (stands s T b.0 w) in
     reads-refused {d = d} (record { holds = record { tree = w.tree; parse = w.same; refuses = k.holds }; place = k.place })

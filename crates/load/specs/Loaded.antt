@@ -13,8 +13,7 @@ use Rattle.answer.specs.Answer.{Places as Answered}
 use Rattle.answer.specs.Compute.{Test, test, first_of, tree_of, grammar_tests, mismatch, places_at, check_values}
 use Rattle.static_errors.specs.Held.{static_of}
 use Rattle.load.specs.declared.Passed.{Passed}
-use Rattle.load.specs.declared.Loaded.{Loaded}
-use Rattle.load.specs.Checked.{Stands, Passes, Refuses, Placed, stage_of}
+use Rattle.load.specs.Checked.{Loaded, Stands, Passes, Refuses, Placed, stage_of}
 
 -- the table is one that a grammar's characters have room in
 pub record Roomy (s : Text) (T : List ℕ) : Type 0 where
