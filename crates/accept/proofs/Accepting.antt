@@ -9,12 +9,11 @@ use lib.ListN.{length, take, drop, take-append-drop}
 use lib.Seq.{take-take}
 use Rattle.text.specs.Limits.{grammar_table, most_size}
 use Rattle.text.specs.Lists.{pick}
-use Rattle.text.specs.Stages.{diagnostic_of, plainly}
+use Rattle.text.specs.Stages.{plainly}
 use Rattle.text.specs.declared.Diagnostic.{Diagnostic}
 use Rattle.tree.specs.Tree.{Grammar}
 use Rattle.tree.specs.Tokens.{grammar_tokens}
 use Rattle.plain.specs.Static.{undefined, duplicate, beyond, banned, backwards, unclassed}
-use Rattle.plain.specs.Plain.{size}
 use Rattle.derive.specs.Yield.{unproductive}
 use Rattle.items.specs.Items.{Reads}
 use Rattle.items.specs.Built.{Built}
@@ -23,9 +22,6 @@ use Rattle.rules.specs.Ready.{Ready}
 use Rattle.rules.proofs.Sounds.{ready}
 use Rattle.static_errors.specs.Held.{static_of}
 use Rattle.load.specs.declared.Passed.{Passed}
-use Rattle.load.specs.declared.Loaded.{Loaded}
-use Rattle.load.specs.declared.Loaded.TheVariants.{Grammar as Standing, Refused as Turned-down}
-use Rattle.load.specs.Checked.{stage_of}
 use Rattle.load.specs.Loaded.{Loads, Turned}
 use Rattle.load.specs.Loaded as load
 use Rattle.load.proofs.Proper.{grammar-proper}
@@ -53,14 +49,7 @@ lawful g e = go (undefined g) (duplicate g) (beyond g) (banned g) (backwards g) 
     go false false false false false true p q r s e = absurd (let z : ◌≡◌ {A = ℕ} 10 0 = e in omega arith)
     go false false false false false false p q r s e = record { defined = p; simple = q; within = r; classed = s }
 
--- what loading refuses is refused
-pub turned : (bs T : List ℕ) (d : Loaded) (k n : Diagnostic) → d ≡ Turned-down k → n ≡ diagnostic_of (stage_of d) → Loads bs T d → Turned bs n
-turned bs T d k n q e l = subst (Turned bs) (sym (e ∙ ap (λ (x : Loaded). diagnostic_of (stage_of x)) q)) (subst (Loads bs T) q l)
-
-module _ (bs T : List ℕ) (d : Loaded) (p : Passed) (q : d ≡ Standing p) (l : Loads bs T d) where
-  pub loaded : load.Kept bs T p
-  loaded = subst (Loads bs T) q l
-
+module _ (bs T : List ℕ) (p : Passed) (loaded : load.Kept bs T p) where
   abbrev g : Grammar
   g = loaded.tree
 

@@ -1,5 +1,5 @@
 -- A grammar that no line up to 24 refuses: its plain rules stand in the table.
-use Rattle.std.specs.Prelude.{false, ◌≡◌, List, ℕ, ◌≤◌}
+use Rattle.std.specs.Prelude.{false, ◌≡◌, List, ℕ, ◌≤◌, Result, Ok, Err}
 use Rattle.text.specs.Limits.{most_size}
 use Rattle.text.specs.Stages.{StageAnswer, answered, refused, Settles}
 use Rattle.text.specs.declared.Diagnostic.{Diagnostic}
@@ -14,8 +14,6 @@ use Rattle.rules.specs.Ready.{Ready}
 use Rattle.load.specs.Checked.{Stands}
 use Rattle.load.specs.Loaded.{Turned}
 use Rattle.accept.specs.declared.Rules.{Rules}
-use Rattle.accept.specs.declared.Accepted.{Accepted}
-use Rattle.accept.specs.declared.Accepted.TheVariants.{Grammar as A-grammar, Refused}
 
 pub record Kept (bs T : List ℕ) (r : Rules) : Type 0 where
   pub tree : Grammar
@@ -30,10 +28,14 @@ pub record Kept (bs T : List ℕ) (r : Rules) : Type 0 where
   pub stands : Stands T r.end tree
   pub inside : r.end ≤ 12288
 
+-- what accepting answers: what a grammar's plain rules are like, or its refusal
+abbrev pub Accepted : Type 0
+Accepted = Result Rules Diagnostic
+
 -- document 01's number and values for each case
 abbrev pub stage_of : Accepted → StageAnswer Rules Diagnostic
-stage_of (A-grammar r) = answered r
-stage_of (Refused d) = refused d
+stage_of (Ok r) = answered r
+stage_of (Err d) = refused d
 
 abbrev pub Accepts : List ℕ → List ℕ → Accepted → Type 0
 Accepts bs T r = Settles (Kept bs T) (Turned bs) (stage_of r)

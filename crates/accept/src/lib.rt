@@ -3,10 +3,8 @@
 
 ghost use Rattle.std.specs.Prelude.{◌≡◌, length};
 ghost use Rattle.text.specs.Limits.{grammar_table};
-ghost use Rattle.text.specs.Stages.{diagnostic_of};
-ghost use Rattle.accept.specs.Accepted.{stage_of, Accepts};
+ghost use Rattle.accept.specs.Accepted.{Accepts};
 
-use load::Loaded;
 use text::{Diagnostic, refusals};
 
 // What the later stages need to know of an accepted grammar: the first item of the root's rule, its size, whether its version is another
@@ -19,37 +17,18 @@ pub struct Rules {
     pub end: usize,
 }
 
-#[derive(Clone, Copy)]
-pub enum Accepted {
-    Grammar(Rules),
-    Refused(Diagnostic),
-}
-
-// Why a grammar is not accepted.
-pub fn why_not_accepted(accepted: Accepted) -> Diagnostic
-    ensures { result ≡ diagnostic_of (stage_of accepted) }
-{
-    match accepted {
-        Accepted::Grammar(_) => text::plain(refusals::ANSWERED),
-        Accepted::Refused(diagnostic) => diagnostic,
-    }
-}
-
 // The tokens and the plain rules of a grammar's bytes in the table.
-pub fn accept_grammar(grammar: &[u8], table: &mut [u32]) -> Accepted
+pub fn accept_grammar(grammar: &[u8], table: &mut [u32]) -> Result<Rules, Diagnostic>
     requires { length table.old ≡ grammar_table }
     ensures { Accepts grammar.now table.new result }
 {
-    let loaded = load::load_grammar(grammar, table);
-    let Loaded::Grammar(passed) = loaded else {
-        return Accepted::Refused(load::why_not_loaded(loaded));
-    };
+    let passed = load::load_grammar(grammar, table)?;
     let size = text::wide(passed.size);
     let root = items::build_items(table, passed.end);
     if productive::some_unproductive(table, size, root) {
-        return Accepted::Refused(text::plain(refusals::UNPRODUCTIVE_RULE));
+        return Err(text::plain(refusals::UNPRODUCTIVE_RULE));
     }
-    Accepted::Grammar(Rules {
+    Ok(Rules {
         root,
         size,
         mismatch: passed.mismatch,

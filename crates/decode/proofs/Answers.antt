@@ -1,4 +1,5 @@
 -- What an answer of the decoder says of the text.
+use Rattle.std.specs.Prelude.{Ok, Err}
 use mathlib.Core.Bool.{Bool, true, false}
 use mathlib.Core.Path.{◌≡◌, refl, subst}
 use Prim.Native.Nat.{ℕ}
@@ -9,11 +10,10 @@ use Rattle.text.specs.Utf8.{known, Utf8}
 use Rattle.text.specs.Decode.{Decoded, text, not-utf8, decode, unmark}
 use Rattle.text.specs.Faults.{every, Breaks, after_mark}
 use Rattle.text.proofs.Decode.{decode-sound, decode-complete}
-use Rattle.decode.specs.declared.Decoding.{Decoding}
-use Rattle.decode.specs.declared.Decoding.TheVariants.{Of, CutShort, Malformed, Unknown}
+use Rattle.decode.specs.declared.DecodeError.TheVariants.{CutShort, Malformed, Unknown}
 use Rattle.text.specs.declared.CharPlace.{CharPlace}
 use Rattle.text.specs.declared.BytePlace.{BytePlace}
-use Rattle.decode.specs.Scan.{over}
+use Rattle.decode.specs.Scan.{Decoding, over}
 use Rattle.decode.specs.Whole.{Ends, of, cut_short, malformed, unknown, Decodes}
 use Rattle.text.proofs.Marks.{after-mark}
 use Rattle.decode.proofs.Whole.{not-broken, not-strange}
@@ -30,10 +30,10 @@ pub record Strange (d : Decoded) : Type 0 where
   pub outside : all known chars ≡ false
 
 pub data Tells (d : Decoded) : Decoding → Type 0 where
-  tells-of : {k : CharPlace} → Known d k.0 → Tells d (Of k)
-  tells-cut : {p : BytePlace} → d ≡ not-utf8 → Tells d (CutShort p)
-  tells-malformed : {p : BytePlace} → d ≡ not-utf8 → Tells d (Malformed p)
-  tells-unknown : {p : BytePlace} → Strange d → Tells d (Unknown p)
+  tells-of : {k : CharPlace} → Known d k.0 → Tells d (Ok k)
+  tells-cut : {p : BytePlace} → d ≡ not-utf8 → Tells d (Err (CutShort p))
+  tells-malformed : {p : BytePlace} → d ≡ not-utf8 → Tells d (Err (Malformed p))
+  tells-unknown : {p : BytePlace} → Strange d → Tells d (Err (Unknown p))
 
 pub record Told (d : Decoded) (old : List ℕ) (r : Decoding) (new : List ℕ) : Type 0 where
   pub tells : Tells d r

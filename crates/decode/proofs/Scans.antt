@@ -1,4 +1,5 @@
 -- A scan over the characters of a text, up to the first that breaks the pattern.
+use Rattle.std.specs.Prelude.{Ok, Err}
 use mathlib.Core.Path.{◌≡◌, refl, sym, ap, ◌∙◌}
 use mathlib.Core.Bool.{Bool, true, false}
 use mathlib.Core.List.{List, [], ◌∷◌, ◌++◌, append-nil, append_assoc}
@@ -13,9 +14,8 @@ use Rattle.text.specs.Faults.{Fits}
 use Rattle.text.proofs.Step.{step-sound}
 use Rattle.text.specs.declared.BytePlace.{BytePlace}
 use Rattle.text.specs.declared.CharPlace.{CharPlace}
-use Rattle.decode.specs.declared.Decoding.{Decoding}
-use Rattle.decode.specs.declared.Decoding.TheVariants.{Of, CutShort, Malformed, Unknown}
-use Rattle.decode.specs.Scan.{over, Stopped, at-end, at_cut, at-bad, at-unfit, Scans}
+use Rattle.decode.specs.declared.DecodeError.TheVariants.{CutShort, Malformed, Unknown}
+use Rattle.decode.specs.Scan.{Decoding, over, Stopped, at-end, at_cut, at-bad, at-unfit, Scans}
 
 pub over-nil : (old : List ℕ) → old ≡ over [] old
 over-nil old = rw (take-nil (length old))
@@ -72,21 +72,21 @@ module _ {f : ℕ → Bool} {bs : List ℕ} {from : ℕ} {old out : List ℕ} {i
         stopped = s;
       }
 
-  pub finish : length bs ≤ i → (k : CharPlace) → k.0 ≡ n → Scans f bs from old (Of k) out
-  finish h k e = stops (Of k) (at-end (e ∙ w.count) (drop_of_length-le bs h))
+  pub finish : length bs ≤ i → (k : CharPlace) → k.0 ≡ n → Scans f bs from old (Ok k) out
+  finish h k e = stops (Ok k) (at-end (e ∙ w.count) (drop_of_length-le bs h))
 
   module _ (h : i < length bs) (p : BytePlace) (e : p.0 ≡ i) where
     some : 0 < length (drop i bs)
     some = simp length-drop (omega arith)
 
-    pub cuts : char_of (drop i bs) ≡ cut → Scans f bs from old (CutShort p) out
-    cuts q = stops (CutShort p) (at_cut e some q)
+    pub cuts : char_of (drop i bs) ≡ cut → Scans f bs from old (Err (CutShort p)) out
+    cuts q = stops (Err (CutShort p)) (at_cut e some q)
 
-    pub breaks : char_of (drop i bs) ≡ bad → Scans f bs from old (Malformed p) out
-    breaks q = stops (Malformed p) (at-bad e some q)
+    pub breaks : char_of (drop i bs) ≡ bad → Scans f bs from old (Err (Malformed p)) out
+    breaks q = stops (Err (Malformed p)) (at-bad e some q)
 
-    pub unfit : (c k : ℕ) (t : List ℕ) → char_of (drop i bs) ≡ got c k t → false ≡ f c → Scans f bs from old (Unknown p) out
-    unfit c k t q z = stops (Unknown p) (at-unfit e q (sym z))
+    pub unfit : (c k : ℕ) (t : List ℕ) → char_of (drop i bs) ≡ got c k t → false ≡ f c → Scans f bs from old (Err (Unknown p)) out
+    unfit c k t q z = stops (Err (Unknown p)) (at-unfit e q (sym z))
 
   pub next : (c j : ℕ) → i < j → j ≤ length bs → char_of (drop i bs) ≡ got c (j - i) (drop j bs) → true ≡ f c → (new : List ℕ) → new ≡ set out n c
       → (m : ℕ) → m ≡ n + 1 → At f bs from old new j m

@@ -1,13 +1,11 @@
 -- A whole text, from two scans, UTF-8 first, then the alphabet; or from one, where all is of the alphabet.
+use Rattle.std.specs.Prelude.{Ok, Err}
 use mathlib.Core.Path.{◌≡◌, refl, sym, ap, ◌∙◌}
 use mathlib.Core.Bool.{Bool, true, false}
-use mathlib.Core.Logic.{⊎_elim}
 use mathlib.Core.List.{List, [], ◌∷◌, ◌++◌, append-nil}
-use Prim.Native.Nat.{ℕ, ◌+◌, ◌<◌}
+use Prim.Native.Nat.{ℕ, ◌<◌}
 use native.Mathlib.Omega.{arith}
 use lib.ListN.{length, drop, length-append}
-use denote.Enum.Declared.{tag_of}
-use types.Run.{OneOf}
 use Rattle.text.specs.Lists.{Text, all}
 use Rattle.text.specs.Utf8.{Scalar, utf8, utf8s, All, none, more, Utf8, known}
 use Rattle.text.specs.Decode.{got, cut, bad, char_of}
@@ -16,12 +14,11 @@ use Rattle.text.proofs.Tests.{clash}
 use Rattle.text.proofs.Step.{step-sound}
 use Rattle.text.proofs.Decode.{some_bytes, utf8-unique}
 use Rattle.text.proofs.Faults.{first-same, none-cut, none-bad, scalars, passing, fitting, past, one-break, not-both}
-use Rattle.decode.specs.contracts.Decoding.{the_type}
+use Rattle.decode.specs.declared.DecodeError.{DecodeError}
 use Rattle.text.specs.declared.BytePlace.{BytePlace}
 use Rattle.text.specs.declared.CharPlace.{CharPlace}
-use Rattle.decode.specs.declared.Decoding.{Decoding}
-use Rattle.decode.specs.declared.Decoding.TheVariants.{Of, CutShort, Malformed, Unknown}
-use Rattle.decode.specs.Scan.{over, Stopped, at-end, at_cut, at-bad, at-unfit, Scans}
+use Rattle.decode.specs.declared.DecodeError.TheVariants.{CutShort, Malformed, Unknown}
+use Rattle.decode.specs.Scan.{Decoding, over, Stopped, at-end, at_cut, at-bad, at-unfit, Scans}
 use Rattle.decode.specs.Whole.{Ends, of, cut_short, malformed, unknown, Decodes}
 use Rattle.decode.proofs.Cuts.{cut_step, step_cut}
 use Rattle.decode.proofs.Scans.{over-nil}
@@ -90,34 +87,34 @@ module _ {bs : List ℕ} {from : ℕ} {old new : List ℕ} {r : Decoding} (w : S
   left : List ℕ
   left = drop w.place bs
 
-  faults : {d : Decoding} → Stopped every (length w.chars) w.place left d → OneOf (1 ∷ 2 ∷ 3 ∷ []) (tag_of the_type d) → Ends bs from d × Breaks every bs from w.place
+  faults : {d : Decoding} → Stopped every (length w.chars) w.place left d → (x : DecodeError) → d ≡ Err x → Ends bs from d × Breaks every bs from w.place
   unfolding left
-  faults (at-end e l) h = absurd (⊎_elim (λ q. omega arith) (λ k. ⊎_elim (λ q. omega arith) (λ q. omega arith) k) h)
-  faults (at_cut {q = p} e l q) h = let b = cut-here w l q in (cut_short {p = p} (rw e b) (rw e (step_cut left l q)), b)
-  faults (at-bad {q = p} e l q) h =
+  faults (at-end e l) x h = absurd (let z : ◌≡◌ {A = ℕ} 0 1 = cc in omega arith)
+  faults (at_cut {q = p} e l q) x h = let b = cut-here w l q in (cut_short {p = p} (rw e b) (rw e (step_cut left l q)), b)
+  faults (at-bad {q = p} e l q) x h =
       let b = bad-here w l q in
-      (malformed {p = p} (rw e b) (rw e (λ x. let z : cut ≡ bad = sym (cut_step left x) ∙ q in let y : ◌≡◌ {A = ℕ} 0 1 = cc in omega arith)), b)
-  faults (at-unfit e q n) h = absurd (clash n refl)
+      (malformed {p = p} (rw e b) (rw e (λ y. let z : cut ≡ bad = sym (cut_step left y) ∙ q in let u : ◌≡◌ {A = ℕ} 0 1 = cc in omega arith)), b)
+  faults (at-unfit e q n) x h = absurd (clash n refl)
 
-  pub refused : OneOf (1 ∷ 2 ∷ 3 ∷ []) (tag_of the_type r) → Decodes bs from old r new
+  pub refused : (e : DecodeError) → r ≡ Err e → Decodes bs from old r new
   unfolding left
-  refused h =
-      let x = faults w.stopped h in
+  refused e h =
+      let x = faults w.stopped e h in
       record { answer = x.0; stored = λ cs u. absurd (not-broken bs from w.place cs u x.1) }
 
   -- none
-  pub utf8-read : (k : CharPlace) → r ≡ Of k → Utf8 (drop from bs) w.chars
+  pub utf8-read : (k : CharPlace) → r ≡ Ok k → Utf8 (drop from bs) w.chars
   unfolding left
   utf8-read k q = go w.stopped q
     where
-      go : {d : Decoding} → Stopped every (length w.chars) w.place left d → d ≡ Of k → Utf8 (drop from bs) w.chars
+      go : {d : Decoding} → Stopped every (length w.chars) w.place left d → d ≡ Ok k → Utf8 (drop from bs) w.chars
       go (at-end e l) f = to_end w l
       go (at_cut e l q) f = absurd (let z : ◌≡◌ {A = ℕ} 0 1 = cc in omega arith)
       go (at-bad e l q) f = absurd (let z : ◌≡◌ {A = ℕ} 0 1 = cc in omega arith)
       go (at-unfit e q n) f = absurd (clash n refl)
 
 -- then the alphabet
-module _ {bs : List ℕ} {from : ℕ} {old mid new : List ℕ} {k : Decoding} {r : Decoding} (x : Scans every bs from old k mid) (n : CharPlace) (q : k ≡ Of n)
+module _ {bs : List ℕ} {from : ℕ} {old mid new : List ℕ} {k : Decoding} {r : Decoding} (x : Scans every bs from old k mid) (n : CharPlace) (q : k ≡ Ok n)
     (w : Scans known bs from mid r new) where
   text : Utf8 (drop from bs) x.chars
   text = utf8-read x n q
@@ -146,10 +143,10 @@ over-more (c ∷ b) d (o ∷ old) = ap (◌∷◌ c) (over-more b d old)
 
 -- one scan for the alphabet: it reads all, or another stage begins anew
 module _ {bs : List ℕ} {from : ℕ} {old mid : List ℕ} {k : Decoding} (w : Scans known bs from old k mid) where
-  pub at_once : (n : CharPlace) → k ≡ Of n → Decodes bs from old k mid
+  pub at_once : (n : CharPlace) → k ≡ Ok n → Decodes bs from old k mid
   at_once n q = go w.stopped q
     where
-      go : {d : Decoding} → Stopped known (length w.chars) w.place (drop w.place bs) d → d ≡ Of n → Decodes bs from old d mid
+      go : {d : Decoding} → Stopped known (length w.chars) w.place (drop w.place bs) d → d ≡ Ok n → Decodes bs from old d mid
       go (at-end e l) f =
           let u = to_end w l in
           record {
@@ -177,19 +174,19 @@ same_byte p q e = λ ι. record { 0 = e ι }
 
 module _ (bs : List ℕ) (from : ℕ) where
   pub one_answer : {r s : Decoding} → Ends bs from r → Ends bs from s → r ≡ s
-  one_answer (of {n = n} cs u k e) (of {n = m} ds v l f) = ap Of (same-char n m (e ∙ ap length (utf8-unique (drop from bs) cs ds u v) ∙ sym f))
+  one_answer (of {n = n} cs u k e) (of {n = m} ds v l f) = ap Ok (same-char n m (e ∙ ap length (utf8-unique (drop from bs) cs ds u v) ∙ sym f))
   one_answer (of cs u k e) (cut_short {p = p} b c) = absurd (not-broken bs from p.0 cs u b)
   one_answer (of cs u k e) (malformed {p = p} b c) = absurd (not-broken bs from p.0 cs u b)
   one_answer (of cs u k e) (unknown {p = p} ds v b) = absurd (not-strange bs from p.0 cs u k b)
   one_answer (cut_short {p = p} b c) (of cs u k e) = absurd (not-broken bs from p.0 cs u b)
-  one_answer (cut_short {p = p} b c) (cut_short {p = q} d f) = ap CutShort (same_byte p q (one-break every bs from p.0 q.0 b d))
+  one_answer (cut_short {p = p} b c) (cut_short {p = q} d f) = ap (λ (z : BytePlace). Err (CutShort z)) (same_byte p q (one-break every bs from p.0 q.0 b d))
   one_answer (cut_short {p = p} b c) (malformed {p = q} d f) = absurd (f (rw (one-break every bs from p.0 q.0 b d) at c))
   one_answer (cut_short {p = p} b c) (unknown ds v d) = absurd (not-broken bs from p.0 ds v b)
   one_answer (malformed {p = p} b c) (of cs u k e) = absurd (not-broken bs from p.0 cs u b)
   one_answer (malformed {p = p} b c) (cut_short {p = q} d f) = absurd (c (rw (one-break every bs from q.0 p.0 d b) at f))
-  one_answer (malformed {p = p} b c) (malformed {p = q} d f) = ap Malformed (same_byte p q (one-break every bs from p.0 q.0 b d))
+  one_answer (malformed {p = p} b c) (malformed {p = q} d f) = ap (λ (z : BytePlace). Err (Malformed z)) (same_byte p q (one-break every bs from p.0 q.0 b d))
   one_answer (malformed {p = p} b c) (unknown ds v d) = absurd (not-broken bs from p.0 ds v b)
   one_answer (unknown {p = p} cs u b) (of ds v k e) = absurd (not-strange bs from p.0 ds v k b)
   one_answer (unknown cs u b) (cut_short {p = q} d f) = absurd (not-broken bs from q.0 cs u d)
   one_answer (unknown cs u b) (malformed {p = q} d f) = absurd (not-broken bs from q.0 cs u d)
-  one_answer (unknown {p = p} cs u b) (unknown {p = q} ds v d) = ap Unknown (same_byte p q (one-break known bs from p.0 q.0 b d))
+  one_answer (unknown {p = p} cs u b) (unknown {p = q} ds v d) = ap (λ (z : BytePlace). Err (Unknown z)) (same_byte p q (one-break known bs from p.0 q.0 b d))

@@ -1,13 +1,13 @@
 -- What a scan answers: how far it read, and why it stopped there.
-use Rattle.std.specs.Prelude.{Bool, false, ◌≡◌, List, [], ◌++◌, ℕ, ◌+◌, ◌<◌, length, take, drop}
+use Rattle.std.specs.Prelude.{Bool, false, ◌≡◌, List, [], ◌++◌, ℕ, ◌+◌, ◌<◌, length, take, drop, Result, Ok, Err}
 use Rattle.text.specs.Lists.{Text}
 use Rattle.text.specs.Utf8.{utf8s, All, known}
 use Rattle.text.specs.Decode.{got, cut, bad, char_of}
 use Rattle.text.specs.Faults.{Fits, every}
 use Rattle.decode.specs.declared.Pattern.{Pattern}
 use Rattle.decode.specs.declared.Pattern.TheVariants.{Utf8, Alphabet}
-use Rattle.decode.specs.declared.Decoding.{Decoding}
-use Rattle.decode.specs.declared.Decoding.TheVariants.{Of, CutShort, Malformed, Unknown}
+use Rattle.decode.specs.declared.DecodeError.{DecodeError}
+use Rattle.decode.specs.declared.DecodeError.TheVariants.{CutShort, Malformed, Unknown}
 use Rattle.text.specs.declared.CharPlace.{CharPlace}
 use Rattle.text.specs.declared.BytePlace.{BytePlace}
 
@@ -20,12 +20,16 @@ test_of Alphabet = known
 abbrev pub over : Text → List ℕ → List ℕ
 over cs old = take (length old) cs ++ drop (length cs) old
 
+-- how many characters there are, or why a text is not decoded
+abbrev pub Decoding : Type 0
+Decoding = Result CharPlace DecodeError
+
 -- why reading stops after n characters at the byte place p, where the bytes are left
 pub data Stopped (f : ℕ → Bool) (n p : ℕ) (rest : List ℕ) : Decoding → Type 0 where
-  at-end : {k : CharPlace} → k.0 ≡ n → rest ≡ [] → Stopped f n p rest (Of k)
-  at_cut : {q : BytePlace} → q.0 ≡ p → 0 < length rest → char_of rest ≡ cut → Stopped f n p rest (CutShort q)
-  at-bad : {q : BytePlace} → q.0 ≡ p → 0 < length rest → char_of rest ≡ bad → Stopped f n p rest (Malformed q)
-  at-unfit : {q : BytePlace} {c k : ℕ} {t : List ℕ} → q.0 ≡ p → char_of rest ≡ got c k t → f c ≡ false → Stopped f n p rest (Unknown q)
+  at-end : {k : CharPlace} → k.0 ≡ n → rest ≡ [] → Stopped f n p rest (Ok k)
+  at_cut : {q : BytePlace} → q.0 ≡ p → 0 < length rest → char_of rest ≡ cut → Stopped f n p rest (Err (CutShort q))
+  at-bad : {q : BytePlace} → q.0 ≡ p → 0 < length rest → char_of rest ≡ bad → Stopped f n p rest (Err (Malformed q))
+  at-unfit : {q : BytePlace} {c k : ℕ} {t : List ℕ} → q.0 ≡ p → char_of rest ≡ got c k t → f c ≡ false → Stopped f n p rest (Err (Unknown q))
 
 pub record Scans (f : ℕ → Bool) (bs : List ℕ) (from : ℕ) (old : List ℕ) (r : Decoding) (new : List ℕ) : Type 0 where
   pub chars : Text

@@ -1,5 +1,5 @@
 -- The bytes of one character: what its first byte says, and one byte more.
-use Rattle.std.specs.Prelude.{List, ℕ, zero, suc, ◌+◌, ◌*◌, ◌-◌, ◌<◌, ◌≤◌, ltb}
+use Rattle.std.specs.Prelude.{ℕ, ◌+◌, ◌*◌, ◌-◌, ◌<◌, ◌≤◌, ltb}
 use Rattle.text.specs.Lists.{pick}
 use Rattle.text.specs.Decode.{second_low, second_high}
 use Rattle.decode.specs.declared.sequence.Sequence.{Sequence}

@@ -20,14 +20,25 @@ enum Pattern {
     Alphabet,
 }
 
-// A text: how many characters, all of the alphabet. Or the byte place of the first that breaks UTF-8, by what is wrong with it; or,
-// of UTF-8, that of the first outside the alphabet.
+// Why a text is not decoded: the byte place of the first character that breaks UTF-8, by what is wrong with it; or, of UTF-8, that of
+// the first outside the alphabet.
 #[derive(Clone, Copy)]
-pub enum Decoding {
-    Of(CharPlace),
+pub enum DecodeError {
     CutShort(BytePlace),
     Malformed(BytePlace),
     Unknown(BytePlace),
+}
+
+impl DecodeError {
+    // The refusal, by the numbers for what is not UTF-8 and for a character outside the alphabet.
+    pub fn diagnostic(self, malformed: u32, outside: u32) -> Diagnostic
+        ensures { result ≡ why_of malformed outside self }
+    {
+        match self {
+            DecodeError::CutShort(p) | DecodeError::Malformed(p) => text::at_byte(malformed, p),
+            DecodeError::Unknown(p) => text::at_byte(outside, p),
+        }
+    }
 }
 
 // The place after the byte at a place.
@@ -66,70 +77,69 @@ fn keep(out: &mut [u32], at: CharPlace, code: u32)
     }
 }
 
-// The characters from a byte place on, stored as far as out has room, up to the first that breaks the pattern.
-fn scan(bytes: &[u8], from: BytePlace, pattern: Pattern, out: &mut [u32]) -> Decoding
+// The characters from a byte place on, counted, and stored as far as out has room, up to the first that breaks the pattern.
+fn scan(
+    bytes: &[u8],
+    from: BytePlace,
+    pattern: Pattern,
+    out: &mut [u32],
+) -> Result<CharPlace, DecodeError>
     requires { from.0 ≤ length bytes.now }
     ensures { Scans (test_of pattern) bytes.now from.0 out.old result out.new }
 {
     let mut at = from;
     let mut n = CharPlace(0);
-    'characters: loop {
+    while at.0 < bytes.len() {
         let i = at.0;
-        if bytes.len() <= i {
-            break 'characters Decoding::Of(n);
-        }
         let mut s = lead_of(bytes[i]);
         if s.more == NEVER {
-            break 'characters Decoding::Malformed(at);
+            return Err(DecodeError::Malformed(at));
         }
         let mut next = after_byte(at);
         while 0 < s.more {
             let j = next.0;
             if bytes.len() <= j {
-                break 'characters Decoding::CutShort(at);
+                return Err(DecodeError::CutShort(at));
             }
             let b = bytes[j];
             if !follows(s, b) {
-                break 'characters Decoding::Malformed(at);
+                return Err(DecodeError::Malformed(at));
             }
             s = with_byte(s, b);
             next = after_byte(next);
         }
         if !fits(pattern, s.bits) {
-            break 'characters Decoding::Unknown(at);
+            return Err(DecodeError::Unknown(at));
         }
         keep(out, n, s.bits);
         n = after(n);
         at = next;
     }
+    Ok(n)
 }
 
 // UTF-8 is judged over the whole text, then the alphabet.
-fn decode_in_turn(bytes: &[u8], from: BytePlace, out: &mut [u32]) -> Decoding
+fn decode_in_turn(bytes: &[u8], from: BytePlace, out: &mut [u32]) -> Result<CharPlace, DecodeError>
     requires { from.0 ≤ length bytes.now }
     ensures { Decodes bytes.now from.0 out.old result out.new }
 {
-    let whole = scan(bytes, from, Pattern::Utf8, out);
-    let Decoding::Of(_) = whole else {
-        return whole;
-    };
+    scan(bytes, from, Pattern::Utf8, out)?;
     scan(bytes, from, Pattern::Alphabet, out)
 }
 
 // The same, by one scan where all is of the alphabet.
-fn decode_from(bytes: &[u8], from: BytePlace, out: &mut [u32]) -> Decoding
+fn decode_from(bytes: &[u8], from: BytePlace, out: &mut [u32]) -> Result<CharPlace, DecodeError>
     requires { from.0 ≤ length bytes.now }
     ensures { Decodes bytes.now from.0 out.old result out.new }
 {
-    let known = scan(bytes, from, Pattern::Alphabet, out);
-    let Decoding::Of(_) = known else {
-        return decode_in_turn(bytes, from, out);
-    };
-    known
+    match scan(bytes, from, Pattern::Alphabet, out) {
+        Ok(n) => Ok(n),
+        Err(_) => decode_in_turn(bytes, from, out),
+    }
 }
 
-// The characters of a text, stored as far as out has room, all counted.
-pub fn decode_text(bytes: &[u8], out: &mut [u32]) -> Decoding
+// The characters of a text, all of the alphabet, counted; stored as far as out has room.
+pub fn decode_text(bytes: &[u8], out: &mut [u32]) -> Result<CharPlace, DecodeError>
     ensures { Decodes bytes.now 0 out.old result out.new }
 {
     decode_from(bytes, BytePlace(0), out)
@@ -139,19 +149,7 @@ pub fn decode_text(bytes: &[u8], out: &mut [u32]) -> Decoding
 fn marked(bytes: &[u8]) -> bool
     ensures { result ≡ begun bytes.now }
 {
-    if bytes.len() < 3 {
-        return false;
-    }
-    if bytes[0] != 0xef {
-        return false;
-    }
-    if bytes[1] != 0xbb {
-        return false;
-    }
-    if bytes[2] != 0xbf {
-        return false;
-    }
-    true
+    3 <= bytes.len() && bytes[0] == 0xef && bytes[1] == 0xbb && bytes[2] == 0xbf
 }
 
 // Where a grammar's characters begin: an initial byte order mark is skipped, once.
@@ -159,26 +157,15 @@ fn after_mark(bytes: &[u8]) -> BytePlace
     ensures { result.0 ≡ after_mark bytes.now }
 {
     if marked(bytes) {
-        return BytePlace(3);
+        BytePlace(3)
+    } else {
+        BytePlace(0)
     }
-    BytePlace(0)
 }
 
 // The same of a grammar's text. Its places count from the first byte too.
-pub fn decode_grammar(bytes: &[u8], out: &mut [u32]) -> Decoding
+pub fn decode_grammar(bytes: &[u8], out: &mut [u32]) -> Result<CharPlace, DecodeError>
     ensures { Decodes bytes.now (after_mark bytes.now) out.old result out.new }
 {
     decode_from(bytes, after_mark(bytes), out)
-}
-
-// The refusal of a text that is not decoded, by the numbers for what is not UTF-8 and for a character outside the alphabet.
-pub fn why_refused(decoded: Decoding, malformed: u32, outside: u32) -> Diagnostic
-    ensures { result ≡ why_of malformed outside decoded }
-{
-    match decoded {
-        Decoding::Of(_) => text::plain(text::refusals::ANSWERED),
-        Decoding::CutShort(p) => text::at_byte(malformed, p),
-        Decoding::Malformed(p) => text::at_byte(malformed, p),
-        Decoding::Unknown(p) => text::at_byte(outside, p),
-    }
 }

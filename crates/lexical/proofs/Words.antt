@@ -1,4 +1,5 @@
 -- Strings, hex numbers, names and marks: each answer from the answers of what it calls.
+use Rattle.std.specs.Prelude.{Some}
 use mathlib.Core.Bool.{true, false}
 use mathlib.Core.Path.{◌≡◌, refl, ap, ◌∙◌}
 use mathlib.Core.List.{List, [], ◌∷◌, ◌++◌}
@@ -6,6 +7,7 @@ use Prim.Native.Nat.{ℕ, ◌+◌, ◌-◌, ◌<◌, ◌≤◌}
 use native.Mathlib.Omega.{arith}
 use lib.ListN.{length, drop, take, set}
 use Rattle.text.specs.Lists.{Text}
+use Rattle.text.specs.declared.CharPlace.{CharPlace}
 use Rattle.tree.specs.Tree.{string, hex, unmarked}
 use Rattle.tree.specs.Tokens.{mark_number}
 use Rattle.syntax.specs.Syntax.{ch, quote, digit, is_mark, mark_of, namestart, namefollower}
@@ -13,14 +15,11 @@ use Rattle.syntax.specs.Result.{Result, ok, fail, hd, tl, map, when, guard, expe
 use Rattle.syntax.specs.Spacing.{skip, spaced}
 use Rattle.syntax.specs.Lexical.{quoted, nonempty, read-string, digits, read-hex, read-chars, run, read_name, read-mark}
 use Rattle.syntax.proofs.Classes.{clash, quote-end, mark-end, namestart-end}
-use Rattle.spacing.specs.declared.Step.{Step}
-use Rattle.spacing.specs.declared.Step.TheVariants.{At, No}
-use Rattle.lexical.specs.declared.Number.{Number}
-use Rattle.lexical.specs.declared.Number.TheVariants.{Value, No as Number-no}
 use Rattle.lexical.specs.declared.Characters.{Characters}
-use Rattle.lexical.specs.declared.Characters.TheVariants.{Quoted, Coded, No as Characters-no}
+use Rattle.lexical.specs.declared.Characters.TheVariants.{Quoted, Coded}
+use Rattle.spacing.specs.declared.Cell.{Cell}
 use Rattle.spacing.specs.Answers.{Skipped, Room, Read, headed}
-use Rattle.lexical.specs.Answers.{Space, Copied, Hexed, After-number, Coding, After-chars, chars_code, Headable, Tokenable, Chars-token, counted_code, After-chars-token, Mark-read}
+use Rattle.lexical.specs.Answers.{Space, Copied, Hexed, Coding, After-chars, chars_code, Headable, Tokenable, Chars-token, counted_code, After-chars-token, Mark-read}
 use Rattle.spacing.proofs.Places.{tl-at, in-text, tested}
 use Rattle.spacing.proofs.Table.{two-numbers, head-before}
 
@@ -30,11 +29,10 @@ module _ (s : Text) (p : ℕ) (h : ch 0x23 (hd (drop p s)) ≡ true) where
   unfolding read-hex expect guard
   hex-none e = rw (h, tl-at s p, e)
 
-  pub hex-some : (e : digit (hd (drop (p + 1) s)) ≡ true) (r : Number) → After-number (λ x. digits 0 (drop (p + 1) s) ≡ x) s (p + 1) r
-      → After-number (λ x. read-hex (drop p s) ≡ x) s (p + 1) r
+  pub hex-some : (e : digit (hd (drop (p + 1) s)) ≡ true) (q v : ℕ) → Hexed (λ x. digits 0 (drop (p + 1) s) ≡ x) s (p + 1) q v
+      → Hexed (λ x. read-hex (drop p s) ≡ x) s (p + 1) q v
   unfolding read-hex expect guard
-  hex-some e (Value q v) a = record { value = a.value; same = rw (h, tl-at s p, e) a.same; onward = a.onward; held = a.held }
-  hex-some e Number-no a = rw (h, tl-at s p, e) a
+  hex-some e q v a = record { value = a.value; same = rw (h, tl-at s p, e) a.same; onward = a.onward; held = a.held }
 
 -- a string
 pub string-none : (s : Text) (p : ℕ) → quote (hd (drop p s)) ≡ false → read-string (drop p s) ≡ fail
@@ -127,10 +125,9 @@ module _ (s : Text) (p : ℕ) (o : List ℕ) (at : ℕ) (r : Room s p o at) (m :
   coded-room : (q v : ℕ) → Coding s p q v o m → at + 2 ≤ length m
   coded-room q v a = let j = a.number.onward in let i = r.cells in omega arith
 
-  pub tokenable : (c : Characters) → After-chars s p o (at + 2) c m → Tokenable c m at
+  pub tokenable : (c : Characters) → After-chars s p o (at + 2) (Some c) m → Tokenable c m at
   tokenable (Quoted q b) a = headable (λ x. read-chars (drop p s) ≡ map string x) 2 q.0 b.0 a (quoted-on (λ x. read-chars (drop p s) ≡ map string x) q.0 b.0 a)
   tokenable (Coded q v) a = coded-room q.0 v a
-  tokenable Characters-no a = tt
 
   quoted-token : (q b k l : ℕ) (o' : List ℕ) → Copied (λ x. read-chars (drop p s) ≡ map string x) s p 2 o (at + 2) m q b → o' ≡ headed m at k b
       → Read (λ x. read-chars (drop p s) ≡ x) (chars_code k l) s p (p + 1) o at o' q b
@@ -149,13 +146,10 @@ module _ (s : Text) (p : ℕ) (o : List ℕ) (at : ℕ) (r : Room s p o at) (m :
     cells = omega arith;
   }
 
-  pub chars-tokened : (k l : ℕ) (c : Characters) → After-chars s p o (at + 2) c m → (t : Step) (o' : List ℕ) → Chars-token c k l m at t o' → After-chars-token k l s p o at t o'
-  chars-tokened k l (Quoted q b) a (At x y) o' w = rw (w.step.0, w.step.1) (quoted-token q.0 b.0 k l o' a w.table)
-  chars-tokened k l (Quoted q b) a No o' w = absurd w.step
-  chars-tokened k l (Coded q v) a (At x y) o' w = rw (w.step.0, w.step.1) (coded-token q.0 v k l o' a w.table)
-  chars-tokened k l (Coded q v) a No o' w = absurd w.step
-  chars-tokened k l Characters-no a (At x y) o' w = absurd w
-  chars-tokened k l Characters-no a No o' w = a
+  pub chars-tokened : (k l : ℕ) (c : Characters) → After-chars s p o (at + 2) (Some c) m → (t : CharPlace × Cell) (o' : List ℕ)
+      → Chars-token c k l m at t o' → After-chars-token k l s p o at (Some t) o'
+  chars-tokened k l (Quoted q b) a t o' w = rw (w.place, w.cell) (quoted-token q.0 b.0 k l o' a w.table)
+  chars-tokened k l (Coded q v) a t o' w = rw (w.place, w.cell) (coded-token q.0 v k l o' a w.table)
 
 -- a name
 pub no_name : (s : Text) (p : ℕ) → namestart (hd (drop p s)) ≡ false → read_name (drop p s) ≡ fail

@@ -14,49 +14,26 @@ use crate::numbers::hex;
 use crate::strings::string;
 use decode::{CharPlace, after};
 pub use names::{name, used_name};
-use spacing::{Cell, NUMBER_SIGN, Past, Step, is_mark, mark_number, peek, skip};
-
-// Where a run of characters ends.
-#[derive(Clone, Copy)]
-pub struct Run(pub CharPlace, pub Cell);
-
-// A hex number, capped, and where it ends.
-#[derive(Clone, Copy)]
-pub enum Number {
-    Value(CharPlace, u32),
-    No,
-}
+use spacing::{Cell, NUMBER_SIGN, is_mark, mark_number, peek, skip};
 
 // Characters: a string, which stands in the table, or a hex number.
 #[derive(Clone, Copy)]
 pub enum Characters {
     Quoted(CharPlace, Cell),
     Coded(CharPlace, u32),
-    No,
-}
-
-// The number of a mark, and where it ends.
-#[derive(Clone, Copy)]
-pub enum Marked {
-    At(CharPlace, u32),
-    No,
 }
 
 // A string or a hex number.
-pub fn chars(text: &[u32], p: CharPlace, out: &mut [u32], at: Cell) -> Characters
+pub fn chars(text: &[u32], p: CharPlace, out: &mut [u32], at: Cell) -> Option<Characters>
     requires { Space text.now p.0 1 out.old at.0 }
     ensures { After-chars text.now p.0 out.old at.0 result out.new }
 {
     if peek(text, p) == NUMBER_SIGN {
-        let Number::Value(q, v) = hex(text, p) else {
-            return Characters::No;
-        };
-        return Characters::Coded(q, v);
+        let (q, v) = hex(text, p)?;
+        return Some(Characters::Coded(q, v));
     }
-    let Step::At(q, b) = string(text, p, out, at) else {
-        return Characters::No;
-    };
-    Characters::Quoted(q, b)
+    let (q, b) = string(text, p, out, at)?;
+    Some(Characters::Quoted(q, b))
 }
 
 // The cells of a token before its characters: its kind, and their count or a hex number's value.
@@ -73,23 +50,28 @@ pub fn head(out: &mut [u32], at: Cell, k: u32, end: Cell)
     out[j + 1] = (b - (j + HEAD)) as u32;
 }
 
-// A token for characters.
-pub fn chars_token(c: Characters, quoted: u32, coded: u32, out: &mut [u32], at: Cell) -> Step
+// A token for characters; where they end in the text, and it in the table.
+pub fn chars_token(
+    c: Characters,
+    quoted: u32,
+    coded: u32,
+    out: &mut [u32],
+    at: Cell,
+) -> (CharPlace, Cell)
     requires { Tokenable c out.old at.0 }
     ensures { Chars-token c quoted coded out.old at.0 result out.new }
 {
     match c {
         Characters::Quoted(q, b) => {
             head(out, at, quoted, b);
-            Step::At(q, b)
+            (q, b)
         }
         Characters::Coded(q, v) => {
             let j = at.0;
             out[j] = coded;
             out[j + 1] = v;
-            Step::At(q, Cell(j + HEAD))
+            (q, Cell(j + HEAD))
         }
-        Characters::No => Step::No,
     }
 }
 
@@ -101,39 +83,41 @@ pub fn read_chars(
     coded: u32,
     out: &mut [u32],
     at: Cell,
-) -> Step
+) -> Option<(CharPlace, Cell)>
     requires { Room text.now p.0 out.old at.0 }
     ensures { After-chars-token quoted coded text.now p.0 out.old at.0 result out.new }
 {
     let j = at.0;
-    let c = chars(text, p, out, Cell(j + HEAD));
-    chars_token(c, quoted, coded, out, at)
+    let c = chars(text, p, out, Cell(j + HEAD))?;
+    Some(chars_token(c, quoted, coded, out, at))
 }
 
 // Reads a string as a token of a kind.
-pub fn read_string(text: &[u32], p: CharPlace, k: u32, out: &mut [u32], at: Cell) -> Step
+pub fn read_string(
+    text: &[u32],
+    p: CharPlace,
+    k: u32,
+    out: &mut [u32],
+    at: Cell,
+) -> Option<(CharPlace, Cell)>
     requires { Room text.now p.0 out.old at.0 }
     ensures { After-name read-string k text.now p.0 out.old at.0 result out.new }
 {
     let j = at.0;
-    let Step::At(q, b) = string(text, p, out, Cell(j + HEAD)) else {
-        return Step::No;
-    };
+    let (q, b) = string(text, p, out, Cell(j + HEAD))?;
     head(out, at, k, b);
-    Step::At(q, b)
+    Some((q, b))
 }
 
-// A mark and spacing, or nothing.
-pub fn mark(text: &[u32], p: CharPlace) -> Marked
+// A mark and spacing, or nothing: where they end, and the mark's number.
+pub fn mark(text: &[u32], p: CharPlace) -> Option<(CharPlace, u32)>
     requires { p.0 ≤ length text.now }
     ensures { After-mark text.now p.0 result }
 {
     let c = peek(text, p);
     if !is_mark(c) {
-        return Marked::At(p, 0);
+        return Some((p, 0));
     }
-    let Past::At(q) = skip(text, after(p)) else {
-        return Marked::No;
-    };
-    Marked::At(q, mark_number(c))
+    let q = skip(text, after(p))?;
+    Some((q, mark_number(c)))
 }

@@ -4,12 +4,12 @@ ghost use Rattle.syntax.specs.Lexical.{run, read_name, read-use, ended as Ended}
 ghost use Rattle.spacing.specs.Answers.{Room};
 ghost use Rattle.lexical.specs.Answers.{Space, Copied, After-run, After-name, Stops};
 
-use crate::{Run, head};
+use crate::head;
 use decode::{CharPlace, after};
-use spacing::{Cell, FULL_STOP, Past, Step, is_mark, name_follower, name_start, peek, skip};
+use spacing::{Cell, FULL_STOP, is_mark, name_follower, name_start, peek, skip};
 
 // Copies the longest run of name characters.
-fn copy_run(text: &[u32], p: CharPlace, out: &mut [u32], at: Cell) -> Run
+fn copy_run(text: &[u32], p: CharPlace, out: &mut [u32], at: Cell) -> (CharPlace, Cell)
     requires { Space text.now p.0 0 out.old at.0 }
     ensures { Copied (λ x. run (drop p.0 text.now) ≡ x) text.now p.0 0 out.old at.0 out.new result.0.0 result.1.0 }
 {
@@ -19,41 +19,42 @@ fn copy_run(text: &[u32], p: CharPlace, out: &mut [u32], at: Cell) -> Run
         let i = from.0;
         let c = text[i];
         if !name_follower(c) {
-            return Run(from, to);
+            return (from, to);
         }
         let j = to.0;
         out[j] = c;
         from = after(from);
         to = Cell(j + 1);
     }
-    Run(from, to)
+    (from, to)
 }
 
 // The characters of a name, copied after the two cells of its token's head.
-fn name_run(text: &[u32], p: CharPlace, out: &mut [u32], at: Cell) -> Step
+fn name_run(text: &[u32], p: CharPlace, out: &mut [u32], at: Cell) -> Option<(CharPlace, Cell)>
     requires { Room text.now p.0 out.old at.0 }
     ensures { After-run text.now p.0 out.old at.0 result out.new }
 {
     if !name_start(peek(text, p)) {
-        return Step::No;
+        return None;
     }
     let j = at.0;
-    let run = copy_run(text, p, out, Cell(j + crate::HEAD));
-    let q = run.0;
-    let b = run.1;
-    Step::At(q, b)
+    Some(copy_run(text, p, out, Cell(j + crate::HEAD)))
 }
 
 // A name at the head of a rule, as a token of a kind.
-pub fn name(text: &[u32], p: CharPlace, k: u32, out: &mut [u32], at: Cell) -> Step
+pub fn name(
+    text: &[u32],
+    p: CharPlace,
+    k: u32,
+    out: &mut [u32],
+    at: Cell,
+) -> Option<(CharPlace, Cell)>
     requires { Room text.now p.0 out.old at.0 }
     ensures { After-name read_name k text.now p.0 out.old at.0 result out.new }
 {
-    let Step::At(q, b) = name_run(text, p, out, at) else {
-        return Step::No;
-    };
+    let (q, b) = name_run(text, p, out, at)?;
     head(out, at, k, b);
-    Step::At(q, b)
+    Some((q, b))
 }
 
 // The end of the text, or what begins a rule.
@@ -84,26 +85,30 @@ fn stops(text: &[u32], p: CharPlace, q: CharPlace) -> bool
     if text[n - 1] != FULL_STOP {
         return false;
     }
-    let Past::At(w) = skip(text, q) else {
+    let Some(w) = skip(text, q) else {
         return false;
     };
     ended(text, w)
 }
 
 // A name in a rule's body, as a token of a kind.
-pub fn used_name(text: &[u32], p: CharPlace, k: u32, out: &mut [u32], at: Cell) -> Step
+pub fn used_name(
+    text: &[u32],
+    p: CharPlace,
+    k: u32,
+    out: &mut [u32],
+    at: Cell,
+) -> Option<(CharPlace, Cell)>
     requires { Room text.now p.0 out.old at.0 }
     ensures { After-name read-use k text.now p.0 out.old at.0 result out.new }
 {
-    let Step::At(q, b) = name_run(text, p, out, at) else {
-        return Step::No;
-    };
+    let (q, b) = name_run(text, p, out, at)?;
     let n = q.0;
     let m = b.0;
     if stops(text, p, q) {
         head(out, at, k, Cell(m - 1));
-        return Step::At(CharPlace(n - 1), Cell(m - 1));
+        return Some((CharPlace(n - 1), Cell(m - 1)));
     }
     head(out, at, k, b);
-    Step::At(q, b)
+    Some((q, b))
 }

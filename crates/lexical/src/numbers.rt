@@ -4,9 +4,8 @@ ghost use Rattle.tree.specs.Tokens.{capped};
 ghost use Rattle.syntax.specs.Syntax.{ch, digit as Digit, digit_value};
 ghost use Rattle.syntax.specs.Result.{hd};
 ghost use Rattle.syntax.specs.Lexical.{read-hex, digits as Digits};
-ghost use Rattle.lexical.specs.Answers.{After-number};
+ghost use Rattle.lexical.specs.Answers.{Hexed, After-number};
 
-use crate::Number;
 use decode::{CharPlace, after};
 use spacing::{END, digit, digit_value, peek};
 
@@ -22,33 +21,30 @@ fn next_value(v: u32, c: u32) -> u32
     END
 }
 
-// The digits at a place.
-fn digits(text: &[u32], p: CharPlace) -> Number
+// The digits at a place: where they end, and their value.
+fn digits(text: &[u32], p: CharPlace) -> (CharPlace, u32)
     requires { p.0 ≤ length text.now }
-    ensures { After-number (λ x. Digits 0 (drop p.0 text.now) ≡ x) text.now p.0 result }
+    ensures { Hexed (λ x. Digits 0 (drop p.0 text.now) ≡ x) text.now p.0 result.0.0 result.1 }
 {
-    let mut at = p;
     let mut v: u32 = 0;
-    while at.0 < text.len() {
-        let i = at.0;
+    for i in p.0..text.len() {
         let c = text[i];
         if !digit(c) {
-            return Number::Value(at, v);
+            return (CharPlace(i), v);
         }
         v = next_value(v, c);
-        at = after(at);
     }
-    Number::Value(at, v)
+    (CharPlace(text.len()), v)
 }
 
 // The digits after the # at a place.
-pub fn hex(text: &[u32], p: CharPlace) -> Number
+pub fn hex(text: &[u32], p: CharPlace) -> Option<(CharPlace, u32)>
     requires { ch 35 (hd (drop p.0 text.now)) ≡ true }
     ensures { After-number (λ x. read-hex (drop p.0 text.now) ≡ x) text.now (p.0 + 1) result }
 {
     let first = after(p);
     if !digit(peek(text, first)) {
-        return Number::No;
+        return None;
     }
-    digits(text, first)
+    Some(digits(text, first))
 }

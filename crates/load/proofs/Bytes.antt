@@ -1,4 +1,5 @@
 -- From bytes: what the decoder's answers say of the tests, and the whole stage.
+use Rattle.std.specs.Prelude.{Ok, Err}
 use mathlib.Core.Bool.{Bool, true, false}
 use mathlib.Core.Path.{◌≡◌, refl, sym, subst, ap, ◌∙◌}
 use mathlib.Core.Logic.{inl, inr}
@@ -22,23 +23,21 @@ use Rattle.text.specs.Stages.{at_byte, plainly}
 use Rattle.text.proofs.Faults.{break-of}
 use Rattle.text.proofs.Decode.{some_bytes, decode-sound}
 use Rattle.tree.specs.Tree.{Grammar}
-use Rattle.syntax.specs.Parser.{parse}
 use Rattle.plain.specs.Static.{undefined, duplicate, beyond, banned, backwards, unclassed}
 use Rattle.plain.specs.Plain.{size}
 use Rattle.derive.specs.Yield.{unproductive}
 use Rattle.answer.specs.Compute.{Test, test, first_of, grammar_tests, value, value_at, places_at, place_in, place_values, check_values}
 use Rattle.answer.proofs.Noted.{value-skip, place-value, placeless}
 use Rattle.answer.proofs.Stages.{stage-1, stage-2, stage-3, stage-4, stage-static, tree_is, mismatch-is}
-use Rattle.decode.specs.declared.Decoding.{Decoding}
-use Rattle.decode.specs.declared.Decoding.TheVariants.{Of}
+use Rattle.decode.specs.declared.DecodeError.{DecodeError}
+use Rattle.decode.specs.declared.DecodeError.TheVariants.{CutShort, Malformed, Unknown}
 use Rattle.text.specs.declared.CharPlace.{CharPlace}
 use Rattle.decode.specs.Refused.{why_of}
-use Rattle.decode.specs.Scan.{over}
+use Rattle.decode.specs.Scan.{Decoding, over}
 use Rattle.decode.specs.Whole.{Ends, cut_short, malformed, unknown, Decodes}
-use Rattle.decode.proofs.Answers.{Tells, tells-of, tells-cut, tells-malformed, tells-unknown, Told, told-grammar}
+use Rattle.decode.proofs.Answers.{Tells, tells-of, tells-cut, tells-malformed, tells-unknown, Strange, Told, told-grammar}
 use Rattle.load.specs.declared.Passed.{Passed}
-use Rattle.load.specs.declared.Loaded.{Loaded}
-use Rattle.load.specs.Checked.{Refuses, at_character, place_for, stage_of}
+use Rattle.load.specs.Checked.{Loaded, Refuses, at_character, place_for, stage_of}
 use Rattle.load.specs.Loaded.{Roomy, Reads, reads_none, reads-refused, reads-grammar, Turned, Kept, Loads, places_of}
 
 -- no more characters than bytes
@@ -92,7 +91,7 @@ module _ (bs old new : List ℕ) (r : Decoding) (w : Decodes bs (after_mark bs) 
   told : Told (unmark (decode bs)) old r new
   told = told-grammar bs w
 
-  pub got : (k : CharPlace) → r ≡ Of k → length bs ≤ 4096 → length old ≡ 4096 → Got bs new k.0
+  pub got : (k : CharPlace) → r ≡ Ok k → length bs ≤ 4096 → length old ≡ 4096 → Got bs new k.0
   got k e l o = go told.tells e
     where
       stored_at : (cs : Text) → unmark (decode bs) ≡ text cs → length cs ≤ length bs → take (length cs) new ≡ cs
@@ -101,7 +100,7 @@ module _ (bs old new : List ℕ) (r : Decoding) (w : Decodes bs (after_mark bs) 
           let t : take (length old) cs ≡ cs = take_all (length old) cs (omega arith) in
           rw (s, t) (take_at cs (drop (length cs) old) (length cs) refl)
 
-      go : {d : Decoding} → Tells (unmark (decode bs)) d → d ≡ Of k → Got bs new k.0
+      go : {d : Decoding} → Tells (unmark (decode bs)) d → d ≡ Ok k → Got bs new k.0
       go (tells-of {k = n} x) q =
           let u = unmarked-text bs x.chars x.is in
           let p : k ≡ n = cc in
@@ -121,8 +120,8 @@ module _ (bs old new : List ℕ) (r : Decoding) (w : Decodes bs (after_mark bs) 
       go (tells-unknown x) q = absurd (let z : ◌≡◌ {A = ℕ} 0 1 = cc in omega arith)
 
   -- a text that is not decoded is refused, with the place of its break
-  pub turned : length bs ≤ 4096 → ((why_of 2 3 r).number ≡ 0 → ⊥) → Turned bs (why_of 2 3 r)
-  turned l h = go w.answer told.tells h
+  pub turned : length bs ≤ 4096 → (e : DecodeError) → r ≡ Err e → Turned bs (why_of 2 3 e)
+  turned l e h = go w.answer told.tells h
     where
       at : {f : ℕ → Bool} (p : BytePlace) → Breaks f bs (after_mark bs) p.0 → places_of (at_byte 2 p).places ≡ record { byte = break_of f bs (after_mark bs); fault = 0; grammar = 0 }
       at {f = f} p b = let e = break-of f bs (after_mark bs) p.0 b in λ ι. record { byte = sym e ι; fault = 0; grammar = 0 }
@@ -130,18 +129,25 @@ module _ (bs old new : List ℕ) (r : Decoding) (w : Decodes bs (after_mark bs) 
       two : (p : BytePlace) → Breaks every bs (after_mark bs) p.0 → unmark (decode bs) ≡ not-utf8 → Turned bs (at_byte 2 p)
       two p b x = record { some = λ e. omega arith; early = inl (omega arith); first = λ ts. stage-2 bs ts l (no_text bs x); places = at p b }
 
-      go : {d : Decoding} → Ends bs (after_mark bs) d → Tells (unmark (decode bs)) d → ((why_of 2 3 d).number ≡ 0 → ⊥) → Turned bs (why_of 2 3 d)
-      go a (tells-of x) z = absurd (z refl)
-      go (cut_short {p = p} b c) (tells-cut x) z = two p b x
-      go (malformed {p = p} b c) (tells-malformed x) z = two p b x
-      go (unknown {p = p} cs v b) (tells-unknown x) z =
+      strange : (p : BytePlace) → Breaks known bs (after_mark bs) p.0 → Strange (unmark (decode bs)) → Turned bs (at_byte 3 p)
+      strange p b x =
           let u = unmarked-text bs x.chars x.is in
           record {
-            some = z;
+            some = λ e. omega arith;
             early = inl (omega arith);
             first = λ ts. stage-3 bs ts l u.chars u.decoded (ap (all known) (sym u.is) ∙ x.outside);
             places = at p b;
           }
+
+      -- the refusal is the error's
+      same : {d : Diagnostic} (e f : DecodeError) → ◌≡◌ {A = Decoding} (Err f) (Err e) → d ≡ why_of 2 3 f → Turned bs d → Turned bs (why_of 2 3 e)
+      same e f q z x = let u : f ≡ e = cc in subst (Turned bs) (z ∙ ap (why_of 2 3) u) x
+
+      go : {d : Decoding} → Ends bs (after_mark bs) d → Tells (unmark (decode bs)) d → d ≡ Err e → Turned bs (why_of 2 3 e)
+      go a (tells-of x) z = absurd (let y : ◌≡◌ {A = ℕ} 0 1 = cc in omega arith)
+      go (cut_short {p = p} b c) (tells-cut x) z = same e (CutShort p) z refl (two p b x)
+      go (malformed {p = p} b c) (tells-malformed x) z = same e (Malformed p) z refl (two p b x)
+      go (unknown {p = p} cs v b) (tells-unknown x) z = same e (Unknown p) z refl (strange p b x)
 
 pub too_long : (bs : List ℕ) → 4096 < length bs → Turned bs (plainly 1)
 too_long bs l = record { some = λ e. omega arith; early = inl (omega arith); first = λ ts. stage-1 bs ts l; places = refl }

@@ -1,4 +1,5 @@
 -- From the stages' answers to the whole: characters, then bytes.
+use Rattle.std.specs.Prelude.{Some, None, Ok, Err}
 use mathlib.Core.Path.{◌≡◌, refl, sym, subst, ap}
 use mathlib.Core.List.{List}
 use Prim.Native.Nat.{ℕ, ◌≤◌}
@@ -8,16 +9,11 @@ use borrow.Author.Tests.{le-ltb}
 use Rattle.text.specs.Lists.{Text}
 use Rattle.text.specs.Stages.{refused, plainly}
 use Rattle.text.specs.declared.Diagnostic.{Diagnostic}
-use Rattle.syntax.specs.Parser.{parse}
 use Rattle.syntax.proofs.Sound.{sound}
 use Rattle.places.specs.Tokens.{place_of}
 use Rattle.spacing.specs.declared.Cell.{Cell}
-use Rattle.reader.specs.declared.Reading.{Reading}
-use Rattle.reader.specs.declared.Reading.TheVariants.{Grammar as A-grammar, NoGrammar}
 use Rattle.reader.specs.Answers.{Readable, Held, Read-as}
-use Rattle.load.specs.declared.Loaded.{Loaded}
-use Rattle.load.specs.declared.Loaded.TheVariants.{Grammar as Accepted, Refused}
-use Rattle.load.specs.Checked.{Stands, Standing, at_character, place_for, Placed, TreeChecked, Passes, stage_of}
+use Rattle.load.specs.Checked.{Loaded, Stands, Standing, at_character, place_for, Placed, TreeChecked, Passes, stage_of}
 use Rattle.load.specs.Loaded.{Roomy, Reads, reads_none, reads-refused, reads-grammar}
 
 -- a refusal from 5 to 10, with its place; 11, which has none
@@ -34,24 +30,19 @@ place-for s n p l e = rw (le-ltb 10 n l) e
 pub readable : (s : Text) (T : List ℕ) → Roomy s T → Readable s T
 readable s T r = let a = r.chars in let b = r.table in record { room = omega arith; few = omega arith }
 
-pub no-tree : (s : Text) (T : List ℕ) (x : Reading) → x ≡ NoGrammar → Read-as s x T → Reads s T (refused (plainly 4))
-no-tree s T x e h = reads_none (subst (λ (y : Reading). Read-as s y T) e h).none
-
-held : (s : Text) (T : List ℕ) (x : Reading) (b : Cell) → x ≡ A-grammar b → Read-as s x T → Held s T b.0
-held s T x b e h = subst (λ (y : Reading). Read-as s y T) e h
+pub no-tree : (s : Text) (T : List ℕ) → Read-as s None T → Reads s T (refused (plainly 4))
+no-tree s T h = reads_none h.none
 
 stands : (s : Text) (T : List ℕ) (end : ℕ) (h : Held s T end) → Stands T end h.tree
 stands s T end h = record { text = s; derived = sound s h.tree h.same; held = h.holds }
 
-pub standing : (s : Text) (T : List ℕ) (x : Reading) (b : Cell) → x ≡ A-grammar b → Read-as s x T → length s ≤ 4096 → length T ≡ 16384 → Standing s T b.0
-standing s T x b e h l n =
-    let w = held s T x b e h in
+pub standing : (s : Text) (T : List ℕ) (b : Cell) → Read-as s (Some b) T → length s ≤ 4096 → length T ≡ 16384 → Standing s T b.0
+standing s T b w l n =
     let k = w.cells in
     record { grammar = w.tree; parse = w.same; stands = stands s T b.0 w; chars = l; within = omega arith; short = omega arith }
 
-pub checked : (s : Text) (T : List ℕ) (x : Reading) (b : Cell) → x ≡ A-grammar b → Read-as s x T → length s ≤ 4096 → (r : Loaded) → TreeChecked s T b.0 r → Reads s T (stage_of r)
-checked s T x b e h l (Accepted p) j =
-    let w = held s T x b e h in
+pub checked : (s : Text) (T : List ℕ) (b : Cell) → Read-as s (Some b) T → length s ≤ 4096 → (r : Loaded) → TreeChecked s T b.0 r → Reads s T (stage_of r)
+checked s T b w l (Ok p) j =
     let q = j w.tree (stands s T b.0 w) in
     let k = w.cells in
     let t = q.tokens in
@@ -62,7 +53,6 @@ checked s T x b e h l (Accepted p) j =
       inside = omega arith;
       passes = subst (λ (n : ℕ). Passes w.tree n p) (sym t) q;
     })
-checked s T x b e h l (Refused d) j =
-    let w = held s T x b e h in
+checked s T b w l (Err d) j =
     let k = j w.tree (stands s T b.0 w) in
     reads-refused {d = d} (record { holds = record { tree = w.tree; parse = w.same; refuses = k.holds }; place = k.place })

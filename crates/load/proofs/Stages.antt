@@ -1,7 +1,7 @@
 -- The tests from 5 to 11 come to what the static rules and the size say.
 use mathlib.Core.Bool.{Bool, true, false}
-use mathlib.Core.Path.{◌≡◌, refl, sym, ap, subst, ◌∙◌}
-use mathlib.Core.List.{List, [], ◌∷◌}
+use mathlib.Core.Path.{◌≡◌, refl, sym, subst, ◌∙◌}
+use mathlib.Core.List.{List, ◌∷◌}
 use Prim.Native.Nat.{ℕ, ◌≤◌, ◌<◌}
 use native.Mathlib.Omega.{arith}
 use lib.Dec.{ltb}
@@ -13,13 +13,9 @@ use Rattle.tree.specs.Tree.{Grammar}
 use Rattle.plain.specs.Static.{undefined, duplicate, beyond, banned, backwards, unclassed, mismatched}
 use Rattle.plain.specs.Plain.{size}
 use Rattle.answer.specs.Compute.{Test, test, first_of}
-use Rattle.static_errors.specs.declared.Ruling.{Ruling}
-use Rattle.static_errors.specs.declared.Ruling.TheVariants.{Kept}
+use Rattle.static_errors.specs.declared.StaticError.{StaticError}
 use Rattle.static_errors.specs.Held.{static_of, rule_number}
 use Rattle.static_errors.proofs.Rulings.{some-rule}
-use Rattle.static_errors.specs.contracts.Ruling.{the_type}
-use denote.Enum.Declared.{tag_of}
-use types.Run.{OneOf}
 use Rattle.static_errors.specs.Held as static
 use Rattle.tokens.specs.Lengths as tokens
 use Rattle.measure.specs.Costs as sizes
@@ -63,13 +59,9 @@ static-refuses g n e h =
           one_passes (undefined g) (duplicate g) (beyond g) (banned g) (backwards g) (unclassed g) (test 11 (λ _. ltb most_size (size g)) ∷ ts) (λ z. h (e ∙ z)) ∙ sym e;
     }
 
--- the same of a ruling
-pub broken : (g : Grammar) (v : Ruling) (n : ℕ) → OneOf (1 ∷ 2 ∷ 3 ∷ 4 ∷ 5 ∷ 6 ∷ []) (tag_of the_type v) → n ≡ rule_number v → rule_number v ≡ static_of g → Refuses g n
-broken g v n q f e = static-refuses g n (f ∙ e) (λ z. some-rule v q (sym f ∙ z))
-
--- a ruling that no rule is broken
-pub kept : (g : Grammar) (v : Ruling) → v ≡ Kept → rule_number v ≡ static_of g → static_of g ≡ 0
-kept g v q e = sym e ∙ ap rule_number q
+-- the same of the rule that is named
+pub broken : (g : Grammar) (e : StaticError) (n : ℕ) → n ≡ rule_number e → rule_number e ≡ static_of g → Refuses g n
+broken g e n f q = static-refuses g n (f ∙ q) (λ z. some-rule e (sym f ∙ z))
 
 passes-static : (g : Grammar) → static_of g ≡ 0 → (ts : List Test) → first_of (tree_tests g ts) ≡ first_of (test 11 (λ _. ltb most_size (size g)) ∷ ts)
 unfolding static_of
@@ -103,16 +95,15 @@ pub size-asks : (s : Text) (T : List ℕ) (end : ℕ) → Standing s T end → s
 size-asks c T end s = let w = s.within in let h = s.short in record { tree = s.grammar; holds = to-size T end s.grammar s.stands; inside = w; small = omega arith }
 
 -- the place of the rule that is broken
-pub place-asks : (s : Text) (T : List ℕ) (end : ℕ) (x : Standing s T end) (v : Ruling) (n : ℕ) → OneOf (1 ∷ 2 ∷ 3 ∷ 4 ∷ 5 ∷ 6 ∷ []) (tag_of the_type v) → n ≡ rule_number v
-    → rule_number v ≡ static_of x.grammar → Asked s T end n
-place-asks s T end x v n q f e = let h = x.short in let w = x.within in record {
+pub place-asks : (s : Text) (T : List ℕ) (end : ℕ) (x : Standing s T end) (e : StaticError) → rule_number e ≡ static_of x.grammar → Asked s T end (rule_number e)
+place-asks s T end x e q = let h = x.short in let w = x.within in record {
   grammar = x.grammar;
   parse = x.parse;
   holds = to-static T end x.grammar w x.stands;
   small = x.chars;
   short = omega arith;
-  broken = sym (f ∙ e);
-  some = λ z. some-rule v q (sym f ∙ z);
+  broken = sym q;
+  some = some-rule e;
 }
 
 pub at-most-10 : (g : Grammar) (n : ℕ) → n ≡ static_of g → n ≤ 10

@@ -1,5 +1,5 @@
 -- A grammar's tree in a table, and what checking it by the static rules and the size answers.
-use Rattle.std.specs.Prelude.{Bool, ◌≡◌, List, ◌∷◌, ℕ, ◌≤◌, ◌<◌, ltb, length, take}
+use Rattle.std.specs.Prelude.{◌≡◌, List, ◌∷◌, ℕ, ◌≤◌, ltb, length, take, Result, Ok, Err}
 use Rattle.text.specs.Limits.{grammar_bytes, most_size, grammar_table}
 use Rattle.text.specs.Lists.{Text, pick}
 use Rattle.text.specs.Stages.{StageAnswer, answered, refused, Settles}
@@ -14,8 +14,6 @@ use Rattle.places.specs.Tokens.{place_of}
 use Rattle.answer.specs.Compute.{Test, test, first_of}
 use Rattle.static_errors.specs.Held.{static_of}
 use Rattle.load.specs.declared.Passed.{Passed}
-use Rattle.load.specs.declared.Loaded.{Loaded}
-use Rattle.load.specs.declared.Loaded.TheVariants.{Grammar as Accepted, Refused}
 
 -- the first numbers of the table are the tokens of a grammar text's tree
 pub record Stands (T : List ℕ) (end : ℕ) (g : Grammar) : Type 0 where
@@ -55,10 +53,14 @@ pub record Passes (g : Grammar) (end : ℕ) (p : Passed) : Type 0 where
   pub version : p.mismatch ≡ mismatched g
   pub first : (ts : List Test) → first_of (tree_tests g ts) ≡ first_of ts
 
+-- what loading answers: what a grammar that passes is like, or its refusal
+abbrev pub Loaded : Type 0
+Loaded = Result Passed Diagnostic
+
 -- document 01's number and values for each case
 abbrev pub stage_of : Loaded → StageAnswer Passed Diagnostic
-stage_of (Accepted p) = answered p
-stage_of (Refused d) = refused d
+stage_of (Ok p) = answered p
+stage_of (Err d) = refused d
 
 -- a refusal at a character of the grammar; 5 to 10 name their place in its text
 abbrev pub at_character : ℕ → ℕ → Diagnostic

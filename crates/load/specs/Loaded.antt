@@ -1,21 +1,19 @@
 -- A grammar's bytes to a checked tree in the table: refusals 1 to 11.
-use Rattle.std.specs.Prelude.{Bool, ◌≡◌, ◌⊎◌, List, ◌∷◌, ℕ, ◌*◌, ◌≤◌, length}
+use Rattle.std.specs.Prelude.{◌≡◌, ◌⊎◌, List, ◌∷◌, ℕ, ◌≤◌, length}
 use Rattle.text.specs.Limits.{grammar_bytes, grammar_table, most_size}
 use Rattle.text.specs.Lists.{Text}
 use Rattle.text.specs.Stages.{StageAnswer, answered, refused, Settles, plainly}
 use Rattle.text.specs.declared.Places.{Places}
 use Rattle.text.specs.declared.Diagnostic.{Diagnostic}
 use Rattle.tree.specs.Tree.{Grammar}
-use Rattle.syntax.specs.Parser.{Parsed, parsed, no-parse, parse}
+use Rattle.syntax.specs.Parser.{parsed, no-parse, parse}
 use Rattle.plain.specs.Plain.{size}
-use Rattle.plain.specs.Static.{mismatched}
 use Rattle.derive.specs.Yield.{unproductive}
 use Rattle.answer.specs.Answer.{Places as Answered}
 use Rattle.answer.specs.Compute.{Test, test, first_of, tree_of, grammar_tests, mismatch, places_at, check_values}
 use Rattle.static_errors.specs.Held.{static_of}
 use Rattle.load.specs.declared.Passed.{Passed}
-use Rattle.load.specs.declared.Loaded.{Loaded}
-use Rattle.load.specs.Checked.{Stands, Passes, Refuses, Placed, stage_of}
+use Rattle.load.specs.Checked.{Loaded, Stands, Passes, Refuses, Placed, stage_of}
 
 -- the table is one that a grammar's characters have room in
 pub record Roomy (s : Text) (T : List ℕ) : Type 0 where

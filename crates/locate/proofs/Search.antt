@@ -14,7 +14,7 @@ use Rattle.tree.specs.Tokens.{Token}
 use Rattle.tokens.specs.Lengths.{length_at}
 use Rattle.tokens.specs.Names.{name_at}
 use Rattle.tokens.proofs.Walk.{some_number}
-use Rattle.static_errors.specs.Parts.{Part, part, part_at, heads_in}
+use Rattle.static_errors.specs.Parts.{Part, part_at, heads_in}
 use Rattle.static_errors.specs.Scan.{Tokens, names_at, heads_of}
 use Rattle.static_errors.proofs.Scans.{Reached, Here, here}
 use Rattle.static_errors.proofs.Scans as scans

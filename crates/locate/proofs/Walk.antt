@@ -3,7 +3,7 @@ use native.Mathlib.Omega.{arith}
 use mathlib.Core.Bool.{Bool, true, false}
 use mathlib.Core.Path.{◌≡◌, refl, sym, ap, subst, ◌∙◌}
 use mathlib.Core.List.{List, [], ◌∷◌, ◌++◌, append-nil}
-use Prim.Native.Nat.{ℕ, zero, suc, ◌+◌, ◌-◌, ◌<◌, ◌≤◌}
+use Prim.Native.Nat.{ℕ, zero, suc, ◌+◌, ◌<◌, ◌≤◌}
 use native.Mathlib.Decide.{ℕ_discrete}
 use lib.ListN.{length, drop, get_or, set, length-set, length-drop, length-append}
 use lib.Seq.{get_or-set_same, get_or-set_other}
@@ -11,8 +11,8 @@ use Rattle.text.specs.Lists.{Text, pick}
 use Rattle.spacing.proofs.Places.{at-char, at-end}
 use Rattle.places.specs.Scan.{opens, step, begins, lefts}
 use Rattle.places.specs.Scan as scan
-use Rattle.locate.specs.Spots.{shown, goes_on, Located}
-use Rattle.locate.proofs.Modes.{begins-as, deep, deep_step, deep_of}
+use Rattle.locate.specs.Spots.{goes_on, deep, Located}
+use Rattle.locate.proofs.Modes.{begins-as, deep_step}
 
 -- at the place i the first n spots are in the array, and the others are still to be found
 pub record Walked (t : Text) (old places : List ℕ) (n i : ℕ) (s : scan.State) : Type 0 where
@@ -120,5 +120,5 @@ walk_end t old places n i s w h = record { each = λ k m. go k m }
     go : (k : ℕ) → k < length (lefts scan.between t) → get_or places k 0 + get_or (lefts scan.between t) k 0 ≡ length t
     go k m = rw all (w.each k (omega (arith, w.count, ap length all)))
 
-pub walk-deep : (t : Text) (old places : List ℕ) (n i m k : ℕ) → Walked t old places n i (shown m k) → length t < 4294967295 → m ≡ 4 → k < 4294967295
-walk-deep t old places n i m k w l e = omega (arith, deep_of m k e, w.low, w.place)
+pub walk-deep : (t : Text) (old places : List ℕ) (n i : ℕ) (s : scan.State) → Walked t old places n i s → length t < 4294967295 → deep s < 4294967295
+walk-deep t old places n i s w l = omega (arith, w.low, w.place)

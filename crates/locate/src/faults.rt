@@ -6,10 +6,11 @@ ghost use Rattle.tokens.specs.Lengths.{length_at};
 ghost use Rattle.places.specs.Tokens.{fault_index};
 ghost use Rattle.static_errors.specs.Parts.{part_at, heads_in};
 ghost use Rattle.static_errors.specs.Scan.{Tokens, Looking, Scanning, names_at};
-ghost use Rattle.static_errors.specs.Held.{Holds, Held};
+ghost use Rattle.static_errors.specs.Held.{Holds, Held, rule_number};
 ghost use Rattle.locate.specs.Faults.{spot_count, again, at_token, offset_of, Rated, Faulting, Searching, FaultAt};
 
-use text::refusals;
+use static_errors::StaticError;
+use tokens::Form;
 
 // How many spots a token has, by its kind.
 fn spots_of(kind: u32) -> usize
@@ -38,10 +39,10 @@ fn heads_of(table: &[u32], k: usize) -> usize
     requires { k + length_at table.now k ≤ length table.now }
     ensures { result ≡ length (heads_in (part_at table.now k)) }
 {
-    if tokens::form(table[k]) == tokens::FORM_HEAD {
-        return 1;
+    match Form::of(table[k]) {
+        Form::Head => 1,
+        _ => 0,
     }
-    0
 }
 
 // 6: one of the first heads that are listed has the name of the head at k.
@@ -49,34 +50,41 @@ fn repeats(table: &[u32], k: usize, index: &[u32], before: usize) -> bool
     requires { Looking table.now k index.now before }
     ensures { result ≡ again (names_at table.now (take before index.now)) (part_at table.now k) }
 {
-    if tokens::form(table[k]) != tokens::FORM_HEAD {
-        return false;
+    match Form::of(table[k]) {
+        Form::Head => static_errors::found(table, k, index, 0, before),
+        _ => false,
     }
-    static_errors::found(table, k, index, 0, before)
 }
 
 // The token at k breaks the rule.
-fn at_fault(table: &[u32], k: usize, index: &[u32], n: usize, before: usize, rule: u32) -> bool
+fn at_fault(
+    table: &[u32],
+    k: usize,
+    index: &[u32],
+    n: usize,
+    before: usize,
+    rule: StaticError,
+) -> bool
     requires { Faulting table.now k index.now n before }
-    ensures { result ≡ at_token rule (names_at table.now (take n index.now)) (names_at table.now (take before index.now)) (part_at table.now k) }
+    ensures { result ≡ at_token (rule_number rule) (names_at table.now (take n index.now)) (names_at table.now (take before index.now)) (part_at table.now k) }
 {
-    if rule == refusals::REPEATED_RULE {
-        return repeats(table, k, index, before);
+    match rule {
+        StaticError::RepeatedRule => repeats(table, k, index, before),
+        _ => static_errors::breaks(table, k, index, n, rule, 0),
     }
-    static_errors::breaks(table, k, index, n, rule, 0)
 }
 
 // Of a range that breaks 7 or 8, whether its second end alone does.
-fn offset(table: &[u32], k: usize, rule: u32) -> usize
+fn offset(table: &[u32], k: usize, rule: StaticError) -> usize
     requires { k + length_at table.now k ≤ length table.now }
-    ensures { result ≡ offset_of rule (part_at table.now k) }
+    ensures { result ≡ offset_of (rule_number rule) (part_at table.now k) }
 {
-    if refusals::HEX_NO_CHARACTER < rule {
+    if let StaticError::BackwardRange | StaticError::UnknownClass = rule {
         return 0;
     }
-    if tokens::form(table[k]) != tokens::FORM_RANGE {
+    let Form::Range = Form::of(table[k]) else {
         return 0;
-    }
+    };
     if static_errors::bad_end(rule, table[k + tokens::FROM_CODED], table[k + tokens::FROM]) {
         return 0;
     }
@@ -84,9 +92,9 @@ fn offset(table: &[u32], k: usize, rule: u32) -> usize
 }
 
 // The first token at fault gives the spot; the heads before it are counted for 6.
-fn search(table: &[u32], end: usize, index: &[u32], n: usize, rule: u32) -> usize
+fn search(table: &[u32], end: usize, index: &[u32], n: usize, rule: StaticError) -> usize
     requires { Searching table.now end index.now n }
-    ensures { (ts : List Token) → Tokens table.now end 0 ts → FaultAt rule (names_at table.now (take n index.now)) ts result }
+    ensures { (ts : List Token) → Tokens table.now end 0 ts → FaultAt (rule_number rule) (names_at table.now (take n index.now)) ts result }
 {
     let mut k = 0;
     let mut spot = 0;
@@ -102,9 +110,9 @@ fn search(table: &[u32], end: usize, index: &[u32], n: usize, rule: u32) -> usiz
     spot
 }
 
-pub fn first_fault(table: &[u32], end: usize, rule: u32) -> usize
+pub fn first_fault(table: &[u32], end: usize, rule: StaticError) -> usize
     requires { Held table.now end }
-    ensures { (g : Grammar) → Holds table.now end g → Rated rule g → result ≡ fault_index rule g }
+    ensures { (g : Grammar) → Holds table.now end g → Rated (rule_number rule) g → result ≡ fault_index (rule_number rule) g }
 {
     let mut index = [0u32; text::limits::GRAMMAR_TABLE];
     let n = static_errors::heads(table, end, &mut index);

@@ -1,6 +1,7 @@
 -- A word, the spacing after it, a character that must follow, and the spacing after that.
+use Rattle.std.specs.Prelude.{Some, None}
 use mathlib.Core.Bool.{Bool, true, false, ◌||◌}
-use mathlib.Core.Path.{◌≡◌, refl, sym, ap, ◌∙◌, subst}
+use mathlib.Core.Path.{◌≡◌, refl, sym, ap, ◌∙◌}
 use mathlib.Core.List.{List}
 use Prim.Native.Nat.{ℕ, ◌+◌, ◌<◌}
 use native.Mathlib.Omega.{arith}
@@ -12,9 +13,7 @@ use Rattle.syntax.specs.Result.{Result, ok, fail, hd, tl, map, then, guard, expe
 use Rattle.syntax.specs.Spacing.{skip}
 use Rattle.text.specs.declared.CharPlace.{CharPlace}
 use Rattle.spacing.specs.declared.Cell.{Cell}
-use Rattle.spacing.specs.declared.Step.{Step}
-use Rattle.spacing.specs.declared.Step.TheVariants.{At, No}
-use Rattle.spacing.specs.Answers.{Skipped, Spaced, After}
+use Rattle.spacing.specs.Answers.{Step, Skipped, Spaced, After}
 use Rattle.spacing.proofs.Places.{tl-at}
 use Rattle.spacing.proofs.Tests.{or-false}
 use Rattle.reader.specs.Answers.{one_of, closing, Closed}
@@ -66,57 +65,48 @@ closing-map f g fail = refl
 
 -- the answers of `closed`, by the stage that ends it
 module _ (f : ℕ → Bool) (s : Text) where
-  pub closed-unspaced : (word r : Step) → r ≡ No → Spaced s word r → Closed f s word No
+  pub closed-unspaced : (word : Step) → Spaced s word None → Closed f s word None
   unfolding closing then
-  closed-unspaced (At q b) r e g = rw (subst (Spaced s (At q b)) e g)
-  closed-unspaced No r e g = tt
+  closed-unspaced (Some (q, b)) g = rw g
+  closed-unspaced None g = tt
 
   closing_at : {q w : ℕ} → Skipped s q w → closing f (drop q s) ≡ expect f (drop w s) (λ x. skip x)
   unfolding closing then
   closing_at k = rw k.past
 
-  module _ (word r : Step) (w : CharPlace) (b : Cell) (e : r ≡ At w b) (g : Spaced s word r) where
-    pub closed-no : f (hd (drop w.0 s)) ≡ false → Closed f s word No
+  module _ (w : CharPlace) (b : Cell) where
+    pub closed-no : (word : Step) → Spaced s word (Some (w, b)) → f (hd (drop w.0 s)) ≡ false → Closed f s word None
     unfolding expect guard
-    closed-no h = go word (subst (Spaced s word) e g)
-      where
-        go : (x : Step) → Spaced s x (At w b) → Closed f s x No
-        go (At q c) k = closing_at k.skipped ∙ rw h
-        go No k = absurd k
+    closed-no (Some (q, c)) k h = closing_at k.skipped ∙ rw h
+    closed-no None k h = absurd k
 
-    module _ (h : f (hd (drop w.0 s)) ≡ true) where
-      pub closed-bad : skip (drop (w.0 + 1) s) ≡ fail → Closed f s word No
-      unfolding expect guard
-      closed-bad l = go word (subst (Spaced s word) e g)
-        where
-          go : (x : Step) → Spaced s x (At w b) → Closed f s x No
-          go (At q c) k = closing_at k.skipped ∙ rw (h, tl-at s w.0, l)
-          go No k = absurd k
+    pub closed-bad : (word : Step) → Spaced s word (Some (w, b)) → f (hd (drop w.0 s)) ≡ true → skip (drop (w.0 + 1) s) ≡ fail → Closed f s word None
+    unfolding expect guard
+    closed-bad (Some (q, c)) k h l = closing_at k.skipped ∙ rw (h, tl-at s w.0, l)
+    closed-bad None k h l = absurd k
 
-      pub closed-got : (y : CharPlace) → Skipped s (w.0 + 1) y.0 → Closed f s word (At y b)
-      unfolding expect guard
-      closed-got y l = go word (subst (Spaced s word) e g)
-        where
-          go : (x : Step) → Spaced s x (At w b) → Closed f s x (At y b)
-          go (At q c) k = let i = k.skipped.onward in let j = l.onward in record {
-            onward = record { on = omega arith; within = j.within };
-            past = closing_at k.skipped ∙ rw (h, tl-at s w.0, l.past);
-            cell = k.cell;
-          }
-          go No k = absurd k
+    pub closed-got : (word : Step) → Spaced s word (Some (w, b)) → f (hd (drop w.0 s)) ≡ true
+        → (y : CharPlace) → Skipped s (w.0 + 1) y.0 → Closed f s word (Some (y, b))
+    unfolding expect guard
+    closed-got (Some (q, c)) k h y l = let i = k.skipped.onward in let j = l.onward in record {
+      onward = record { on = omega arith; within = j.within };
+      past = closing_at k.skipped ∙ rw (h, tl-at s w.0, l.past);
+      cell = k.cell;
+    }
+    closed-got None k h y l = absurd k
 
 -- a word that is read and closed
 pub closed_after : {A : Type 0} (E F : Result A → Type 0) (f : ℕ → Bool) (code : A → List ℕ) (s : Text) (p lo : ℕ) (o : List ℕ) (at : ℕ)
     → ((x : Result A) → E x → F (then x (λ v u. map (λ _. v) (closing f u))))
     → (r : Step) (o' : List ℕ) (r' : Step) → After E code s p lo o at r o' → Closed f s r r' → After F code s p lo o at r' o'
 unfolding then map
-closed_after E F f code s p lo o at h (At q b) o' (At y e) a k = let i = a.onward in let j = k.onward in let c = a.cells in let d = k.cell in record {
+closed_after E F f code s p lo o at h (Some (q, b)) o' (Some (y, e)) a k = let i = a.onward in let j = k.onward in let c = a.cells in let d = k.cell in record {
   value = a.value;
   same = rw k.past at (h (ok a.value (drop q.0 s)) a.same);
   onward = record { on = omega arith; within = j.within };
   wrote = rw k.cell a.wrote;
   cells = omega arith;
 }
-closed_after E F f code s p lo o at h (At q b) o' No a k = rw k at (h (ok a.value (drop q.0 s)) a.same)
-closed_after E F f code s p lo o at h No o' (At y e) a k = absurd k
-closed_after E F f code s p lo o at h No o' No a k = h fail a
+closed_after E F f code s p lo o at h (Some (q, b)) o' None a k = rw k at (h (ok a.value (drop q.0 s)) a.same)
+closed_after E F f code s p lo o at h None o' (Some (y, e)) a k = absurd k
+closed_after E F f code s p lo o at h None o' None a k = h fail a

@@ -1,4 +1,5 @@
 -- The cycle of alternatives, terms and factors: each answer from the answers of what it calls.
+use Rattle.std.specs.Prelude.{Some, None}
 use mathlib.Core.Bool.{Bool, true, false, ◌||◌}
 use mathlib.Core.Path.{◌≡◌, refl, sym, ap, ◌∙◌}
 use mathlib.Core.List.{List, [], ◌∷◌, ◌++◌, append_assoc, append-nil}
@@ -16,9 +17,7 @@ use Rattle.syntax.specs.Lexical.{separated}
 use Rattle.syntax.specs.Parser.{repeated, suffix, under, starts, single, Alts=, Alt=, Terms=, Term=, Factor=}
 use Rattle.syntax.proofs.Classes.{clash, among-at, at-ch, ch-not}
 use Rattle.syntax.proofs.Steps.{alt-none=, alt-some=, alts-step, terms-step, term-step, factor-plain, factor-step}
-use Rattle.spacing.specs.declared.Step.{Step}
-use Rattle.spacing.specs.declared.Step.TheVariants.{At, No}
-use Rattle.spacing.specs.Answers.{Skipped, Room, Read, After-token}
+use Rattle.spacing.specs.Answers.{Step, Skipped, Room, Read, After-token}
 use borrow.Author.Tests.{eqb-true}
 use Rattle.spacing.proofs.Places.{tl-at, shorter, in-char}
 use Rattle.spacing.proofs.Table.{one_more}
@@ -126,14 +125,14 @@ alt-nothing s p d o at r e = record {
 
 pub alt-of-terms : (s : Text) (p d : ℕ) (o : List ℕ) (at : ℕ) → starts (hd (drop p s)) ≡ true → (r : Step) (o' : List ℕ)
     → After-terms d s p o at r o' → After-alternative d s p o at r o'
-alt-of-terms s p d o at e (At x y) o' a = let n = a.onward in record {
+alt-of-terms s p d o at e (Some (x, y)) o' a = let n = a.onward in record {
   value = a.value;
   same = alt-some= d (drop p s) (ok a.value (drop x.0 s)) e a.same;
   onward = record { on = omega arith; within = n.within };
   wrote = a.wrote;
   cells = a.cells;
 }
-alt-of-terms s p d o at e No o' a = alt-some= d (drop p s) fail e a
+alt-of-terms s p d o at e None o' a = alt-some= d (drop p s) fail e a
 
 -- Terms.
 pub terms-none : (d : ℕ) (t : Text) → Term= d t fail → Terms= d t fail
@@ -303,8 +302,8 @@ module _ (s : Text) (p k d : ℕ) (o : List ℕ) (at : ℕ) where
 
 -- A factor.
 pub factor-of-plain : (s : Text) (p d : ℕ) (o : List ℕ) (at : ℕ) → ch 40 (hd (drop p s)) ≡ false → (r : Step) (o' : List ℕ) → After-plain s p o at r o' → After-factor d s p o at r o'
-factor-of-plain s p d o at e (At x y) o' a = record { value = a.value; same = λ n h. factor-plain d (drop p s) e n h ∙ a.same; onward = a.onward; wrote = a.wrote; cells = a.cells }
-factor-of-plain s p d o at e No o' a = λ n h. factor-plain d (drop p s) e n h ∙ a
+factor-of-plain s p d o at e (Some (x, y)) o' a = record { value = a.value; same = λ n h. factor-plain d (drop p s) e n h ∙ a.same; onward = a.onward; wrote = a.wrote; cells = a.cells }
+factor-of-plain s p d o at e None o' a = λ n h. factor-plain d (drop p s) e n h ∙ a
 
 module _ (s : Text) (p d : ℕ) (o : List ℕ) (at : ℕ) (e : ch 40 (hd (drop p s)) ≡ true) where
   pub factor-deep : d ≡ 0 → Factor= d (drop p s) fail

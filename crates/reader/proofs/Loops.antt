@@ -7,16 +7,8 @@ use lib.ListN.{length, drop, take}
 use Rattle.text.specs.Lists.{Text}
 use Rattle.tree.specs.Tokens.{Token, numbers, encode}
 use Rattle.syntax.specs.Result.{Result, ok, fail, hd, map}
-use Rattle.spacing.specs.declared.Step.{Step}
-use Rattle.spacing.specs.declared.Step.TheVariants.{At}
-use Rattle.spacing.specs.Answers.{Skipped, Room, Read}
+use Rattle.spacing.specs.Answers.{Room, Read}
 use Rattle.spacing.proofs.Places.{in-char}
-use mathlib.Core.Path.{subst}
-use Rattle.text.specs.declared.CharPlace.{CharPlace}
-use Rattle.spacing.specs.declared.Cell.{Cell}
-use Rattle.spacing.specs.declared.Past.{Past}
-use Rattle.spacing.specs.declared.Past.TheVariants.{At as Past-at}
-use Rattle.spacing.specs.Answers.{After-skip, After}
 
 pub encode-append : (xs ys : List Token) → encode (xs ++ ys) ≡ encode xs ++ encode ys
 encode-append [] ys = refl
@@ -121,11 +113,3 @@ seen-in s q c k u e h = in-char s q c u (omega arith)
 
 pub less_one : (d : ℕ) → (d ≡ 0 → ⊥) → d ≡ suc (d - 1)
 less_one d f = omega (arith, f)
-
--- an answer of which the variant is known
-pub got : {A : Type 0} {E : Result A → Type 0} {code : A → List ℕ} {s : Text} {p lo : ℕ} {o : List ℕ} {at : ℕ} {r : Step} {o' : List ℕ} {q : CharPlace} {b : Cell}
-    → r ≡ At q b → After E code s p lo o at r o' → Read E code s p lo o at o' q.0 b.0
-got {E = E} {code} {s} {p} {lo} {o} {at} {r} {o'} e a = subst (λ (x : Step). After E code s p lo o at x o') e a
-
-pub skipped : {s : Text} {p : ℕ} {r : Past} {q : CharPlace} → r ≡ Past-at q → After-skip s p r → Skipped s p q.0
-skipped {s} {p} e a = subst (After-skip s p) e a

@@ -1,4 +1,5 @@
 -- Words, the prolog, and the whole grammar.
+use Rattle.std.specs.Prelude.{Some, None}
 use mathlib.Core.Path.{◌≡◌, refl, sym, ap, ◌∙◌}
 use mathlib.Core.List.{List, ◌++◌, append_assoc, append-nil}
 use Prim.Native.Nat.{ℕ, suc, ◌+◌, ◌<◌, ◌≤◌}
@@ -13,11 +14,7 @@ use Rattle.syntax.specs.Result.{Result, ok, fail, hd, map, then, guard, expect}
 use Rattle.syntax.specs.Spacing.{skip, required, spaced}
 use Rattle.syntax.specs.Lexical.{read_word, read-string}
 use Rattle.syntax.specs.Parser.{read-rule, heading, after-heading, read-prolog, grammar, read-ixml, answer, parse}
-use Rattle.spacing.specs.declared.Step.{Step}
-use Rattle.spacing.specs.declared.Step.TheVariants.{At, No}
-use Rattle.spacing.specs.declared.Past.{Past}
-use Rattle.spacing.specs.declared.Past.TheVariants.{At as Past-at, No as Past-no}
-use Rattle.spacing.specs.Answers.{Onward, Skipped, Room, Read}
+use Rattle.spacing.specs.Answers.{Past, Step, Onward, Skipped, Room, Read}
 use Rattle.lexical.specs.Answers.{After-name, counted_code}
 use Rattle.spacing.proofs.Places.{at-char, tl-at, in-char}
 use Rattle.spacing.proofs.Places as places
@@ -67,10 +64,10 @@ module _ (s : Text) (p q : ℕ) (a : Passed (λ x. read_word (chars "ixml") (dro
 
   pub heading-word : (u : ℕ) → Passed (λ x. required (drop q s) ≡ x) s q u → (r : Past) → After-word (chars "version") s u r → After-heading s p r
   unfolding heading then
-  heading-word u b (Past-at w) v =
+  heading-word u b (Some w) v =
       let i = a.onward in let j = b.onward in let k = v.onward in record
       { same = rw (a.same, b.same) v.same; onward = record { on = omega arith; within = k.within } }
-  heading-word u b Past-no v = rw (a.same, b.same) v
+  heading-word u b None v = rw (a.same, b.same) v
 
 -- the version
 pub version-no-space : (s : Text) (p : ℕ) → required (drop p s) ≡ fail → (t : Text) → after-heading (ok tt (drop p s)) t ≡ fail
@@ -112,14 +109,14 @@ prolog-none s p o at h e = record {
 pub prolog-some : (s : Text) (p u : ℕ) → Passed (λ x. heading (drop p s) ≡ x) s p u → (o : List ℕ) (at : ℕ) (r : Step) (o' : List ℕ)
     → After-version s u o at r o' → After-prolog s p o at r o'
 unfolding read-prolog
-prolog-some s p u a o at (At q b) o' v = let i = a.onward in let j = v.onward in let d = v.cells in record {
+prolog-some s p u a o at (Some (q, b)) o' v = let i = a.onward in let j = v.onward in let d = v.cells in record {
   value = v.value;
   same = rw a.same (v.same (drop p s));
   onward = record { on = omega arith; within = j.within };
   wrote = v.wrote;
   cells = omega arith;
 }
-prolog-some s p u a o at No o' v = rw a.same (v (drop p s))
+prolog-some s p u a o at None o' v = rw a.same (v (drop p s))
 
 -- the whole
 module _ (s : Text) where

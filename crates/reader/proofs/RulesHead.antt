@@ -15,8 +15,7 @@ use Rattle.syntax.specs.Spacing.{skip}
 use Rattle.syntax.specs.Lexical.{read-mark, read_name}
 use Rattle.syntax.specs.Parser.{Alts=, alts, enough, rule, read-rule}
 use Rattle.syntax.proofs.Classes.{ch-end}
-use Rattle.spacing.specs.declared.Step.{Step}
-use Rattle.spacing.specs.Answers.{Onward, Room, Read, Step-in}
+use Rattle.spacing.specs.Answers.{Step, Onward, Room, Read, Step-in}
 use Rattle.lexical.specs.Answers.{After-name, counted_code, Mark-read}
 use Rattle.spacing.proofs.Parts.{as-part, step_in}
 use Rattle.spacing.proofs.Places.{tl-at, in-text}

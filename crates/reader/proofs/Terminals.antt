@@ -1,4 +1,5 @@
 -- Factors that are no brackets: each answer from the answers of what it calls.
+use Rattle.std.specs.Prelude.{Some, None}
 use mathlib.Core.Bool.{true, false}
 use mathlib.Core.Path.{◌≡◌, refl, sym, ap, ◌∙◌}
 use mathlib.Core.List.{List, ◌∷◌, ◌++◌, append-nil}
@@ -14,9 +15,7 @@ use Rattle.syntax.specs.Spacing.{skip, spaced}
 use Rattle.syntax.specs.Lexical.{read-chars, read_set, read-mark, read-use}
 use Rattle.syntax.specs.Parser.{read-terminal, read-insertion, read-nonterminal, tmark, marked, read_plain}
 use Rattle.syntax.proofs.Classes.{ch-end}
-use Rattle.spacing.specs.declared.Step.{Step}
-use Rattle.spacing.specs.declared.Step.TheVariants.{At, No}
-use Rattle.spacing.specs.Answers.{Skipped, Room, Step-in, Spaced, After}
+use Rattle.spacing.specs.Answers.{Step, Skipped, Room, Step-in, Spaced, After}
 use Rattle.lexical.specs.Answers.{chars_code, counted_code, After-chars-token, After-name, Mark-read}
 use Rattle.sets.specs.Answers.{After-set}
 use Rattle.spacing.proofs.Places.{tl-at, in-text}
@@ -28,16 +27,16 @@ spaced-as : {A C : Type 0} (E : Result A → Type 0) (F : Result C → Type 0) (
     → p ≤ n → lo ≤ low → ((v : A) → code_c (g v) ≡ code_a v) → ((x : Result A) → E x → F (then x (λ v u. spaced (g v) u)))
     → (r : Step) (o' : List ℕ) (r' : Step) → After E code_a s n low o at r o' → Spaced s r r' → After F code_c s p lo o at r' o'
 unfolding then spaced map
-spaced-as E F code_a code_c g s p lo n low o at h l e f (At q b) o' (At w k) a z = let i = a.onward in let j = z.skipped.onward in let c = a.cells in let d = z.cell in record {
+spaced-as E F code_a code_c g s p lo n low o at h l e f (Some (q, b)) o' (Some (w, k)) a z = let i = a.onward in let j = z.skipped.onward in let c = a.cells in let d = z.cell in record {
   value = g a.value;
   same = rw z.skipped.past at (f (ok a.value (drop q.0 s)) a.same);
   onward = record { on = omega arith; within = j.within };
   wrote = rw z.cell (a.wrote ∙ ap (λ (x : List ℕ). take at o ++ x) (sym (e a.value)));
   cells = omega arith;
 }
-spaced-as E F code_a code_c g s p lo n low o at h l e f (At q b) o' No a z = rw z at (f (ok a.value (drop q.0 s)) a.same)
-spaced-as E F code_a code_c g s p lo n low o at h l e f No o' (At w k) a z = absurd z
-spaced-as E F code_a code_c g s p lo n low o at h l e f No o' No a z = f fail a
+spaced-as E F code_a code_c g s p lo n low o at h l e f (Some (q, b)) o' None a z = rw z at (f (ok a.value (drop q.0 s)) a.same)
+spaced-as E F code_a code_c g s p lo n low o at h l e f None o' (Some (w, k)) a z = absurd z
+spaced-as E F code_a code_c g s p lo n low o at h l e f None o' None a z = f fail a
 
 pub chars-step : (a b : ℕ) (s : Text) (p : ℕ) (o : List ℕ) (at : ℕ) (t : Step) (o' : List ℕ) → After-chars-token a b s p o at t o' → Step-in s t
 chars-step a b s p o at = step_in (λ x. read-chars (drop p s) ≡ x) (chars_code a b) s p (p + 1) o at

@@ -1,5 +1,5 @@
 -- What each answer of the reader says: the definition's answer on the text from the place on, and what the table holds.
-use Rattle.std.specs.Prelude.{Bool, ◌||◌, ◌≡◌, List, [], ◌∷◌, ◌++◌, ℕ, ◌+◌, ◌*◌, ◌<◌, ◌≤◌, length, take, drop}
+use Rattle.std.specs.Prelude.{Bool, ◌||◌, ◌≡◌, List, [], ◌∷◌, ◌++◌, ℕ, ◌+◌, ◌*◌, ◌<◌, ◌≤◌, length, take, drop, Option, Some, None}
 use Rattle.text.specs.Lists.{Text, concat_map}
 use Rattle.text.specs.Stages.{StageAnswer, answered, refused, Settles}
 use Rattle.tree.specs.Tree.{Mark, Terminal, Symbol, Alternative, Body, Rule, Prolog, Grammar}
@@ -9,13 +9,8 @@ use Rattle.syntax.specs.Result.{Result, ok, fail, hd, tl, map, when, then, expec
 use Rattle.syntax.specs.Spacing.{skip, required}
 use Rattle.syntax.specs.Lexical.{read_word, read-mark, read_name}
 use Rattle.syntax.specs.Parser.{read-terminal, read-insertion, read_plain, Alts=, Alt=, Terms=, Term=, Factor=, Agrees, read-rule, rules, heading, after-heading, read-prolog, parse, parsed, no-parse}
-use Rattle.spacing.specs.Answers.{Onward, After}
-use Rattle.spacing.specs.declared.Past.{Past}
-use Rattle.spacing.specs.declared.Past.TheVariants.{At as Past-at, No as Past-no}
-use Rattle.spacing.specs.declared.Step.{Step}
-use Rattle.spacing.specs.declared.Step.TheVariants.{At, No}
-use Rattle.reader.specs.declared.Reading.{Reading}
-use Rattle.reader.specs.declared.Reading.TheVariants.{Grammar as A-grammar, NoGrammar}
+use Rattle.spacing.specs.declared.Cell.{Cell}
+use Rattle.spacing.specs.Answers.{Past, Step, Onward, After}
 
 -- The numbers of each part of the tree.
 abbrev pub terminal_code : Terminal → List ℕ
@@ -98,10 +93,10 @@ pub record Shut (f : ℕ → Bool) (s : Text) (q b y e : ℕ) : Type 0 where
   pub cell : e ≡ b
 
 abbrev pub Closed : (ℕ → Bool) → Text → Step → Step → Type 0
-Closed f s (At q b) (At y e) = Shut f s q.0 b.0 y.0 e.0
-Closed f s (At q b) No = closing f (drop q.0 s) ≡ fail
-Closed f s No (At y e) = ⊥
-Closed f s No No = Unit {0}
+Closed f s (Some (q, b)) (Some (y, e)) = Shut f s q.0 b.0 y.0 e.0
+Closed f s (Some (q, b)) None = closing f (drop q.0 s) ≡ fail
+Closed f s None (Some (y, e)) = ⊥
+Closed f s None None = Unit {0}
 
 -- Rules.
 pub record Head : Type 0 where
@@ -133,8 +128,8 @@ pub record Passed (E : Result (Unit {0}) → Type 0) (s : Text) (p q : ℕ) : Ty
   pub onward : Onward s p q
 
 abbrev pub After-past : (Result (Unit {0}) → Type 0) → Text → ℕ → Past → Type 0
-After-past E s p (Past-at q) = Passed E s p q.0
-After-past E s p Past-no = E fail
+After-past E s p (Some q) = Passed E s p q.0
+After-past E s p None = E fail
 
 abbrev pub After-word : Text → Text → ℕ → Past → Type 0
 After-word w s p r = After-past (λ x. read_word w (drop p s) ≡ x) s p r
@@ -169,9 +164,9 @@ pub record NotIxml (s : Text) (n : ℕ) : Type 0 where
   pub none : parse s ≡ no-parse
 
 -- document 01's number and values for each case
-abbrev pub stage_of : Reading → StageAnswer ℕ ℕ
-stage_of (A-grammar b) = answered b.0
-stage_of NoGrammar = refused 4
+abbrev pub stage_of : Option Cell → StageAnswer ℕ ℕ
+stage_of (Some b) = answered b.0
+stage_of None = refused 4
 
-abbrev pub Read-as : Text → Reading → List ℕ → Type 0
+abbrev pub Read-as : Text → Option Cell → List ℕ → Type 0
 Read-as s r o' = Settles (Held s o') (NotIxml s) (stage_of r)

@@ -3,7 +3,8 @@ ghost use Rattle.std.specs.Prelude.{◌≡◌, ◌<◌};
 ghost use Rattle.spacing.specs.Answers.{Step-in};
 ghost use Rattle.reader.specs.Answers.{one_of, Closed};
 
-use spacing::{Past, Step};
+use decode::CharPlace;
+use spacing::Cell;
 
 // Whether a character is one of two.
 fn one_of(c: u32, first: u32, second: u32) -> bool
@@ -16,18 +17,19 @@ fn one_of(c: u32, first: u32, second: u32) -> bool
 }
 
 // Past the spacing after a word, one of two characters, which must follow, and the spacing after that.
-pub fn closed(text: &[u32], word: Step, first: u32, second: u32) -> Step
+pub fn closed(
+    text: &[u32],
+    word: Option<(CharPlace, Cell)>,
+    first: u32,
+    second: u32,
+) -> Option<(CharPlace, Cell)>
     requires { Step-in text.now word × ((first < 1114112) × (second < 1114112)) }
     ensures { Closed (one_of first second) text.now word result }
 {
-    let Step::At(w, b) = spacing::spaced(text, word) else {
-        return Step::No;
-    };
+    let (w, b) = spacing::spaced(text, word)?;
     if !one_of(spacing::peek(text, w), first, second) {
-        return Step::No;
+        return None;
     }
-    let Past::At(y) = spacing::skip(text, decode::after(w)) else {
-        return Step::No;
-    };
-    Step::At(y, b)
+    let y = spacing::skip(text, decode::after(w))?;
+    Some((y, b))
 }

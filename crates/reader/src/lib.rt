@@ -15,10 +15,9 @@ ghost use Rattle.reader.specs.Answers.{After-factor, After-head, After-rule, Aft
 use crate::closing::closed;
 use crate::prolog::prolog;
 use decode::{CharPlace, after};
-use lexical::Marked;
 use spacing::{
     CLOSE_ROUND, COLON, COMMA, Cell, EQUALS, FULL_STOP, NUMBER_SIGN, OPEN_ROUND, OPEN_SQUARE, PLUS,
-    Past, QUESTION_MARK, STAR, Step, TILDE,
+    QUESTION_MARK, STAR, TILDE,
 };
 
 // The number of a mark is added to the kinds of names, terminals and heads of rules, and 1 to those of repetitions where it is `+`.
@@ -29,15 +28,19 @@ use tokens::{
 };
 
 // A terminal after its mark, whose number is m.
-fn terminal(text: &[u32], p: CharPlace, m: u32, out: &mut [u32], at: Cell) -> Step
+fn terminal(
+    text: &[u32],
+    p: CharPlace,
+    m: u32,
+    out: &mut [u32],
+    at: Cell,
+) -> Option<(CharPlace, Cell)>
     requires { Room text.now p.0 out.old at.0 × (m < 4) }
     ensures { After-terminal m text.now p.0 out.old at.0 result out.new }
 {
     let c = spacing::peek(text, p);
     if c == TILDE {
-        let Past::At(q) = spacing::skip(text, after(p)) else {
-            return Step::No;
-        };
+        let q = spacing::skip(text, after(p))?;
         return sets::set(text, q, EXCLUDE + m, out, at);
     }
     if c == OPEN_SQUARE {
@@ -50,13 +53,11 @@ fn terminal(text: &[u32], p: CharPlace, m: u32, out: &mut [u32], at: Cell) -> St
 }
 
 // An insertion, at its plus.
-fn insertion(text: &[u32], p: CharPlace, out: &mut [u32], at: Cell) -> Step
+fn insertion(text: &[u32], p: CharPlace, out: &mut [u32], at: Cell) -> Option<(CharPlace, Cell)>
     requires { Room text.now p.0 out.old at.0 × (ch 43 (hd (drop p.0 text.now)) ≡ true) }
     ensures { After-insertion text.now p.0 out.old at.0 result out.new }
 {
-    let Past::At(q) = spacing::skip(text, after(p)) else {
-        return Step::No;
-    };
+    let q = spacing::skip(text, after(p))?;
     spacing::spaced(
         text,
         lexical::read_chars(text, q, INSERT_QUOTED, INSERT_CODED, out, at),
@@ -64,21 +65,19 @@ fn insertion(text: &[u32], p: CharPlace, out: &mut [u32], at: Cell) -> Step
 }
 
 // A factor that is no bracket.
-fn plain_factor(text: &[u32], p: CharPlace, out: &mut [u32], at: Cell) -> Step
+fn plain_factor(text: &[u32], p: CharPlace, out: &mut [u32], at: Cell) -> Option<(CharPlace, Cell)>
     requires { Room text.now p.0 out.old at.0 }
     ensures { After-plain text.now p.0 out.old at.0 result out.new }
 {
     if spacing::peek(text, p) == PLUS {
         return insertion(text, p, out, at);
     }
-    let Marked::At(q, m) = lexical::mark(text, p) else {
-        return Step::No;
-    };
+    let (q, m) = lexical::mark(text, p)?;
     if spacing::name_start(spacing::peek(text, q)) {
         return spacing::spaced(text, lexical::used_name(text, q, m, out, at));
     }
     if m == ATTRIBUTE {
-        return Step::No;
+        return None;
     }
     terminal(text, q, m, out, at)
 }
@@ -113,22 +112,24 @@ fn starts(c: u32) -> bool
 
 // Alternatives with bars between them; d brackets more may open.
 #[cycle(alternative_alternatives_factor_repeated_term_terms)]
-fn alternatives(text: &[u32], p: CharPlace, d: usize, out: &mut [u32], at: Cell) -> Step
+fn alternatives(
+    text: &[u32],
+    p: CharPlace,
+    d: usize,
+    out: &mut [u32],
+    at: Cell,
+) -> Option<(CharPlace, Cell)>
     requires { Room text.now p.0 out.old at.0 }
     ensures { After-alternatives d text.now p.0 out.old at.0 result out.new }
 {
     let mut from = p;
     let mut to = at;
     loop {
-        let Step::At(q, b) = alternative(text, from, d, out, to) else {
-            return Step::No;
-        };
+        let (q, b) = alternative(text, from, d, out, to)?;
         if !spacing::bar(spacing::peek(text, q)) {
-            return Step::At(q, b);
+            return Some((q, b));
         }
-        let Step::At(w, e) = spacing::token(text, q, NEXT_ALTERNATIVE, out, b) else {
-            return Step::No;
-        };
+        let (w, e) = spacing::token(text, q, NEXT_ALTERNATIVE, out, b)?;
         from = w;
         to = e;
     }
@@ -136,34 +137,42 @@ fn alternatives(text: &[u32], p: CharPlace, d: usize, out: &mut [u32], at: Cell)
 
 // An alternative: terms, or nothing.
 #[cycle(alternative_alternatives_factor_repeated_term_terms)]
-fn alternative(text: &[u32], p: CharPlace, d: usize, out: &mut [u32], at: Cell) -> Step
+fn alternative(
+    text: &[u32],
+    p: CharPlace,
+    d: usize,
+    out: &mut [u32],
+    at: Cell,
+) -> Option<(CharPlace, Cell)>
     requires { Room text.now p.0 out.old at.0 }
     ensures { After-alternative d text.now p.0 out.old at.0 result out.new }
 {
     if starts(spacing::peek(text, p)) {
         return terms(text, p, d, out, at);
     }
-    Step::At(p, at)
+    Some((p, at))
 }
 
 // Terms with commas between them.
 #[cycle(alternative_alternatives_factor_repeated_term_terms)]
-fn terms(text: &[u32], p: CharPlace, d: usize, out: &mut [u32], at: Cell) -> Step
+fn terms(
+    text: &[u32],
+    p: CharPlace,
+    d: usize,
+    out: &mut [u32],
+    at: Cell,
+) -> Option<(CharPlace, Cell)>
     requires { Room text.now p.0 out.old at.0 }
     ensures { After-terms d text.now p.0 out.old at.0 result out.new }
 {
     let mut from = p;
     let mut to = at;
     loop {
-        let Step::At(q, b) = term(text, from, d, out, to) else {
-            return Step::No;
-        };
+        let (q, b) = term(text, from, d, out, to)?;
         if spacing::peek(text, q) != COMMA {
-            return Step::At(q, b);
+            return Some((q, b));
         }
-        let Past::At(w) = spacing::skip(text, after(q)) else {
-            return Step::No;
-        };
+        let w = spacing::skip(text, after(q))?;
         from = w;
         to = b;
     }
@@ -171,13 +180,17 @@ fn terms(text: &[u32], p: CharPlace, d: usize, out: &mut [u32], at: Cell) -> Ste
 
 // A term: a factor, perhaps repeated.
 #[cycle(alternative_alternatives_factor_repeated_term_terms)]
-fn term(text: &[u32], p: CharPlace, d: usize, out: &mut [u32], at: Cell) -> Step
+fn term(
+    text: &[u32],
+    p: CharPlace,
+    d: usize,
+    out: &mut [u32],
+    at: Cell,
+) -> Option<(CharPlace, Cell)>
     requires { Room text.now p.0 out.old at.0 }
     ensures { After-term d text.now p.0 out.old at.0 result out.new }
 {
-    let Step::At(q, b) = factor(text, p, d, out, at) else {
-        return Step::No;
-    };
+    let (q, b) = factor(text, p, d, out, at)?;
     let c = spacing::peek(text, q);
     if c == QUESTION_MARK {
         return spacing::token(text, q, TO_OPTION, out, b);
@@ -188,12 +201,19 @@ fn term(text: &[u32], p: CharPlace, d: usize, out: &mut [u32], at: Cell) -> Step
     if c == PLUS {
         return repeated(text, q, 1, d, out, b);
     }
-    Step::At(q, b)
+    Some((q, b))
 }
 
 // What follows a factor at its `*` (k is 0) or `+` (k is 1), alone or twice with a separator.
 #[cycle(alternative_alternatives_factor_repeated_term_terms)]
-fn repeated(text: &[u32], p: CharPlace, k: u32, d: usize, out: &mut [u32], at: Cell) -> Step
+fn repeated(
+    text: &[u32],
+    p: CharPlace,
+    k: u32,
+    d: usize,
+    out: &mut [u32],
+    at: Cell,
+) -> Option<(CharPlace, Cell)>
     requires { Room text.now p.0 out.old at.0 × (k < 2) × (ch (42 + k) (hd (drop p.0 text.now)) ≡ true) }
     ensures { After-repeat k d text.now p.0 out.old at.0 result out.new }
 {
@@ -201,19 +221,21 @@ fn repeated(text: &[u32], p: CharPlace, k: u32, d: usize, out: &mut [u32], at: C
     if spacing::peek(text, second) != STAR + k {
         return spacing::token(text, p, TO_REPEAT0 + k, out, at);
     }
-    let Past::At(w) = spacing::skip(text, after(second)) else {
-        return Step::No;
-    };
-    let Step::At(q, b) = factor(text, w, d, out, at) else {
-        return Step::No;
-    };
+    let w = spacing::skip(text, after(second))?;
+    let (q, b) = factor(text, w, d, out, at)?;
     let end = put(out, b, TO_REPEAT0SEP + k);
-    Step::At(q, end)
+    Some((q, end))
 }
 
 // A factor; d brackets more may open.
 #[cycle(alternative_alternatives_factor_repeated_term_terms)]
-fn factor(text: &[u32], p: CharPlace, d: usize, out: &mut [u32], at: Cell) -> Step
+fn factor(
+    text: &[u32],
+    p: CharPlace,
+    d: usize,
+    out: &mut [u32],
+    at: Cell,
+) -> Option<(CharPlace, Cell)>
     requires { Room text.now p.0 out.old at.0 }
     ensures { After-factor d text.now p.0 out.old at.0 result out.new }
 {
@@ -221,28 +243,22 @@ fn factor(text: &[u32], p: CharPlace, d: usize, out: &mut [u32], at: Cell) -> St
         return plain_factor(text, p, out, at);
     }
     if d == 0 {
-        return Step::No;
+        return None;
     }
-    let Step::At(w, e) = spacing::token(text, p, OPEN_GROUP, out, at) else {
-        return Step::No;
-    };
-    let Step::At(q, b) = alternatives(text, w, d - 1, out, e) else {
-        return Step::No;
-    };
+    let (w, e) = spacing::token(text, p, OPEN_GROUP, out, at)?;
+    let (q, b) = alternatives(text, w, d - 1, out, e)?;
     if spacing::peek(text, q) != CLOSE_ROUND {
-        return Step::No;
+        return None;
     }
     spacing::token(text, q, CLOSE_GROUP, out, b)
 }
 
 // The head of a rule: mark, name, `=` or `:`, and spacing.
-fn rule_head(text: &[u32], p: CharPlace, out: &mut [u32], at: Cell) -> Step
+fn rule_head(text: &[u32], p: CharPlace, out: &mut [u32], at: Cell) -> Option<(CharPlace, Cell)>
     requires { Room text.now p.0 out.old at.0 }
     ensures { After-head text.now p.0 out.old at.0 result out.new }
 {
-    let Marked::At(q, m) = lexical::mark(text, p) else {
-        return Step::No;
-    };
+    let (q, m) = lexical::mark(text, p)?;
     let name = lexical::name(text, q, RULE_HEAD + m, out, at);
     closed(text, name, EQUALS, COLON)
 }
@@ -258,70 +274,48 @@ fn put(out: &mut [u32], at: Cell, k: u32) -> Cell
 }
 
 // A rule, to its full stop.
-fn rule(text: &[u32], p: CharPlace, out: &mut [u32], at: Cell) -> Step
+fn rule(text: &[u32], p: CharPlace, out: &mut [u32], at: Cell) -> Option<(CharPlace, Cell)>
     requires { Room text.now p.0 out.old at.0 }
     ensures { After-rule text.now p.0 out.old at.0 result out.new }
 {
-    let Step::At(y, b) = rule_head(text, p, out, at) else {
-        return Step::No;
-    };
-    let Step::At(z, e) = alternatives(text, y, limits::LEVELS, out, b) else {
-        return Step::No;
-    };
+    let (y, b) = rule_head(text, p, out, at)?;
+    let (z, e) = alternatives(text, y, limits::LEVELS, out, b)?;
     if spacing::peek(text, z) != FULL_STOP {
-        return Step::No;
+        return None;
     }
     let end = put(out, e, RULE_END);
-    Step::At(after(z), end)
+    Some((after(z), end))
 }
 
 // Further rules, each after spacing, to the end of the text.
-fn rules(text: &[u32], p: CharPlace, out: &mut [u32], at: Cell) -> Step
+fn rules(text: &[u32], p: CharPlace, out: &mut [u32], at: Cell) -> Option<(CharPlace, Cell)>
     requires { Room text.now p.0 out.old at.0 }
     ensures { After-rules text.now p.0 out.old at.0 result out.new }
 {
     let mut from = p;
     let mut to = at;
     loop {
-        let Past::At(u) = spacing::skip(text, from) else {
-            return Step::No;
-        };
+        let u = spacing::skip(text, from)?;
         if u.0 == text.len() {
-            return Step::At(u, to);
+            return Some((u, to));
         }
         if u.0 == from.0 {
-            return Step::No;
+            return None;
         }
-        let Step::At(w, b) = rule(text, u, out, to) else {
-            return Step::No;
-        };
+        let (w, b) = rule(text, u, out, to)?;
         from = w;
         to = b;
     }
 }
 
-#[derive(Clone, Copy)]
-pub enum Reading {
-    Grammar(Cell),
-    NoGrammar,
-}
-
-// The tree of a grammar text as tokens in the table, or that the text is none.
-pub fn read_grammar(text: &[u32], out: &mut [u32]) -> Reading
+// The tree of a grammar text as tokens in the table, and the cell after them; or that the text is none.
+pub fn read_grammar(text: &[u32], out: &mut [u32]) -> Option<Cell>
     requires { Readable text.now out.old }
     ensures { Read-as text.now result out.new }
 {
-    let Past::At(u) = spacing::skip(text, CharPlace(0)) else {
-        return Reading::NoGrammar;
-    };
-    let Step::At(v, a) = prolog(text, u, out, Cell(0)) else {
-        return Reading::NoGrammar;
-    };
-    let Step::At(w, b) = rule(text, v, out, a) else {
-        return Reading::NoGrammar;
-    };
-    let Step::At(_, e) = rules(text, w, out, b) else {
-        return Reading::NoGrammar;
-    };
-    Reading::Grammar(e)
+    let u = spacing::skip(text, CharPlace(0))?;
+    let (v, a) = prolog(text, u, out, Cell(0))?;
+    let (w, b) = rule(text, v, out, a)?;
+    let (_, e) = rules(text, w, out, b)?;
+    Some(e)
 }

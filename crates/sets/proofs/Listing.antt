@@ -13,8 +13,7 @@ use Rattle.syntax.specs.Result.{Result, ok, fail, hd, tl, map, when, then, guard
 use Rattle.syntax.specs.Spacing.{skip, spaced}
 use Rattle.syntax.specs.Lexical.{read-member, separated, members, read_set}
 use Rattle.syntax.proofs.Classes.{bar-end}
-use Rattle.spacing.specs.declared.Step.{Step}
-use Rattle.spacing.specs.Answers.{Onward, Skipped, Room, Read, After-token}
+use Rattle.spacing.specs.Answers.{Step, Onward, Skipped, Room, Read, After-token}
 use Rattle.sets.specs.Answers.{filled, After-filled, member_code, members_code, Members=, After-set}
 use Rattle.spacing.proofs.Places.{tl-at, in-text, shorter}
 use Rattle.spacing.proofs.Parts.{tail}

@@ -1,8 +1,9 @@
 -- Sets: each answer from the answers of what it calls.
+use Rattle.std.specs.Prelude.{Some, None}
 use mathlib.Core.Bool.{true, false}
 use mathlib.Core.Path.{◌≡◌, refl, sym, ap, ◌∙◌}
 use mathlib.Core.List.{List, [], ◌∷◌, ◌++◌}
-use Prim.Native.Nat.{ℕ, ◌+◌, ◌-◌, ◌<◌, ◌≤◌}
+use Prim.Native.Nat.{ℕ, ◌+◌, ◌<◌, ◌≤◌}
 use native.Mathlib.Omega.{arith}
 use lib.ListN.{length, get_or, drop, take, set}
 use Rattle.text.specs.Lists.{Text}
@@ -16,12 +17,9 @@ use Rattle.syntax.specs.Lexical.{read-chars, one-character, read-character, read
 use Rattle.syntax.proofs.Classes.{capital-end, letter-end}
 use Rattle.text.specs.declared.CharPlace.{CharPlace}
 use Rattle.spacing.specs.declared.Cell.{Cell}
-use Rattle.spacing.specs.declared.Past.TheVariants.{At as Past-at, No as Past-no}
-use Rattle.spacing.specs.declared.Step.{Step}
-use Rattle.spacing.specs.declared.Step.TheVariants.{At, No}
 use Rattle.lexical.specs.declared.Characters.{Characters}
-use Rattle.lexical.specs.declared.Characters.TheVariants.{Quoted, Coded, No as Characters-no}
-use Rattle.spacing.specs.Answers.{Onward, Skipped, Room, Step-in, Spaced, Read, After, three}
+use Rattle.lexical.specs.declared.Characters.TheVariants.{Quoted, Coded}
+use Rattle.spacing.specs.Answers.{Step, Onward, Skipped, Room, Step-in, Spaced, Read, After, three}
 use Rattle.lexical.specs.Answers.{Space, Copied, Coding, After-chars, chars_code, Chars-token}
 use Rattle.sets.specs.Answers.{Chars-in, Past-chars, Range-end, range-to, After-rest, After-class, member_code, After-member}
 use Rattle.spacing.proofs.Places.{hd-char, tl-at, in-text, in-char, tested}
@@ -126,15 +124,13 @@ module _ (s : Text) (p u : ℕ) (h : p < u) (o : List ℕ) (at : ℕ) (l : at + 
     cells = omega arith;
   }
 
-  pub end_read : (c : Characters) → After-chars s u o (at + 1) c m → (t : Step) (o' : List ℕ) → Range-end c m at t o'
+  pub end_read : (c : Characters) → After-chars s u o (at + 1) (Some c) m → (t : Step) (o' : List ℕ) → Range-end c m at t o'
       → After (λ x. read-character (drop u s) ≡ x) end_numbers s p (p + 1) o at t o'
   unfolding map
-  end_read (Quoted q e) a (At x y) o' w = rw (w.0.step.0, w.0.step.1) (quoted-end q.0 e.0 o' a w.0.table w.1)
-  end_read (Quoted q e) a No o' w = let c = a.cells in no-character s u (string a.chars) (drop q.0 s) a.same (one-not a.chars (λ z. w (omega arith)))
-  end_read (Coded q v) a (At x y) o' w = rw (w.step.0, w.step.1) (coded-end q.0 v o' a w.table)
-  end_read (Coded q v) a No o' w = absurd w.step
-  end_read Characters-no a (At x y) o' w = absurd w
-  end_read Characters-no a No o' w = none-there s u a
+  end_read (Quoted q e) a (Some (x, y)) o' w = rw (w.0.place, w.0.cell) (quoted-end q.0 e.0 o' a w.0.table w.1)
+  end_read (Quoted q e) a None o' w = let c = a.cells in no-character s u (string a.chars) (drop q.0 s) a.same (one-not a.chars (λ z. w (omega arith)))
+  end_read (Coded q v) a (Some (x, y)) o' w = rw (w.place, w.cell) (coded-end q.0 v o' a w.table)
+  end_read (Coded q v) a None o' w = absurd w
 
 -- the rest of a range
 module _ (s : Text) (p : ℕ) where
@@ -156,7 +152,11 @@ module _ (s : Text) (p : ℕ) where
     unfolding range-to then
     rest_of x e = rw (k.past, e)
 
-    module _ (m : List ℕ) (len : length m ≡ length o) (c : Characters) (a : After-chars s u o (at + 1) c m) (t : Step) (o' : List ℕ) (w : Range-end c m at t o') where
+    pub rest_none : read-chars (drop u s) ≡ fail → range-to (drop (p + 1) s) ≡ fail
+    unfolding then
+    rest_none e = rest_of fail (none-there s u e)
+
+    module _ (m : List ℕ) (len : length m ≡ length o) (c : Characters) (a : After-chars s u o (at + 1) (Some c) m) (t : Step) (o' : List ℕ) (w : Range-end c m at t o') where
       pub rest_in : Step-in s t
       rest_in = step_in (λ x. read-character (drop u s) ≡ x) end_numbers s p (p + 1) o at t o' (end_read s p u rest-on o at rest-cells m len c a t o' w)
 
@@ -191,9 +191,9 @@ module _ (s : Text) (p : ℕ) (o : List ℕ) (at : ℕ) (r : Room s p o at) (f :
   unfolding read-member when then
   by-chars k u e = rw (f, e)
 
-  by-none : read-chars (drop p s) ≡ fail → read-member (drop p s) ≡ fail
+  pub member_none : read-chars (drop p s) ≡ fail → read-member (drop p s) ≡ fail
   unfolding read-member when then
-  by-none e = rw (f, e)
+  member_none e = rw (f, e)
 
   bad-space : (k : Chars) (q : ℕ) → read-chars (drop p s) ≡ ok k (drop q s) → skip (drop q s) ≡ fail → read-member (drop p s) ≡ fail
   unfolding then
@@ -213,16 +213,14 @@ module _ (s : Text) (p : ℕ) (o : List ℕ) (at : ℕ) (r : Room s p o at) (f :
     not-range h n = by-chars k (drop q s) e ∙ rw (y, h, n)
 
   module _ (m : List ℕ) (len : length m ≡ length o) where
-    pub chars-in : (c : Characters) → After-chars s p o (at + 2) c m → Chars-in s c
+    pub chars-in : (c : Characters) → After-chars s p o (at + 2) (Some c) m → Chars-in s c
     chars-in (Quoted q b) a = a.onward.within
     chars-in (Coded q v) a = a.number.onward.within
-    chars-in Characters-no a = tt
 
-    pub member-unspaced : (c : Characters) → After-chars s p o (at + 2) c m → Past-chars s c Past-no → read-member (drop p s) ≡ fail
+    pub member-unspaced : (c : Characters) → After-chars s p o (at + 2) (Some c) m → Past-chars s c None → read-member (drop p s) ≡ fail
     unfolding map
     member-unspaced (Quoted q b) a z = bad-space (string a.chars) q.0 a.same z
     member-unspaced (Coded q v) a z = bad-space (hex a.number.value) q.0 a.number.same z
-    member-unspaced Characters-no a z = by-none a
 
     quoted-begun : (q e : ℕ) (o' : List ℕ) → at + 3 ≤ length m → Copied (λ x. read-chars (drop p s) ≡ map string x) s p 2 o (at + 2) m q e
         → o' ≡ set (set m at 26) (at + 1) 0 → e ≡ at + 1 + 2 → Begun s p o at o' q e
@@ -246,37 +244,33 @@ module _ (s : Text) (p : ℕ) (o : List ℕ) (at : ℕ) (r : Room s p o at) (f :
     }
 
     module _ (c : Characters) (w : CharPlace) where
-      pub past-on : After-chars s p o (at + 2) c m → Past-chars s c (Past-at w) → Onward s (p + 1) w.0
+      pub past-on : After-chars s p o (at + 2) (Some c) m → Past-chars s c (Some w) → Onward s (p + 1) w.0
       past-on a z = go c a z
         where
-          go : (c : Characters) → After-chars s p o (at + 2) c m → Past-chars s c (Past-at w) → Onward s (p + 1) w.0
+          go : (c : Characters) → After-chars s p o (at + 2) (Some c) m → Past-chars s c (Some w) → Onward s (p + 1) w.0
           go (Quoted q b) a z = let i = a.onward in let c = a.cells in let d = a.count in let n = z.onward in record { on = omega arith; within = n.within }
           go (Coded q v) a z = let i = a.number.onward in let n = z.onward in record { on = omega arith; within = n.within }
-          go Characters-no a z = absurd z
 
-      pub head-room : After-chars s p o (at + 2) c m → Past-chars s c (Past-at w) → w.0 < length s → at + 3 ≤ length m
+      pub head-room : After-chars s p o (at + 2) (Some c) m → Past-chars s c (Some w) → w.0 < length s → at + 3 ≤ length m
       head-room a z h = let n = past-on a z in let k = r.cells in omega arith
 
-    pub no-range : (c : Characters) (w : CharPlace) (o' : List ℕ) → After-chars s p o (at + 2) c m → Range-end c (set m at 26) (at + 1) No o'
-        → Past-chars s c (Past-at w) → ch 0x2d (hd (drop w.0 s)) ≡ true → read-member (drop p s) ≡ fail
+    pub no-range : (c : Characters) (w : CharPlace) (o' : List ℕ) → After-chars s p o (at + 2) (Some c) m → Range-end c (set m at 26) (at + 1) None o'
+        → Past-chars s c (Some w) → ch 0x2d (hd (drop w.0 s)) ≡ true → read-member (drop p s) ≡ fail
     unfolding map
     no-range (Quoted q e) w o' a z k h = let c = a.cells in not-range (string a.chars) q.0 w.0 a.same k.past h (one-not a.chars (λ n. z (omega arith)))
-    no-range (Coded q v) w o' a z k h = absurd z.step
-    no-range Characters-no w o' a z k h = absurd k
+    no-range (Coded q v) w o' a z k h = absurd z
 
-    begun : (c : Characters) (x : CharPlace) (y : Cell) (o' : List ℕ) → at + 3 ≤ length m → After-chars s p o (at + 2) c m
-        → Range-end c (set m at 26) (at + 1) (At x y) o' → Begun s p o at o' x.0 y.0
-    begun (Quoted q e) x y o' h a z = rw (z.0.step.0, z.0.step.1) (quoted-begun q.0 e.0 o' h a z.0.table z.1)
-    begun (Coded q v) x y o' h a z = rw (z.step.0, z.step.1) (coded-begun q.0 v o' h a z.table)
-    begun Characters-no x y o' h a z = absurd z
+    begun : (c : Characters) (x : CharPlace) (y : Cell) (o' : List ℕ) → at + 3 ≤ length m → After-chars s p o (at + 2) (Some c) m
+        → Range-end c (set m at 26) (at + 1) (Some (x, y)) o' → Begun s p o at o' x.0 y.0
+    begun (Quoted q e) x y o' h a z = rw (z.0.place, z.0.cell) (quoted-begun q.0 e.0 o' h a z.0.table z.1)
+    begun (Coded q v) x y o' h a z = rw (z.place, z.cell) (coded-begun q.0 v o' h a z.table)
 
-    begun-skipped : (c : Characters) (w x : CharPlace) (y : Cell) (o' : List ℕ) → Range-end c (set m at 26) (at + 1) (At x y) o' → Past-chars s c (Past-at w) → Skipped s x.0 w.0
-    begun-skipped (Quoted q e) w x y o' z k = rw z.0.step.0 k
-    begun-skipped (Coded q v) w x y o' z k = rw z.step.0 k
-    begun-skipped Characters-no w x y o' z k = absurd z
+    begun-skipped : (c : Characters) (w x : CharPlace) (y : Cell) (o' : List ℕ) → Range-end c (set m at 26) (at + 1) (Some (x, y)) o' → Past-chars s c (Some w) → Skipped s x.0 w.0
+    begun-skipped (Quoted q e) w x y o' z k = rw z.0.place k
+    begun-skipped (Coded q v) w x y o' z k = rw z.place k
 
-    module _ (c : Characters) (a : After-chars s p o (at + 2) c m) (w : CharPlace) (y : Past-chars s c (Past-at w)) where
-      module _ (h : ch 0x2d (hd (drop w.0 s)) ≡ true) (i : w.0 < length s) (x : CharPlace) (e : Cell) (o' : List ℕ) (z : Range-end c (set m at 26) (at + 1) (At x e) o') where
+    module _ (c : Characters) (a : After-chars s p o (at + 2) (Some c) m) (w : CharPlace) (y : Past-chars s c (Some w)) where
+      module _ (h : ch 0x2d (hd (drop w.0 s)) ≡ true) (i : w.0 < length s) (x : CharPlace) (e : Cell) (o' : List ℕ) (z : Range-end c (set m at 26) (at + 1) (Some (x, e)) o') where
         started : Begun s p o at o' x.0 e.0
         started = begun c x e o' (head-room c w a y i) a z
 
@@ -290,15 +284,9 @@ module _ (s : Text) (p : ℕ) (o : List ℕ) (at : ℕ) (r : Room s p o at) (f :
             started.wrote (omega arith) (omega arith) (λ v. refl)
             (λ v g. as-range started.chars x.0 w.0 started.same (begun-skipped c w x e o' z y).past h started.one ∙ ap (map (range started.chars)) g)
 
-    token-skipped : (c : Characters) (w x : CharPlace) (y : Cell) (o' : List ℕ) → Chars-token c 24 25 m at (At x y) o' → Past-chars s c (Past-at w) → Skipped s x.0 w.0
-    token-skipped (Quoted q e) w x y o' z k = rw z.step.0 k
-    token-skipped (Coded q v) w x y o' z k = rw z.step.0 k
-    token-skipped Characters-no w x y o' z k = absurd z
-
-    pub token-there : (c : Characters) (w : CharPlace) (o' : List ℕ) → Chars-token c 24 25 m at No o' → Past-chars s c (Past-at w) → ⊥
-    token-there (Quoted q e) w o' z k = z.step
-    token-there (Coded q v) w o' z k = z.step
-    token-there Characters-no w o' z k = k
+    token-skipped : (c : Characters) (w : CharPlace) (t : CharPlace × Cell) (o' : List ℕ) → Chars-token c 24 25 m at t o' → Past-chars s c (Some w) → Skipped s t.0.0 w.0
+    token-skipped (Quoted q e) w t o' z k = rw z.place k
+    token-skipped (Coded q v) w t o' z k = rw z.place k
 
     chars-alone : (w q b : ℕ) (o' : List ℕ) → Read (λ x. read-chars (drop p s) ≡ x) (chars_code 24 25) s p (p + 1) o at o' q b → Skipped s q w
         → ch 0x2d (hd (drop w s)) ≡ false → Read (λ x. read-member (drop p s) ≡ x) member_code s p (p + 1) o at o' w b
@@ -310,10 +298,10 @@ module _ (s : Text) (p : ℕ) (o : List ℕ) (at : ℕ) (r : Room s p o at) (f :
       cells = omega arith;
     }
 
-    pub chars-member : (c : Characters) → After-chars s p o (at + 2) c m → (w : CharPlace) → Past-chars s c (Past-at w)
-        → ch 0x2d (hd (drop w.0 s)) ≡ false → (x : CharPlace) (b : Cell) (o' : List ℕ) → Chars-token c 24 25 m at (At x b) o'
-        → Read (λ x. read-member (drop p s) ≡ x) member_code s p (p + 1) o at o' w.0 b.0
-    chars-member c a w y h x b o' z = chars-alone w.0 x.0 b.0 o' (chars-tokened s p o at r m len 24 25 c a (At x b) o' z) (token-skipped c w x b o' z y) h
+    pub chars-member : (c : Characters) → After-chars s p o (at + 2) (Some c) m → (w : CharPlace) → Past-chars s c (Some w)
+        → ch 0x2d (hd (drop w.0 s)) ≡ false → (t : CharPlace × Cell) (o' : List ℕ) → Chars-token c 24 25 m at t o'
+        → Read (λ x. read-member (drop p s) ≡ x) member_code s p (p + 1) o at o' w.0 t.1.0
+    chars-member c a w y h t o' z = chars-alone w.0 t.0.0 t.1.0 o' (chars-tokened s p o at r m len 24 25 c a t o' z) (token-skipped c w t o' z y) h
 
 -- a member that is a class
 by-class : (s : Text) (p : ℕ) → capital (hd (drop p s)) ≡ true → (x : Result Text) → then (read-class (drop p s)) (λ v u. spaced v u) ≡ x → read-member (drop p s) ≡ map class x

@@ -1,44 +1,31 @@
 -- What reading a set answers: the definition's answer on the text from the place on, and what the table holds.
-use Rattle.std.specs.Prelude.{◌≡◌, List, [], ◌∷◌, ◌++◌, ℕ, suc, ◌+◌, ◌-◌, ◌<◌, ◌≤◌, length, drop, set}
+use Rattle.std.specs.Prelude.{◌≡◌, List, [], ◌∷◌, ◌++◌, ℕ, suc, ◌+◌, ◌<◌, ◌≤◌, length, drop, set, Some, None}
 use Rattle.text.specs.Lists.{Text}
-use Rattle.tree.specs.Tree.{Chars, hex, Member}
+use Rattle.tree.specs.Tree.{Chars, Member}
 use Rattle.tree.specs.Tokens.{end_numbers, class_numbers, member_token, member_tokens, numbers, encode}
 use Rattle.syntax.specs.Syntax.{ch}
 use Rattle.syntax.specs.Result.{Result, then, expect}
 use Rattle.syntax.specs.Spacing.{skip, spaced}
 use Rattle.syntax.specs.Lexical.{read-character, read-class, read-member, members, read_set}
-use Rattle.spacing.specs.declared.Past.{Past}
-use Rattle.spacing.specs.declared.Past.TheVariants.{At as Past-at, No as Past-no}
-use Rattle.spacing.specs.declared.Step.{Step}
-use Rattle.spacing.specs.declared.Step.TheVariants.{At, No}
 use Rattle.lexical.specs.declared.Characters.{Characters}
-use Rattle.lexical.specs.declared.Characters.TheVariants.{Quoted, Coded, No as Characters-no}
-use Rattle.spacing.specs.Answers.{After, After-skip}
-use Rattle.lexical.specs.Answers.{Written, Fails}
+use Rattle.lexical.specs.declared.Characters.TheVariants.{Quoted, Coded}
+use Rattle.spacing.specs.Answers.{Past, Step, After, After-skip}
+use Rattle.lexical.specs.Answers.{Written}
 
 -- an end of a range is one character, whose place is after at, or a hex number
-abbrev pub One-char : ℕ → ℕ → ℕ → List ℕ → Step → List ℕ → Type 0
-One-char x e at o (At q b) o' = Written (At q b) x e o' (set o at 0) × (e ≡ at + 2)
-One-char x e at o No o' = e ≡ at + 2 → ⊥
-
 abbrev pub Range-end : Characters → List ℕ → ℕ → Step → List ℕ → Type 0
-Range-end (Quoted q e) o at r o' = One-char q.0 e.0 at o r o'
-Range-end (Coded q v) o at r o' = Written r q.0 (at + 2) o' (set (set o at 1) (at + 1) v)
-Range-end Characters-no o at r o' = Fails r
+Range-end (Quoted q e) o at (Some (x, b)) o' = Written x b q.0 e.0 o' (set o at 0) × (e.0 ≡ at + 2)
+Range-end (Quoted q e) o at None o' = e.0 ≡ at + 2 → ⊥
+Range-end (Coded q v) o at (Some (x, b)) o' = Written x b q.0 (at + 2) o' (set (set o at 1) (at + 1) v)
+Range-end (Coded q v) o at None o' = ⊥
 
 abbrev pub Chars-in : Text → Characters → Type 0
 Chars-in s (Quoted q b) = q.0 ≤ length s
 Chars-in s (Coded q v) = q.0 ≤ length s
-Chars-in s Characters-no = Unit {0}
-
-abbrev pub Gone : Past → Type 0
-Gone (Past-at q) = ⊥
-Gone Past-no = Unit {0}
 
 abbrev pub Past-chars : Text → Characters → Past → Type 0
 Past-chars s (Quoted q b) r = After-skip s q.0 r
 Past-chars s (Coded q v) r = After-skip s q.0 r
-Past-chars s Characters-no r = Gone r
 
 abbrev pub After-class : Text → ℕ → List ℕ → ℕ → Step → List ℕ → Type 0
 After-class s p o at r o' = After (λ x. read-class (drop p s) ≡ x) (λ k. 27 ∷ class_numbers k) s p (p + 1) o at r o'

@@ -10,8 +10,7 @@ ghost use Rattle.sets.specs.Answers.{Range-end, Chars-in, Past-chars, After-clas
 use decode::{CharPlace, after};
 use lexical::{Characters, chars, chars_token};
 use spacing::{
-    CLOSE_SQUARE, Cell, HYPHEN, OPEN_SQUARE, Past, Step, bar, capital, letter, peek, skip, spaced,
-    token,
+    CLOSE_SQUARE, Cell, HYPHEN, OPEN_SQUARE, bar, capital, letter, peek, skip, spaced, token,
 };
 use tokens::{MEMBER_CLASS, MEMBER_CODED, MEMBER_QUOTED, MEMBER_RANGE, SET_END};
 
@@ -21,7 +20,7 @@ const END_CHARACTER: usize = tokens::FROM - tokens::FROM_CODED;
 const END_CELLS: usize = tokens::TO - tokens::FROM;
 
 // An end of a range, whose character stands after at.
-fn range_end(c: Characters, out: &mut [u32], at: Cell) -> Step
+fn range_end(c: Characters, out: &mut [u32], at: Cell) -> Option<(CharPlace, Cell)>
     requires { at.0 + 2 ≤ length out.old }
     ensures { Range-end c out.old at.0 result out.new }
 {
@@ -29,22 +28,21 @@ fn range_end(c: Characters, out: &mut [u32], at: Cell) -> Step
     match c {
         Characters::Quoted(q, b) => {
             if b.0 != j + END_CELLS {
-                return Step::No;
+                return None;
             }
             out[j] = 0;
-            Step::At(q, b)
+            Some((q, b))
         }
         Characters::Coded(q, v) => {
             out[j] = 1;
             out[j + END_CHARACTER] = v;
-            Step::At(q, Cell(j + END_CELLS))
+            Some((q, Cell(j + END_CELLS)))
         }
-        Characters::No => Step::No,
     }
 }
 
 // Writes the beginning of a range.
-fn range_head(from: Characters, out: &mut [u32], at: Cell) -> Step
+fn range_head(from: Characters, out: &mut [u32], at: Cell) -> Option<(CharPlace, Cell)>
     requires { at.0 + 3 ≤ length out.old }
     ensures { Range-end from (set out.old at.0 26) (at.0 + 1) result out.new }
 {
@@ -54,50 +52,40 @@ fn range_head(from: Characters, out: &mut [u32], at: Cell) -> Step
 }
 
 // The rest of a range, from its hyphen on.
-fn range_rest(text: &[u32], p: CharPlace, out: &mut [u32], at: Cell) -> Step
+fn range_rest(text: &[u32], p: CharPlace, out: &mut [u32], at: Cell) -> Option<(CharPlace, Cell)>
     requires { Room text.now p.0 out.old at.0 × (p.0 < length text.now) }
     ensures { After-rest text.now p.0 out.old at.0 result out.new }
 {
-    let Past::At(u) = skip(text, after(p)) else {
-        return Step::No;
-    };
+    let u = skip(text, after(p))?;
     let j = at.0;
-    let c = chars(text, u, out, Cell(j + END_CHARACTER));
+    let c = chars(text, u, out, Cell(j + END_CHARACTER))?;
     spaced(text, range_end(c, out, at))
 }
 
 // Past the spacing after characters.
-fn past_chars(text: &[u32], c: Characters) -> Past
+fn past_chars(text: &[u32], c: Characters) -> Option<CharPlace>
     requires { Chars-in text.now c }
     ensures { Past-chars text.now c result }
 {
     match c {
-        Characters::Quoted(q, _) => skip(text, q),
-        Characters::Coded(q, _) => skip(text, q),
-        Characters::No => Past::No,
+        Characters::Quoted(q, _) | Characters::Coded(q, _) => skip(text, q),
     }
 }
 
 // A member that begins with characters.
-fn chars_member(text: &[u32], p: CharPlace, out: &mut [u32], at: Cell) -> Step
+fn chars_member(text: &[u32], p: CharPlace, out: &mut [u32], at: Cell) -> Option<(CharPlace, Cell)>
     requires { Room text.now p.0 out.old at.0 × (Capital (hd (drop p.0 text.now)) ≡ false) }
     ensures { After-member text.now p.0 out.old at.0 result out.new }
 {
     let j = at.0;
-    let c = chars(text, p, out, Cell(j + tokens::CHARS));
-    let Past::At(w) = past_chars(text, c) else {
-        return Step::No;
-    };
+    let c = chars(text, p, out, Cell(j + tokens::CHARS))?;
+    let w = past_chars(text, c)?;
     if peek(text, w) == HYPHEN {
-        let Step::At(_, e) = range_head(c, out, at) else {
-            return Step::No;
-        };
+        let (_, e) = range_head(c, out, at)?;
         return range_rest(text, w, out, e);
     }
-    let Step::At(_, b) = chars_token(c, MEMBER_QUOTED, MEMBER_CODED, out, at) else {
-        return Step::No;
-    };
-    Step::At(w, b)
+    let (_, b) = chars_token(c, MEMBER_QUOTED, MEMBER_CODED, out, at);
+    Some((w, b))
 }
 
 // Writes a class: its letters, 0 for a second that is not there.
@@ -112,7 +100,7 @@ fn class_token(out: &mut [u32], at: Cell, a: u32, b: u32)
 }
 
 // A class, at its capital.
-fn class(text: &[u32], p: CharPlace, out: &mut [u32], at: Cell) -> Step
+fn class(text: &[u32], p: CharPlace, out: &mut [u32], at: Cell) -> Option<(CharPlace, Cell)>
     requires { Room text.now p.0 out.old at.0 × (Capital (hd (drop p.0 text.now)) ≡ true) }
     ensures { After-class text.now p.0 out.old at.0 result out.new }
 {
@@ -123,14 +111,14 @@ fn class(text: &[u32], p: CharPlace, out: &mut [u32], at: Cell) -> Step
     let e = peek(text, second);
     if letter(e) {
         class_token(out, at, c, e);
-        return Step::At(after(second), Cell(j + tokens::CLASS_CELLS));
+        return Some((after(second), Cell(j + tokens::CLASS_CELLS)));
     }
     class_token(out, at, c, 0);
-    Step::At(second, Cell(j + tokens::CLASS_CELLS))
+    Some((second, Cell(j + tokens::CLASS_CELLS)))
 }
 
 // A member of a set, and spacing.
-fn member(text: &[u32], p: CharPlace, out: &mut [u32], at: Cell) -> Step
+fn member(text: &[u32], p: CharPlace, out: &mut [u32], at: Cell) -> Option<(CharPlace, Cell)>
     requires { Room text.now p.0 out.old at.0 }
     ensures { After-member text.now p.0 out.old at.0 result out.new }
 {
@@ -141,52 +129,50 @@ fn member(text: &[u32], p: CharPlace, out: &mut [u32], at: Cell) -> Step
 }
 
 // Members, with bars between them.
-fn members(text: &[u32], p: CharPlace, out: &mut [u32], at: Cell) -> Step
+fn members(text: &[u32], p: CharPlace, out: &mut [u32], at: Cell) -> Option<(CharPlace, Cell)>
     requires { Room text.now p.0 out.old at.0 }
     ensures { After-members text.now p.0 out.old at.0 result out.new }
 {
     let mut from = p;
     let mut to = at;
     loop {
-        let Step::At(q, b) = member(text, from, out, to) else {
-            return Step::No;
-        };
+        let (q, b) = member(text, from, out, to)?;
         if !bar(peek(text, q)) {
-            return Step::At(q, b);
+            return Some((q, b));
         }
-        let Past::At(w) = skip(text, after(q)) else {
-            return Step::No;
-        };
+        let w = skip(text, after(q))?;
         from = w;
         to = b;
     }
 }
 
 // Members and the bracket after them.
-fn filled_set(text: &[u32], p: CharPlace, out: &mut [u32], at: Cell) -> Step
+fn filled_set(text: &[u32], p: CharPlace, out: &mut [u32], at: Cell) -> Option<(CharPlace, Cell)>
     requires { Room text.now p.0 out.old at.0 }
     ensures { After-filled text.now p.0 out.old at.0 result out.new }
 {
-    let Step::At(w, b) = members(text, p, out, at) else {
-        return Step::No;
-    };
+    let (w, b) = members(text, p, out, at)?;
     if peek(text, w) != CLOSE_SQUARE {
-        return Step::No;
+        return None;
     }
     token(text, w, SET_END, out, b)
 }
 
 // A set, whose opening bracket is written as k, and spacing.
-pub fn set(text: &[u32], p: CharPlace, k: u32, out: &mut [u32], at: Cell) -> Step
+pub fn set(
+    text: &[u32],
+    p: CharPlace,
+    k: u32,
+    out: &mut [u32],
+    at: Cell,
+) -> Option<(CharPlace, Cell)>
     requires { Room text.now p.0 out.old at.0 }
     ensures { After-set k text.now p.0 out.old at.0 result out.new }
 {
     if peek(text, p) != OPEN_SQUARE {
-        return Step::No;
+        return None;
     }
-    let Step::At(v, b) = token(text, p, k, out, at) else {
-        return Step::No;
-    };
+    let (v, b) = token(text, p, k, out, at)?;
     if peek(text, v) == CLOSE_SQUARE {
         return token(text, v, SET_END, out, b);
     }

@@ -1,13 +1,18 @@
 -- What reading spacing and writing tokens answers: the definition's answer on the text from the place on, and what the table holds.
-use Rattle.std.specs.Prelude.{◌≡◌, List, [], ◌∷◌, ◌++◌, ℕ, suc, ◌+◌, ◌*◌, ◌-◌, ◌<◌, ◌≤◌, length, take, drop, set}
+use Rattle.std.specs.Prelude.{◌≡◌, List, [], ◌∷◌, ◌++◌, ℕ, suc, ◌+◌, ◌*◌, ◌-◌, ◌<◌, ◌≤◌, length, take, drop, set, Option, Some, None}
 use Rattle.text.specs.Lists.{Text}
-use Rattle.tree.specs.Tokens.{numbers}
+use Rattle.text.specs.declared.CharPlace.{CharPlace}
 use Rattle.syntax.specs.Result.{Result, ok, fail}
 use Rattle.syntax.specs.Spacing.{scan, skip}
-use Rattle.spacing.specs.declared.Past.{Past}
-use Rattle.spacing.specs.declared.Past.TheVariants.{At as Past-at, No as Past-no}
-use Rattle.spacing.specs.declared.Step.{Step}
-use Rattle.spacing.specs.declared.Step.TheVariants.{At, No}
+use Rattle.spacing.specs.declared.Cell.{Cell}
+
+-- where something ends in the text
+abbrev pub Past : Type 0
+Past = Option CharPlace
+
+-- where something ends in the text, and what was written for it in the table
+abbrev pub Step : Type 0
+Step = Option (CharPlace × Cell)
 
 -- the place q is in the text, at or after p
 pub record Onward (s : Text) (p q : ℕ) : Type 0 where
@@ -20,31 +25,31 @@ pub record Closed (s : Text) (p d q : ℕ) : Type 0 where
   pub past : (k : ℕ) → scan (drop p s) (suc k) d ≡ scan (drop q s) k (suc d)
 
 abbrev pub After-comment : Text → ℕ → ℕ → Past → Type 0
-After-comment s p d (Past-at q) = Closed s p d q.0
-After-comment s p d Past-no = (k : ℕ) → scan (drop p s) (suc k) d ≡ fail
+After-comment s p d (Some q) = Closed s p d q.0
+After-comment s p d None = (k : ℕ) → scan (drop p s) (suc k) d ≡ fail
 
 pub record Skipped (s : Text) (p q : ℕ) : Type 0 where
   pub onward : Onward s p q
   pub past : skip (drop p s) ≡ ok tt (drop q s)
 
 abbrev pub After-skip : Text → ℕ → Past → Type 0
-After-skip s p (Past-at q) = Skipped s p q.0
-After-skip s p Past-no = skip (drop p s) ≡ fail
+After-skip s p (Some q) = Skipped s p q.0
+After-skip s p None = skip (drop p s) ≡ fail
 
 -- a step's place is in the text
 abbrev pub Step-in : Text → Step → Type 0
-Step-in s (At q b) = q.0 ≤ length s
-Step-in s No = Unit {0}
+Step-in s (Some (q, b)) = q.0 ≤ length s
+Step-in s None = Unit {0}
 
 pub record Gap (s : Text) (q b w e : ℕ) : Type 0 where
   pub skipped : Skipped s q w
   pub cell : e ≡ b
 
 abbrev pub Spaced : Text → Step → Step → Type 0
-Spaced s (At q b) (At w e) = Gap s q.0 b.0 w.0 e.0
-Spaced s (At q b) No = skip (drop q.0 s) ≡ fail
-Spaced s No (At w e) = ⊥
-Spaced s No No = Unit {0}
+Spaced s (Some (q, b)) (Some (w, e)) = Gap s q.0 b.0 w.0 e.0
+Spaced s (Some (q, b)) None = skip (drop q.0 s) ≡ fail
+Spaced s None (Some (w, e)) = ⊥
+Spaced s None None = Unit {0}
 
 -- The table o has room from the cell at on: three numbers for each character from p on.
 pub record Room (s : Text) (p : ℕ) (o : List ℕ) (at : ℕ) : Type 0 where
@@ -61,8 +66,8 @@ pub record Read {A : Type 0} (E : Result A → Type 0) (code : A → List ℕ) (
   pub cells : b + 3 * p ≤ at + 3 * q
 
 abbrev pub After : {A : Type 0} → (Result A → Type 0) → (A → List ℕ) → Text → ℕ → ℕ → List ℕ → ℕ → Step → List ℕ → Type 0
-After E code s p lo o at (At q b) o' = Read E code s p lo o at o' q.0 b.0
-After E code s p lo o at No o' = E fail
+After E code s p lo o at (Some (q, b)) o' = Read E code s p lo o at o' q.0 b.0
+After E code s p lo o at None o' = E fail
 
 -- spacing after the character at p, for which one number is written
 abbrev pub After-token : Text → ℕ → ℕ → List ℕ → ℕ → Step → List ℕ → Type 0

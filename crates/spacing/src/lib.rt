@@ -16,20 +16,6 @@ use decode::{CharPlace, after};
 #[derive(Clone, Copy)]
 pub struct Cell(pub usize);
 
-// Where something ends in the text.
-#[derive(Clone, Copy)]
-pub enum Past {
-    At(CharPlace),
-    No,
-}
-
-// Where something ends in the text, and what was written for it in the table.
-#[derive(Clone, Copy)]
-pub enum Step {
-    At(CharPlace, Cell),
-    No,
-}
-
 // The character past the last one.
 pub const END: u32 = 0x110000;
 
@@ -100,7 +86,7 @@ pub const CHARACTER_TIE: u32 = 0x2040;
 const INNER: usize = text::limits::LEVELS - 1;
 
 // Past the comment that the place is in; d more may open inside it.
-fn comment(text: &[u32], p: CharPlace, d: usize) -> Past
+fn comment(text: &[u32], p: CharPlace, d: usize) -> Option<CharPlace>
     requires { p.0 ≤ length text.now }
     ensures { After-comment text.now p.0 d result }
 {
@@ -109,25 +95,22 @@ fn comment(text: &[u32], p: CharPlace, d: usize) -> Past
         let i = at.0;
         let c = text[i];
         if c == CLOSE_BRACE {
-            return Past::At(after(at));
+            return Some(after(at));
         }
         if c == OPEN_BRACE {
             if d == 0 {
-                return Past::No;
+                return None;
             }
-            let Past::At(q) = comment(text, after(at), d - 1) else {
-                return Past::No;
-            };
-            at = q;
+            at = comment(text, after(at), d - 1)?;
         } else {
             at = after(at);
         }
     }
-    Past::No
+    None
 }
 
 // Past the spacing at a place.
-pub fn skip(text: &[u32], p: CharPlace) -> Past
+pub fn skip(text: &[u32], p: CharPlace) -> Option<CharPlace>
     requires { p.0 ≤ length text.now }
     ensures { After-skip text.now p.0 result }
 {
@@ -136,43 +119,40 @@ pub fn skip(text: &[u32], p: CharPlace) -> Past
         let i = at.0;
         let c = text[i];
         if c == OPEN_BRACE {
-            let Past::At(q) = comment(text, after(at), INNER) else {
-                return Past::No;
-            };
-            at = q;
+            at = comment(text, after(at), INNER)?;
         } else {
             if !whitespace(c) {
-                return Past::At(at);
+                return Some(at);
             }
             at = after(at);
         }
     }
-    Past::At(at)
+    Some(at)
 }
 
 // Past the spacing after a step.
-pub fn spaced(text: &[u32], step: Step) -> Step
+pub fn spaced(text: &[u32], step: Option<(CharPlace, Cell)>) -> Option<(CharPlace, Cell)>
     requires { Step-in text.now step }
     ensures { Spaced text.now step result }
 {
-    let Step::At(q, b) = step else {
-        return Step::No;
-    };
-    let Past::At(w) = skip(text, q) else {
-        return Step::No;
-    };
-    Step::At(w, b)
+    let (q, b) = step?;
+    let w = skip(text, q)?;
+    Some((w, b))
 }
 
 // Writes a number for the character at a place, and skips the spacing after it.
-pub fn token(text: &[u32], p: CharPlace, k: u32, out: &mut [u32], at: Cell) -> Step
+pub fn token(
+    text: &[u32],
+    p: CharPlace,
+    k: u32,
+    out: &mut [u32],
+    at: Cell,
+) -> Option<(CharPlace, Cell)>
     requires { (p.0 < length text.now) × (at.0 < length out.old) }
     ensures { After-token text.now p.0 k out.old at.0 result out.new }
 {
-    let Past::At(q) = skip(text, after(p)) else {
-        return Step::No;
-    };
+    let q = skip(text, after(p))?;
     let j = at.0;
     out[j] = k;
-    Step::At(q, Cell(j + 1))
+    Some((q, Cell(j + 1)))
 }

@@ -2,7 +2,6 @@
 use mathlib.Core.Path.{◌≡◌, refl, sym, ap, ap₂, ◌∙◌}
 use mathlib.Core.Bool.{Bool, true, false, ◌&&◌}
 use mathlib.Core.List.{List, [], ◌∷◌, ◌++◌, append-nil}
-use Prim.Native.Nat.{◌+◌}
 use lib.Dec.{T}
 use Rattle.text.specs.Lists.{Text, all, concat_map}
 use Rattle.text.proofs.Lists.{concat-append, concat-concat}
@@ -13,7 +12,7 @@ use Rattle.tree.specs.Tokens.{Token, name}
 use Rattle.tree.specs.Tokens.{open-group, close-group, next-alternative, to-option, to-repeat0}
 use Rattle.tree.specs.Tokens.{to-repeat1, to-repeat0sep, to-repeat1sep, rule-head, rule_end, version-is}
 use Rattle.tree.specs.Tokens.{terminal_tokens, symbol_tokens, alternative_tokens, body_tokens, rule_tokens, prolog_tokens, grammar_tokens}
-use Rattle.plain.specs.Written.{within, within_alternative, within_body, written, terminals}
+use Rattle.plain.specs.Written.{within, within_alternative, within_body, written}
 use Rattle.static_errors.specs.Held.{proper_symbol}
 
 -- What is taken from tokens, and from symbols, agrees symbol by symbol.

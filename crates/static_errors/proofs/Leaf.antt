@@ -37,6 +37,11 @@ by_form P s n v w x y h₀ h₁ h₃ h₄ h₅ h = elim (ℕ_discrete s 0) as (�
   ]
 ]
 
+in_turn : (a b c d : Bool) → ((a || b) || c) || d ≡ a || (b || (c || d))
+in_turn true b c d = refl
+in_turn false true c d = refl
+in_turn false false c d = refl
+
 module _ (t : List ℕ) (k s : ℕ) (e : s ≡ form_of (get_or t k 0)) where
   pub at-form : part_at t k ≡ part_of s (name_at t k) (get_or t (k + 1) 0) (get_or t (k + 2) 0) (get_or t (k + 3) 0) (get_or t (k + 4) 0)
   at-form = ap (λ (z : ℕ). part_of z (name_at t k) (get_or t (k + 1) 0) (get_or t (k + 2) 0) (get_or t (k + 3) 0) (get_or t (k + 4) 0)) (sym e)
@@ -89,6 +94,13 @@ module _ (t : List ℕ) (k s : ℕ) (e : s ≡ form_of (get_or t k 0)) where
 
   pub uncoded : (hs : List Text) (r : Bool) → (s ≡ 3 → ⊥) → (s ≡ 4 → ⊥) → (s ≡ 5 → ⊥) → r ≡ lacking hs (part_at t k) → r ≡ faulty hs (part_at t k)
   uncoded hs r a b c e = e ∙ sym (rw (← no_code 7 a b, ← no_code 8 a b, ← not-range b, ← not-class c) (or-false (lacking hs (part_at t k))))
+
+  -- the rules on what is no name, in turn
+  pub coded : (s ≡ 0 → ⊥) → (hs : List Text) (v r : Bool) → v ≡ (bad_codes 7 (part_at t k) || bad_codes 8 (part_at t k)) || backward (part_at t k)
+      → r ≡ v || classless (part_at t k) → r ≡ faulty hs (part_at t k)
+  coded f hs v r p q =
+      rw (unused f hs) (q ∙ ap (λ (x : Bool). x || classless (part_at t k)) p
+      ∙ in_turn (bad_codes 7 (part_at t k)) (bad_codes 8 (part_at t k)) (backward (part_at t k)) (classless (part_at t k)))
 
   pub two-codes : (rule : ℕ) → s ≡ 4
       → any (bad_code rule) (end_codes (get_or t (k + 1) 0) (get_or t (k + 2) 0)) || any (bad_code rule) (end_codes (get_or t (k + 3) 0) (get_or t (k + 4) 0)) ≡ bad_codes rule (part_at t k)

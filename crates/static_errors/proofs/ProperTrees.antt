@@ -14,7 +14,7 @@ use Rattle.tree.specs.Tree.{Symbol, terminal, nonterminal, group, option, repeat
 use Rattle.tree.specs.Tree as tree
 use Rattle.tree.specs.Tokens.{open-group, close-group, next-alternative, to-option, to-repeat0, to-repeat1, to-repeat0sep, to-repeat1sep, rule_end, version-is}
 use Rattle.tree.specs.Tokens.{Token, name, member_token, member_tokens, terminal_tokens, grammar_tokens}
-use Rattle.plain.specs.Written.{written, terminals, heads}
+use Rattle.plain.specs.Written.{written, heads}
 use Rattle.static_errors.specs.Held.{single, lettered, proper_member, proper_symbol, proper, Holds}
 use Rattle.static_errors.specs.Parts.{Part, headed, other, part, heads_in}
 use Rattle.static_errors.specs.Scan.{sound, Tokens, heads_of}

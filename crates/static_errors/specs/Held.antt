@@ -1,5 +1,5 @@
 -- A syntax tree held in a table, and the first static rule that it breaks.
-use Rattle.std.specs.Prelude.{Bool, true, false, not, ◌&&◌, ◌≡◌, List, [], ◌∷◌, ℕ, ◌≤◌, T, eqb, length, take}
+use Rattle.std.specs.Prelude.{Bool, true, false, not, ◌&&◌, ◌≡◌, List, [], ◌∷◌, ℕ, ◌≤◌, T, eqb, length, take, Result, Ok, Err, Option, Some, None}
 use Rattle.text.specs.Limits.{grammar_table}
 use Rattle.text.specs.Lists.{Text, pick, all}
 use Rattle.tree.specs.Tree.{Chars, string, hex, Member, Symbol, terminal, nonterminal, group, option, repeat0, repeat1, repeat0sep, repeat1sep, rest, Grammar}
@@ -7,8 +7,8 @@ use Rattle.tree.specs.Tree as tree
 use Rattle.tree.specs.Tokens.{encode, grammar_tokens}
 use Rattle.plain.specs.Written.{members_in, written}
 use Rattle.plain.specs.Static.{undefined, duplicate, beyond, banned, backwards, unclassed}
-use Rattle.static_errors.specs.declared.Ruling.{Ruling}
-use Rattle.static_errors.specs.declared.Ruling.TheVariants.{Kept, UndefinedName, RepeatedRule, HexTooLarge, HexNoCharacter, BackwardRange, UnknownClass}
+use Rattle.static_errors.specs.declared.StaticError.{StaticError}
+use Rattle.static_errors.specs.declared.StaticError.TheVariants.{UndefinedName, RepeatedRule, HexTooLarge, HexNoCharacter, BackwardRange, UnknownClass}
 
 -- What every tree of a text is like: an end of a range is one character or a hex number, a class has one letter or two,
 -- and `rest` is not written.
@@ -63,11 +63,20 @@ static_of g =
     (pick (unclassed g) 10 0)))))
 
 -- document 01's number for each case
-abbrev pub rule_number : Ruling → ℕ
-rule_number Kept = 0
+abbrev pub rule_number : StaticError → ℕ
 rule_number UndefinedName = 5
 rule_number RepeatedRule = 6
 rule_number HexTooLarge = 7
 rule_number HexNoCharacter = 8
 rule_number BackwardRange = 9
 rule_number UnknownClass = 10
+
+-- the same of what is said of a tree: 0 where it keeps the rules
+abbrev pub ruling_number : Result (Unit {0}) StaticError → ℕ
+ruling_number (Ok u) = 0
+ruling_number (Err e) = rule_number e
+
+-- the same of what is asked for: 0 stands for any of them
+abbrev pub asked_number : Option StaticError → ℕ
+asked_number None = 0
+asked_number (Some e) = rule_number e

@@ -1,6 +1,6 @@
 -- What a token's numbers say of names, codes and classes, and the rules at one token.
-use Rattle.std.specs.Prelude.{Bool, true, false, not, ◌||◌, List, [], ◌∷◌, ◌++◌, ℕ, ◌+◌, ltb, leb, eqb, get_or, take, drop}
-use Rattle.text.specs.Lists.{Text, pick, any, same, all}
+use Rattle.std.specs.Prelude.{Bool, false, not, ◌||◌, List, [], ◌∷◌, ◌++◌, ℕ, ◌+◌, ltb, eqb, get_or}
+use Rattle.text.specs.Lists.{Text, pick, any, same}
 use Rattle.category.specs.Category.{is_class, letters}
 use Rattle.tree.specs.Tree.{Chars, string, hex}
 use Rattle.tree.specs.Tokens.{Token, name, quoted, coded, include, exclude, member-quoted, member-coded, member-range, member-class}

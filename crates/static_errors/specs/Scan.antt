@@ -1,5 +1,5 @@
 -- Tokens in a table, from a place on; lists of places in it; the rules over all tokens.
-use Rattle.std.specs.Prelude.{Bool, true, false, ◌&&◌, ◌≡◌, List, [], ◌∷◌, ℕ, ◌+◌, ◌<◌, ◌≤◌, T, eqb, length, get_or, take, drop, set}
+use Rattle.std.specs.Prelude.{Bool, true, ◌&&◌, ◌≡◌, List, [], ◌∷◌, ℕ, ◌+◌, ◌<◌, ◌≤◌, T, eqb, length, get_or, take, drop, set}
 use Rattle.text.specs.Limits.{grammar_table}
 use Rattle.text.specs.Lists.{Text, pick, any, all, repeats, concat_map}
 use Rattle.tree.specs.Tokens.{Token, name, quoted, coded, include, exclude, member-quoted, member-coded, member-range, member-class}

@@ -12,6 +12,7 @@ ghost use Rattle.tidy_writer.specs.Walk.{SomeLeft};
 
 use encode::Spelling;
 use text::BytePlace;
+use tokens::Form;
 
 // The cells of a range's end: whether it is coded, and its character.
 const END_CHARACTER: usize = tokens::FROM - tokens::FROM_CODED;
@@ -58,25 +59,16 @@ fn put_held(out: &mut [u8], limit: BytePlace, pos: BytePlace, t: &[u32], k: usiz
     requires { (limit.0 ≤ length out.old) × (k + length_at t.now k ≤ length t.now) }
     ensures { Wrote limit.0 pos.0 out.old result.0 out.new (held_at (form_of (get_or t.now k 0)) t.now k) }
 {
-    let form = tokens::form(t[k]);
     let second = tokens::look(t, k + tokens::COUNT);
     let text = encode::stretch(t, k + tokens::CHARS, second);
-    if form < tokens::FORM_TEXT {
-        return encode::put_text(out, limit, pos, Spelling::Plain, text);
+    match Form::of(t[k]) {
+        Form::Name | Form::Head => encode::put_text(out, limit, pos, Spelling::Plain, text),
+        Form::Text => tidy_parts::put_quoted(out, limit, pos, text),
+        Form::Code => tidy_parts::put_coded(out, limit, pos, second),
+        Form::Range => put_range(out, limit, pos, t, k + tokens::FROM_CODED),
+        Form::Class => put_class(out, limit, pos, t, k + tokens::CAPITAL),
+        Form::Bare => pos,
     }
-    if form == tokens::FORM_TEXT {
-        return tidy_parts::put_quoted(out, limit, pos, text);
-    }
-    if form == tokens::FORM_CODE {
-        return tidy_parts::put_coded(out, limit, pos, second);
-    }
-    if form == tokens::FORM_RANGE {
-        return put_range(out, limit, pos, t, k + tokens::FROM_CODED);
-    }
-    if form == tokens::FORM_CLASS {
-        return put_class(out, limit, pos, t, k + tokens::CAPITAL);
-    }
-    pos
 }
 
 // The token at k.

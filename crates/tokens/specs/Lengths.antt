@@ -1,11 +1,13 @@
 -- Tokens by their numbers: the form of a token, and how many numbers it takes.
-use Rattle.std.specs.Prelude.{List, [], ◌∷◌, ◌++◌, ◌≡◌, ℕ, ◌+◌, ◌<◌, ltb, eqb, length, get_or, take, drop}
-use Rattle.text.specs.Lists.{Text, pick}
+use Rattle.std.specs.Prelude.{List, [], ◌∷◌, ◌++◌, ◌≡◌, ℕ, ◌+◌, ltb, eqb, get_or, take, drop}
+use Rattle.text.specs.Lists.{pick}
 use Rattle.tree.specs.Tree.{Grammar, rules}
 use Rattle.tree.specs.Tokens.{Token, name, quoted, coded, include, exclude, member-quoted, member-coded, member-range, member-class, set-end, insert-quoted, insert-coded}
 use Rattle.tree.specs.Tokens.{open-group, close-group, next-alternative, to-option, to-repeat0, to-repeat1, to-repeat0sep, to-repeat1sep}
 use Rattle.tree.specs.Tokens.{rule-head, rule_end, version-is, numbers, encode, grammar_tokens}
 use Rattle.tokens.specs.Proper.{ProperEnd, ProperRules}
+use Rattle.tokens.specs.declared.Form.{Form}
+use Rattle.tokens.specs.declared.Form.TheVariants as form
 
 -- The form of a token by its first number: 0 a name, 1 a rule's head, 2 another with characters, 3 a hex number, 4 a range,
 -- 5 a class, 6 a token of one number.
@@ -14,6 +16,15 @@ late_form n = pick (eqb n 24) 2 (pick (eqb n 25) 3 (pick (eqb n 26) 4 (pick (eqb
 
 unfoldable pub form_of : ℕ → ℕ
 form_of n = pick (ltb n 4) 0 (pick (ltb n 8) 2 (pick (ltb n 12) 3 (pick (ltb n 20) 6 (pick (ltb n 24) 1 (late_form n)))))
+
+abbrev pub form_number : Form → ℕ
+form_number form.Name = 0
+form_number form.Head = 1
+form_number form.Text = 2
+form_number form.Code = 3
+form_number form.Range = 4
+form_number form.Class = 5
+form_number form.Bare = 6
 
 -- how many numbers a token of a form takes; the count of its characters
 unfoldable pub length_of : ℕ → ℕ → ℕ

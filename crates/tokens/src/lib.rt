@@ -4,7 +4,7 @@
 
 ghost use Rattle.std.specs.Prelude.{◌≡◌, true, false, ℕ, ◌+◌, ◌<◌, ◌≤◌, length, get_or};
 ghost use Rattle.text.specs.Lists.{Text, same};
-ghost use Rattle.tokens.specs.Lengths.{form_of, late_form, length_at, width_at};
+ghost use Rattle.tokens.specs.Lengths.{form_number, form_of, late_form, length_at, width_at};
 ghost use Rattle.tokens.specs.Names.{Holding, name_at, Named, Names};
 
 // Marks: none, `^`, `@`, `-`. A kind that has a mark is one of four numbers.
@@ -76,20 +76,54 @@ pub const RULE_HEAD_ATTRIBUTE: u32 = RULE_HEAD + ATTRIBUTE;
 
 pub const RULE_HEAD_DELETED: u32 = RULE_HEAD + DELETED;
 
-// Forms: what follows a token's kind. Those with characters come first.
-pub const FORM_NAME: u32 = 0;
+// What follows a token's kind: the characters of a name, of a rule's head or of another, a hex number, a range, a class, or nothing.
+#[derive(Clone, Copy, PartialEq, Eq)]
+pub enum Form {
+    Name,
+    Head,
+    Text,
+    Code,
+    Range,
+    Class,
+    Bare,
+}
 
-pub const FORM_HEAD: u32 = 1;
+impl Form {
+    // The form of a kind of tokens.
+    pub fn of(kind: u32) -> Form
+        ensures { form_number result ≡ form_of kind }
+    {
+        if kind < QUOTED {
+            return Form::Name;
+        }
+        if kind < CODED {
+            return Form::Text;
+        }
+        if kind < INCLUDE {
+            return Form::Code;
+        }
+        if kind < RULE_HEAD {
+            return Form::Bare;
+        }
+        if kind < MEMBER_QUOTED {
+            return Form::Head;
+        }
+        Form::of_late(kind)
+    }
 
-pub const FORM_TEXT: u32 = 2;
-
-pub const FORM_CODE: u32 = 3;
-
-pub const FORM_RANGE: u32 = 4;
-
-pub const FORM_CLASS: u32 = 5;
-
-pub const FORM_BARE: u32 = 6;
+    // The same of the kinds that have no mark.
+    fn of_late(kind: u32) -> Form
+        ensures { form_number result ≡ late_form kind }
+    {
+        match kind {
+            MEMBER_QUOTED | INSERT_QUOTED | VERSION => Form::Text,
+            MEMBER_CODED | INSERT_CODED => Form::Code,
+            MEMBER_RANGE => Form::Range,
+            MEMBER_CLASS => Form::Class,
+            _ => Form::Bare,
+        }
+    }
+}
 
 // What stands after a token's kind, by its form: the count of its characters, and they; a hex number's value; for each end of a range whether
 // it is coded, and its character; the letters of a class.
@@ -128,73 +162,18 @@ pub fn look(t: &[u32], i: usize) -> usize
     0
 }
 
-pub fn form(kind: u32) -> u32
-    ensures { result ≡ form_of kind }
-{
-    if kind < QUOTED {
-        return FORM_NAME;
-    }
-    if kind < CODED {
-        return FORM_TEXT;
-    }
-    if kind < INCLUDE {
-        return FORM_CODE;
-    }
-    if kind < RULE_HEAD {
-        return FORM_BARE;
-    }
-    if kind < MEMBER_QUOTED {
-        return FORM_HEAD;
-    }
-    late_form(kind)
-}
-
-fn late_form(kind: u32) -> u32
-    ensures { result ≡ late_form kind }
-{
-    if kind == MEMBER_QUOTED {
-        return FORM_TEXT;
-    }
-    if kind == MEMBER_CODED {
-        return FORM_CODE;
-    }
-    if kind == MEMBER_RANGE {
-        return FORM_RANGE;
-    }
-    if kind == MEMBER_CLASS {
-        return FORM_CLASS;
-    }
-    if kind == INSERT_QUOTED {
-        return FORM_TEXT;
-    }
-    if kind == INSERT_CODED {
-        return FORM_CODE;
-    }
-    if kind == VERSION {
-        return FORM_TEXT;
-    }
-    FORM_BARE
-}
-
 // The place after the token at k.
 pub fn token_end(table: &[u32], k: usize) -> usize
     requires { k + length_at table.now k ≤ length table.now }
     ensures { result ≡ k + length_at table.now k }
 {
-    let f = form(table[k]);
-    if f < FORM_CODE {
-        return k + (text::wide(table[k + COUNT]) + CHARS);
+    match Form::of(table[k]) {
+        Form::Name | Form::Head | Form::Text => k + (text::wide(table[k + COUNT]) + CHARS),
+        Form::Code => k + CODE_CELLS,
+        Form::Range => k + RANGE_CELLS,
+        Form::Class => k + CLASS_CELLS,
+        Form::Bare => k + 1,
     }
-    if f == FORM_CODE {
-        return k + CODE_CELLS;
-    }
-    if f == FORM_RANGE {
-        return k + RANGE_CELLS;
-    }
-    if f == FORM_CLASS {
-        return k + CLASS_CELLS;
-    }
-    k + 1
 }
 
 // The tokens at two places hold the same characters.
@@ -223,30 +202,14 @@ fn is_named(table: &[u32], at: usize) -> bool
     ensures { (result ≡ true → Named table.now at) × (result ≡ false → (x : Text) → Holding table.now at x → ⊥) }
 {
     let size = table.len();
-    if size < CHARS {
-        return false;
-    }
-    let last = size - CHARS;
-    if last < at {
-        return false;
-    }
-    if last - at < text::wide(table[at + COUNT]) {
-        return false;
-    }
-    true
+    CHARS <= size && at <= size - CHARS && text::wide(table[at + COUNT]) <= size - CHARS - at
 }
 
 // The same of any two places. One where no token with characters can stand holds none.
 pub fn same_if_named(table: &[u32], a: usize, b: usize) -> bool
     ensures { (x y : Text) → Holding table.now a x → Holding table.now b y → result ≡ same x y }
 {
-    if !is_named(table, a) {
-        return false;
-    }
-    if !is_named(table, b) {
-        return false;
-    }
-    same_name(table, a, b)
+    is_named(table, a) && is_named(table, b) && same_name(table, a, b)
 }
 
 // How many characters of a record the terminal whose token stands at k takes.

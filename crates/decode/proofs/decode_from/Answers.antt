@@ -1,10 +1,9 @@
+use mathlib.Core.Path.{refl}
 use Rattle.decode.proofs.Whole as law
 use Rattle.decode.proofs.decode_from.Goals as goal
 
-pub returns-in_default : goal.returns-in_default
-returns-in_default c =
-    law.anew c.scan-known.ensures c.decode_in_turn.ensures
+pub returns-in-Ok : goal.returns-in-Ok
+returns-in-Ok c = law.at_once c.in-Ok.ensures _ refl
 
-pub returns : goal.returns
-returns c =
-    law.at_once c.scan-known.ensures _ c.in-Of.is
+pub returns-in-Err : goal.returns-in-Err
+returns-in-Err c = law.anew c.in-Err.ensures c.decode_in_turn.ensures

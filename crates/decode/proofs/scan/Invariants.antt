@@ -11,8 +11,8 @@ invariant-loop-s l = bytes.In l.bytes l.i l.next.0 l.s
 abbrev pub decreases-loop-s : goal.decreases-loop-s
 decreases-loop-s l = l.s.more
 
-abbrev pub invariant-characters : goal.invariant-characters
-invariant-characters l = law.At (test_of l.pattern) l.bytes l.initial.at.0 l.initial.out l.out l.at.0 l.n.0
+abbrev pub invariant-loop-at : goal.invariant-loop-at
+invariant-loop-at l = law.At (test_of l.pattern) l.bytes l.initial.at.0 l.initial.out l.out l.at.0 l.n.0
 
-abbrev pub decreases-characters : goal.decreases-characters
-decreases-characters l = length l.bytes - l.at.0
+abbrev pub decreases-loop-at : goal.decreases-loop-at
+decreases-loop-at l = length l.bytes - l.at.0

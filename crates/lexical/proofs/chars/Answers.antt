@@ -11,23 +11,23 @@ use Rattle.lexical.proofs.chars.Goals as goal
 pub hex-requires : goal.hex-requires
 hex-requires c = is-ch c.peek.ensures 0x23 c.if-peek-eq-NUMBER_SIGN.true
 
-pub returns-in_default : goal.returns-in_default
-returns-in_default c =
+pub returns-in_err-q : goal.returns-in_err-q
+returns-in_err-q c =
     let args = c.args in
-    chars-no-hex args.text.now args.p.0 (is-ch c.peek.ensures 0x23 c.if-peek-eq-NUMBER_SIGN.true) (rw c.in_default.is at c.hex.ensures)
+    rw c.from_residual.ensures (chars-no-hex args.text.now args.p.0 (is-ch c.peek.ensures 0x23 c.if-peek-eq-NUMBER_SIGN.true) c.in_err-q.ensures)
 
 pub returns-then-peek-eq-NUMBER_SIGN : goal.returns-then-peek-eq-NUMBER_SIGN
 returns-then-peek-eq-NUMBER_SIGN c =
-    coding _ _ _ _ _ (is-ch c.peek.ensures 0x23 c.if-peek-eq-NUMBER_SIGN.true) (rw c.in-Value.is at c.hex.ensures)
+    coding _ _ _ _ _ (is-ch c.peek.ensures 0x23 c.if-peek-eq-NUMBER_SIGN.true) c.in_ok-q.ensures
 
-pub returns-in_default-string : goal.returns-in_default-string
-returns-in_default-string c =
+pub returns-in_err-q-2 : goal.returns-in_err-q-2
+returns-in_err-q-2 c =
     let args = c.args in
-    chars-no-string args.text.now args.p.0 (not-ch c.peek.ensures 0x23 c.if-peek-eq-NUMBER_SIGN.false) (rw c.in_default-string.is at c.string.ensures)
+    rw c.from_residual-in_err-q-2.ensures (chars-no-string args.text.now args.p.0 (not-ch c.peek.ensures 0x23 c.if-peek-eq-NUMBER_SIGN.false) c.in_err-q-2.ensures)
 
 pub returns : goal.returns
 returns c =
     let args = c.args in
     recopy (λ x. read-string (drop args.p.0 args.text.now) ≡ x) (λ x. read-chars (drop args.p.0 args.text.now) ≡ map string x)
     (λ x e. chars-string args.text.now args.p.0 (not-ch c.peek.ensures 0x23 c.if-peek-eq-NUMBER_SIGN.false) x e)
-    (rw c.in-At.is at c.string.ensures)
+    c.in_ok-q-2.ensures

@@ -14,14 +14,14 @@ skip-requires c =
     let h = mark-in args.text.now args.p.0 _ c.peek-c.ensures (sym c.is_mark.ensures ∙ c.if-not-is_mark.false) in
     omega (arith, c.after.ensures)
 
-pub returns-in_default : goal.returns-in_default
-returns-in_default c =
+pub returns-in_err-q : goal.returns-in_err-q
+returns-in_err-q c =
     let args = c.args in
-    mark-bad args.text.now args.p.0 _ c.peek-c.ensures (sym c.is_mark.ensures ∙ c.if-not-is_mark.false)
-    (rw (c.after.ensures, c.in_default.is) at c.skip.ensures)
+    rw c.from_residual.ensures (mark-bad args.text.now args.p.0 _ c.peek-c.ensures (sym c.is_mark.ensures ∙ c.if-not-is_mark.false)
+    (rw c.after.ensures at c.in_err-q.ensures))
 
 pub returns : goal.returns
 returns c =
     let args = c.args in
     mark-read args.text.now args.p.0 _ c.peek-c.ensures (sym c.is_mark.ensures ∙ c.if-not-is_mark.false) _ _
-    (rw (c.after.ensures, c.in-At.is) at c.skip.ensures) c.mark_number.ensures
+    (rw c.after.ensures at c.in_ok-q.ensures) c.mark_number.ensures

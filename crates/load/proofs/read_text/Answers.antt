@@ -1,21 +1,27 @@
+use mathlib.Core.Path.{◌≡◌}
+use native.Mathlib.Omega.{arith}
 use borrow.Author.Rules.{rules}
+use Rattle.std.specs.Prelude.{Some, None}
+use Rattle.std.proofs.lemmas.Result.{err_from_is_err_and}
 use Rattle.load.proofs.Loads.{readable, no-tree, standing, checked}
 use Rattle.load.proofs.read_text.Goals as goal
 
-pub read_grammar-read-requires : goal.read_grammar-read-requires
-read_grammar-read-requires c = readable c.args.text.now c.args.table.now c.requires
+pub read_grammar-requires : goal.read_grammar-requires
+read_grammar-requires c = readable c.args.text.now c.args.table.now c.requires
 
-pub returns-in_default : goal.returns-in_default
-returns-in_default c =
-    rw c.plain.ensures
-    (no-tree c.args.text.now c.read_grammar-read.new.out c.read_grammar-read.result c.in_default.is c.read_grammar-read.ensures)
+pub returns-in_err-end : goal.returns-in_err-end
+returns-in_err-end c =
+    let p = err_from_is_err_and c.from_residual.result c.from_residual.ensures.1 in
+    let none : c.read_grammar.result ≡ None = grind arith in
+    let why : c.in_err-end.field-0.0 ≡ c.plain.result = grind arith in
+    rw (p.1, p.2, why, c.plain.ensures) (no-tree c.args.text.now c.read_grammar.new.out (rw none at c.read_grammar.ensures))
 
 pub check_tree-requires : goal.check_tree-requires
 check_tree-requires c =
-    standing c.args.text.now c.read_grammar-read.new.out c.read_grammar-read.result _
-    c.in-Grammar.is c.read_grammar-read.ensures c.requires.chars (search rules)
+    let some : c.read_grammar.result ≡ Some c.in_ok-end.end = grind arith in
+    standing c.args.text.now c.read_grammar.new.out _ (rw some at c.read_grammar.ensures) c.requires.chars (search rules)
 
 pub returns : goal.returns
 returns c =
-    checked c.args.text.now c.read_grammar-read.new.out c.read_grammar-read.result _
-    c.in-Grammar.is c.read_grammar-read.ensures c.requires.chars c.check_tree.result c.check_tree.ensures
+    let some : c.read_grammar.result ≡ Some c.in_ok-end.end = grind arith in
+    checked c.args.text.now c.read_grammar.new.out _ (rw some at c.read_grammar.ensures) c.requires.chars c.check_tree.result c.check_tree.ensures

@@ -8,7 +8,10 @@ use Rattle.syntax.proofs.Classes.{bar-end}
 use Rattle.spacing.proofs.Places.{tested, in-text, is-ch, not-ch, twice}
 use Rattle.reader.specs.Answers.{body_code, alternative_code}
 use Rattle.reader.proofs.Loops.{loop-start, loop-fail, loop-read, room-read, room-cell, falls_at, falls-read, seen-in, less_one}
-use Rattle.reader.proofs.Cycle.{alts-none, alts-stop, alts-no-space, alts-less, alts-again, alt-nothing, alt-of-terms, mark-in, marks-in, sep-room, sep-falls, repeat-alone, repeat-no-space, repeat-no-factor, repeat-cell, repeat-sep, factor-of-plain, factor-deep, factor-no-space, factor-no-alts, factor-open, factor-shut, terms-none, terms-stop, terms-no-space, terms-less, terms-again, term-none, term-stop, term-option, term-star, term-plus}
+use Rattle.reader.proofs.Cycle.{alts-none, alts-stop, alts-no-space, alts-less, alts-again, alt-nothing, alt-of-terms, mark-in, marks-in, sep-room}
+use Rattle.reader.proofs.Cycle.{sep-falls, repeat-alone, repeat-no-space, repeat-no-factor, repeat-cell, repeat-sep, factor-of-plain, factor-deep}
+use Rattle.reader.proofs.Cycle.{factor-no-space, factor-no-alts, factor-open, factor-shut, terms-none, terms-stop, terms-no-space, terms-less}
+use Rattle.reader.proofs.Cycle.{terms-again, term-none, term-stop, term-option, term-star, term-plus}
 use Rattle.reader.proofs.+alternative_alternatives_factor_repeated_term_terms.Goals as goal
 
 pub alternative-terms-requires : goal.alternative-terms-requires
@@ -47,14 +50,14 @@ alternatives-alternative-requires t c =
       c.loop-q.invariant.room,
     )
 
-pub alternatives-shape_of-out-in_default : goal.alternatives-shape_of-out-in_default
-alternatives-shape_of-out-in_default t c =
+pub alternatives-shape_of-out-in_err-q : goal.alternatives-shape_of-out-in_err-q
+alternatives-shape_of-out-in_err-q t c =
     c.alternative.auto.out ∙ c.loop-q.invariant.same
 
-pub alternatives-returns-in_default : goal.alternatives-returns-in_default
-alternatives-returns-in_default t c =
+pub alternatives-returns-in_err-q : goal.alternatives-returns-in_err-q
+alternatives-returns-in_err-q t c =
     let args = c.args in
-    loop-fail c.loop-q.invariant (alts-none args.d (drop c.loop-q.from.0 args.text.now) (rw c.in_default.is at c.alternative.ensures))
+    rw c.from_residual.ensures (loop-fail c.loop-q.invariant (alts-none args.d (drop c.loop-q.from.0 args.text.now) c.in_err-q.ensures))
 
 pub alternatives-shape_of-out-then-not-bar : goal.alternatives-shape_of-out-then-not-bar
 alternatives-shape_of-out-then-not-bar t c =
@@ -63,48 +66,48 @@ alternatives-shape_of-out-then-not-bar t c =
 pub alternatives-returns-then-not-bar : goal.alternatives-returns-then-not-bar
 alternatives-returns-then-not-bar t c =
     let args = c.args in
-    loop-read c.loop-q.invariant args.p.0 c.loop-q.from.0 c.alternative.new.out c.in-At.q.0 c.in-At.b.0
+    loop-read c.loop-q.invariant args.p.0 c.loop-q.from.0 c.alternative.new.out c.in_ok-q.q.0 c.in_ok-q.b.0
     c.loop-q.invariant.context.on
-    (alts-stop args.text.now c.loop-q.from.0 args.d c.loop-q.out c.loop-q.to.0 c.alternative.new.out c.in-At.q.0
-    c.in-At.b.0 (rw c.in-At.is at c.alternative.ensures)
+    (alts-stop args.text.now c.loop-q.from.0 args.d c.loop-q.out c.loop-q.to.0 c.alternative.new.out c.in_ok-q.q.0
+    c.in_ok-q.b.0 c.in_ok-q.ensures
     (tested c.peek.ensures bar (sym c.bar.ensures ∙ c.if-not-bar.true)))
 
 pub alternatives-token-requires : goal.alternatives-token-requires
 alternatives-token-requires t c =
     let args = c.args in
     let i =
-    (in-text args.text.now c.in-At.q.0 bar bar-end
+    (in-text args.text.now c.in_ok-q.q.0 bar bar-end
     (tested c.peek.ensures bar (sym c.bar.ensures ∙ c.if-not-bar.false)))
     in
-    (i, room-cell (room-read c.loop-q.invariant.room (rw c.in-At.is at c.alternative.ensures) c.alternative.auto.out) i)
+    (i, room-cell (room-read c.loop-q.invariant.room c.in_ok-q.ensures c.alternative.auto.out) i)
 
-pub alternatives-shape_of-out-in_default-token : goal.alternatives-shape_of-out-in_default-token
-alternatives-shape_of-out-in_default-token t c =
+pub alternatives-shape_of-out-in_err-w : goal.alternatives-shape_of-out-in_err-w
+alternatives-shape_of-out-in_err-w t c =
     c.token.auto.out ∙ c.alternative.auto.out ∙ c.loop-q.invariant.same
 
-pub alternatives-returns-in_default-token : goal.alternatives-returns-in_default-token
-alternatives-returns-in_default-token t c =
+pub alternatives-returns-in_err-w : goal.alternatives-returns-in_err-w
+alternatives-returns-in_err-w t c =
     let args = c.args in
-    loop-fail c.loop-q.invariant
-    (alts-no-space args.text.now c.loop-q.from.0 args.d c.loop-q.out c.loop-q.to.0 c.alternative.new.out c.in-At.q.0
-    c.in-At.b.0 (rw c.in-At.is at c.alternative.ensures)
-    (tested c.peek.ensures bar (sym c.bar.ensures ∙ c.if-not-bar.false)) (rw c.in_default-token.is at c.token.ensures))
+    rw c.from_residual-in_err-w.ensures (loop-fail c.loop-q.invariant
+    (alts-no-space args.text.now c.loop-q.from.0 args.d c.loop-q.out c.loop-q.to.0 c.alternative.new.out c.in_ok-q.q.0
+    c.in_ok-q.b.0 c.in_ok-q.ensures
+    (tested c.peek.ensures bar (sym c.bar.ensures ∙ c.if-not-bar.false)) c.in_err-w.ensures))
 
 pub alternatives-loop-q-smaller : goal.alternatives-loop-q-smaller
 alternatives-loop-q-smaller t c =
     let args = c.args in
-    alts-less args.text.now c.loop-q.from.0 args.d c.loop-q.out c.loop-q.to.0 c.alternative.new.out c.in-At.q.0
-    c.in-At.b.0 (rw c.in-At.is at c.alternative.ensures)
-    (tested c.peek.ensures bar (sym c.bar.ensures ∙ c.if-not-bar.false)) c.token.new.out c.in-At-token.w.0
-    c.in-At-token.e.0 (rw c.in-At-token.is at c.token.ensures)
+    alts-less args.text.now c.loop-q.from.0 args.d c.loop-q.out c.loop-q.to.0 c.alternative.new.out c.in_ok-q.q.0
+    c.in_ok-q.b.0 c.in_ok-q.ensures
+    (tested c.peek.ensures bar (sym c.bar.ensures ∙ c.if-not-bar.false)) c.token.new.out c.in_ok-w.w.0
+    c.in_ok-w.e.0 c.in_ok-w.ensures
 
 pub alternatives-loop-q-preserved : goal.alternatives-loop-q-preserved
 alternatives-loop-q-preserved t c =
     let args = c.args in
-    alts-again args.text.now c.loop-q.from.0 args.d c.loop-q.out c.loop-q.to.0 c.alternative.new.out c.in-At.q.0
-    c.in-At.b.0 (rw c.in-At.is at c.alternative.ensures)
-    (tested c.peek.ensures bar (sym c.bar.ensures ∙ c.if-not-bar.false)) c.token.new.out c.in-At-token.w.0
-    c.in-At-token.e.0 (rw c.in-At-token.is at c.token.ensures) c.loop-q.invariant c.alternative.auto.out c.token.auto.out
+    alts-again args.text.now c.loop-q.from.0 args.d c.loop-q.out c.loop-q.to.0 c.alternative.new.out c.in_ok-q.q.0
+    c.in_ok-q.b.0 c.in_ok-q.ensures
+    (tested c.peek.ensures bar (sym c.bar.ensures ∙ c.if-not-bar.false)) c.token.new.out c.in_ok-w.w.0
+    c.in_ok-w.e.0 c.in_ok-w.ensures c.loop-q.invariant c.alternative.auto.out c.token.auto.out
 
 pub factor-plain_factor-requires : goal.factor-plain_factor-requires
 factor-plain_factor-requires t c =
@@ -133,15 +136,15 @@ factor-token-requires t c =
     let i = (seen-in args.text.now args.p.0 c.peek.result 40 c.peek.ensures c.if-peek-ne-OPEN_ROUND.false (omega arith)) in
     (i, room-cell pre i)
 
-pub factor-shape_of-out-in_default : goal.factor-shape_of-out-in_default
-factor-shape_of-out-in_default t c =
+pub factor-shape_of-out-in_err-w : goal.factor-shape_of-out-in_err-w
+factor-shape_of-out-in_err-w t c =
     c.token.auto.out
 
-pub factor-returns-in_default : goal.factor-returns-in_default
-factor-returns-in_default t c =
+pub factor-returns-in_err-w : goal.factor-returns-in_err-w
+factor-returns-in_err-w t c =
     let args = c.args in
-    factor-no-space args.text.now args.p.0 args.d args.out.now args.at.0 (is-ch c.peek.ensures 40 c.if-peek-ne-OPEN_ROUND.false) (args.d - 1)
-    (less_one args.d c.if-d-eq0.false) (rw c.in_default.is at c.token.ensures)
+    rw c.from_residual.ensures (factor-no-space args.text.now args.p.0 args.d args.out.now args.at.0 (is-ch c.peek.ensures 40 c.if-peek-ne-OPEN_ROUND.false) (args.d - 1)
+    (less_one args.d c.if-d-eq0.false) c.in_err-w.ensures)
 
 pub factor-overflow_sub-d : goal.factor-overflow_sub-d
 factor-overflow_sub-d t c =
@@ -150,20 +153,20 @@ factor-overflow_sub-d t c =
 pub factor-alternatives-requires : goal.factor-alternatives-requires
 factor-alternatives-requires t c =
     let pre = c.requires in (
-      falls-read t 1 5 (rw c.in-At.is at c.token.ensures) c.decreases (omega arith),
-      room-read pre (rw c.in-At.is at c.token.ensures) c.token.auto.out,
+      falls-read t 1 5 c.in_ok-w.ensures c.decreases (omega arith),
+      room-read pre c.in_ok-w.ensures c.token.auto.out,
     )
 
-pub factor-shape_of-out-in_default-alternatives : goal.factor-shape_of-out-in_default-alternatives
-factor-shape_of-out-in_default-alternatives t c =
+pub factor-shape_of-out-in_err-q : goal.factor-shape_of-out-in_err-q
+factor-shape_of-out-in_err-q t c =
     c.alternatives.auto.out ∙ c.token.auto.out
 
-pub factor-returns-in_default-alternatives : goal.factor-returns-in_default-alternatives
-factor-returns-in_default-alternatives t c =
+pub factor-returns-in_err-q : goal.factor-returns-in_err-q
+factor-returns-in_err-q t c =
     let args = c.args in
-    factor-no-alts args.text.now args.p.0 args.d args.out.now args.at.0 (is-ch c.peek.ensures 40 c.if-peek-ne-OPEN_ROUND.false) (args.d - 1)
-    (less_one args.d c.if-d-eq0.false) c.token.new.out c.in-At.w.0 c.in-At.e.0 (rw c.in-At.is at c.token.ensures)
-    (rw c.in_default-alternatives.is at c.alternatives.ensures)
+    rw c.from_residual-in_err-q.ensures (factor-no-alts args.text.now args.p.0 args.d args.out.now args.at.0 (is-ch c.peek.ensures 40 c.if-peek-ne-OPEN_ROUND.false) (args.d - 1)
+    (less_one args.d c.if-d-eq0.false) c.token.new.out c.in_ok-w.w.0 c.in_ok-w.e.0 c.in_ok-w.ensures
+    c.in_err-q.ensures)
 
 pub factor-shape_of-out-then-peek-ne-CLOSE_ROUND : goal.factor-shape_of-out-then-peek-ne-CLOSE_ROUND
 factor-shape_of-out-then-peek-ne-CLOSE_ROUND t c =
@@ -173,19 +176,19 @@ pub factor-returns-then-peek-ne-CLOSE_ROUND : goal.factor-returns-then-peek-ne-C
 factor-returns-then-peek-ne-CLOSE_ROUND t c =
     let args = c.args in
     factor-open args.text.now args.p.0 args.d args.out.now args.at.0 (is-ch c.peek.ensures 40 c.if-peek-ne-OPEN_ROUND.false) (args.d - 1)
-    (less_one args.d c.if-d-eq0.false) c.token.new.out c.in-At.w.0 c.in-At.e.0 (rw c.in-At.is at c.token.ensures)
-    c.alternatives.new.out c.in-At-alternatives.q.0 c.in-At-alternatives.b.0 (rw c.in-At-alternatives.is at c.alternatives.ensures)
+    (less_one args.d c.if-d-eq0.false) c.token.new.out c.in_ok-w.w.0 c.in_ok-w.e.0 c.in_ok-w.ensures
+    c.alternatives.new.out c.in_ok-q.q.0 c.in_ok-q.b.0 c.in_ok-q.ensures
     (not-ch c.peek-2.ensures 41 c.if-peek-ne-CLOSE_ROUND.true)
 
 pub factor-token-requires-2 : goal.factor-token-requires-2
 factor-token-requires-2 t c =
     let args = c.args in
     let pre = c.requires in
-    let i = seen-in args.text.now c.in-At-alternatives.q.0 c.peek-2.result 41 c.peek-2.ensures c.if-peek-ne-CLOSE_ROUND.false (omega arith) in (
+    let i = seen-in args.text.now c.in_ok-q.q.0 c.peek-2.result 41 c.peek-2.ensures c.if-peek-ne-CLOSE_ROUND.false (omega arith) in (
       i,
       room-cell
-          (room-read (room-read pre (rw c.in-At.is at c.token.ensures) c.token.auto.out)
-          (rw c.in-At-alternatives.is at c.alternatives.ensures) c.alternatives.auto.out)
+          (room-read (room-read pre c.in_ok-w.ensures c.token.auto.out)
+          c.in_ok-q.ensures c.alternatives.auto.out)
           i,
     )
 
@@ -197,8 +200,8 @@ pub factor-returns : goal.factor-returns
 factor-returns t c =
     let args = c.args in
     factor-shut args.text.now args.p.0 args.d args.out.now args.at.0 (is-ch c.peek.ensures 40 c.if-peek-ne-OPEN_ROUND.false) (args.d - 1)
-    (less_one args.d c.if-d-eq0.false) c.token.new.out c.in-At.w.0 c.in-At.e.0 (rw c.in-At.is at c.token.ensures)
-    c.alternatives.new.out c.in-At-alternatives.q.0 c.in-At-alternatives.b.0 (rw c.in-At-alternatives.is at c.alternatives.ensures)
+    (less_one args.d c.if-d-eq0.false) c.token.new.out c.in_ok-w.w.0 c.in_ok-w.e.0 c.in_ok-w.ensures
+    c.alternatives.new.out c.in_ok-q.q.0 c.in_ok-q.b.0 c.in_ok-q.ensures
     (is-ch c.peek-2.ensures 41 c.if-peek-ne-CLOSE_ROUND.false) c.token-2.result c.token-2.new.out c.token-2.ensures
 
 pub repeated-after-second-requires : goal.repeated-after-second-requires
@@ -250,34 +253,30 @@ repeated-skip-requires t c =
     rw (twice _ c.after-second.ensures c.after.ensures) (marks-in args.text.now args.p.0 args.k c.peek.result pre.1
     (rw c.after-second.ensures at c.peek.ensures) c.if-peek-k.false)
 
-pub repeated-returns-in_default : goal.repeated-returns-in_default
-repeated-returns-in_default t c =
+pub repeated-returns-in_err-w : goal.repeated-returns-in_err-w
+repeated-returns-in_err-w t c =
     let args = c.args in
-    repeat-no-space args.text.now args.p.0 args.k args.d args.out.now args.at.0
-    (is-ch (rw c.after-second.ensures at c.peek.ensures) (42 + args.k) c.if-peek-k.false) (rw (twice _ c.after-second.ensures c.after.ensures, c.in_default.is) at c.skip.ensures)
+    rw c.from_residual.ensures (repeat-no-space args.text.now args.p.0 args.k args.d args.out.now args.at.0
+    (is-ch (rw c.after-second.ensures at c.peek.ensures) (42 + args.k) c.if-peek-k.false) (rw (twice _ c.after-second.ensures c.after.ensures) at c.in_err-w.ensures))
 
 pub repeated-factor-requires : goal.repeated-factor-requires
 repeated-factor-requires t c =
     let args = c.args in
     let pre = c.requires in (
-      sep-falls t 1 1 args.text.now args.p.0 c.in-At.w.0 (rw (twice _ c.after-second.ensures c.after.ensures, c.in-At.is) at c.skip.ensures) c.decreases (omega arith),
-      sep-room c.in-At.w.0 pre.0 (rw (twice _ c.after-second.ensures c.after.ensures, c.in-At.is) at c.skip.ensures),
+      sep-falls t 1 1 args.text.now args.p.0 c.in_ok-w.w.0 (rw (twice _ c.after-second.ensures c.after.ensures) at c.in_ok-w.ensures) c.decreases (omega arith),
+      sep-room c.in_ok-w.w.0 pre.0 (rw (twice _ c.after-second.ensures c.after.ensures) at c.in_ok-w.ensures),
     )
 
-pub repeated-shape_of-out-in_default-factor : goal.repeated-shape_of-out-in_default-factor
-repeated-shape_of-out-in_default-factor t c =
+pub repeated-shape_of-out-in_err-q : goal.repeated-shape_of-out-in_err-q
+repeated-shape_of-out-in_err-q t c =
     c.factor.auto.out
 
-pub repeated-returns-in_default-factor : goal.repeated-returns-in_default-factor
-repeated-returns-in_default-factor t c =
+pub repeated-returns-in_err-q : goal.repeated-returns-in_err-q
+repeated-returns-in_err-q t c =
     let args = c.args in
-    repeat-no-factor args.text.now args.p.0 args.k args.d args.out.now args.at.0
-    (is-ch (rw c.after-second.ensures at c.peek.ensures) (42 + args.k) c.if-peek-k.false) c.in-At.w.0 (rw (
-      twice _ c.after-second.ensures
-          c.after.ensures,
-      c.in-At.is,
-    ) at c.skip.ensures)
-    (rw c.in_default-factor.is at c.factor.ensures)
+    rw c.from_residual-in_err-q.ensures (repeat-no-factor args.text.now args.p.0 args.k args.d args.out.now args.at.0
+    (is-ch (rw c.after-second.ensures at c.peek.ensures) (42 + args.k) c.if-peek-k.false) c.in_ok-w.w.0 (rw (twice _ c.after-second.ensures c.after.ensures) at c.in_ok-w.ensures)
+    c.in_err-q.ensures)
 
 pub repeated-overflow_add-k-2 : goal.repeated-overflow_add-k-2
 repeated-overflow_add-k-2 t c =
@@ -291,12 +290,8 @@ repeated-put-end-requires t c =
     omega (
       arith,
       repeat-cell args.text.now args.p.0 args.k args.d args.out.now args.at.0
-          (is-ch (rw c.after-second.ensures at c.peek.ensures) (42 + args.k) c.if-peek-k.false) c.in-At.w.0 (rw (
-            twice _ c.after-second.ensures
-                c.after.ensures,
-            c.in-At.is,
-          ) at c.skip.ensures)
-          c.factor.new.out c.in-At-factor.q.0 c.in-At-factor.b.0 (rw c.in-At-factor.is at c.factor.ensures) pre.0
+          (is-ch (rw c.after-second.ensures at c.peek.ensures) (42 + args.k) c.if-peek-k.false) c.in_ok-w.w.0 (rw (twice _ c.after-second.ensures c.after.ensures) at c.in_ok-w.ensures)
+          c.factor.new.out c.in_ok-q.q.0 c.in_ok-q.b.0 c.in_ok-q.ensures pre.0
           c.factor.auto.out,
     )
 
@@ -310,12 +305,8 @@ repeated-returns t c =
     let pre = c.requires in
     rw (c.put-end.ensures.0, c.put-end.ensures.1)
     (repeat-sep args.text.now args.p.0 args.k args.d args.out.now args.at.0
-    (is-ch (rw c.after-second.ensures at c.peek.ensures) (42 + args.k) c.if-peek-k.false) c.in-At.w.0 (rw (
-      twice _ c.after-second.ensures
-          c.after.ensures,
-      c.in-At.is,
-    ) at c.skip.ensures) c.factor.new.out
-    c.in-At-factor.q.0 c.in-At-factor.b.0 (rw c.in-At-factor.is at c.factor.ensures) pre.0 c.factor.auto.out)
+    (is-ch (rw c.after-second.ensures at c.peek.ensures) (42 + args.k) c.if-peek-k.false) c.in_ok-w.w.0 (rw (twice _ c.after-second.ensures c.after.ensures) at c.in_ok-w.ensures) c.factor.new.out
+    c.in_ok-q.q.0 c.in_ok-q.b.0 c.in_ok-q.ensures pre.0 c.factor.auto.out)
 
 pub term-factor-requires : goal.term-factor-requires
 term-factor-requires t c =
@@ -323,21 +314,21 @@ term-factor-requires t c =
     let pre = c.requires in
     (falls_at t (length args.text.now) args.p.0 args.p.0 2 1 (omega arith) pre.place c.decreases (omega arith), pre)
 
-pub term-shape_of-out-in_default : goal.term-shape_of-out-in_default
-term-shape_of-out-in_default t c =
+pub term-shape_of-out-in_err-q : goal.term-shape_of-out-in_err-q
+term-shape_of-out-in_err-q t c =
     c.factor.auto.out
 
-pub term-returns-in_default : goal.term-returns-in_default
-term-returns-in_default t c =
+pub term-returns-in_err-q : goal.term-returns-in_err-q
+term-returns-in_err-q t c =
     let args = c.args in
-    term-none args.d (drop args.p.0 args.text.now) (rw c.in_default.is at c.factor.ensures)
+    rw c.from_residual.ensures (term-none args.d (drop args.p.0 args.text.now) c.in_err-q.ensures)
 
 pub term-token-requires : goal.term-token-requires
 term-token-requires t c =
     let args = c.args in
     let pre = c.requires in
-    let i = seen-in args.text.now c.in-At.q.0 c.peek-c.result 63 c.peek-c.ensures c.if-c-eq-QUESTION_MARK.true (omega arith) in
-    (i, room-cell (room-read pre (rw c.in-At.is at c.factor.ensures) c.factor.auto.out) i)
+    let i = seen-in args.text.now c.in_ok-q.q.0 c.peek-c.result 63 c.peek-c.ensures c.if-c-eq-QUESTION_MARK.true (omega arith) in
+    (i, room-cell (room-read pre c.in_ok-q.ensures c.factor.auto.out) i)
 
 pub term-shape_of-out-then-c-eq-QUESTION_MARK : goal.term-shape_of-out-then-c-eq-QUESTION_MARK
 term-shape_of-out-then-c-eq-QUESTION_MARK t c =
@@ -346,16 +337,16 @@ term-shape_of-out-then-c-eq-QUESTION_MARK t c =
 pub term-returns-then-c-eq-QUESTION_MARK : goal.term-returns-then-c-eq-QUESTION_MARK
 term-returns-then-c-eq-QUESTION_MARK t c =
     let args = c.args in
-    term-option args.text.now args.p.0 args.d args.out.now args.at.0 c.factor.new.out c.in-At.q.0
-    c.in-At.b.0 (rw c.in-At.is at c.factor.ensures) (is-ch c.peek-c.ensures 63 c.if-c-eq-QUESTION_MARK.true) c.token.result
+    term-option args.text.now args.p.0 args.d args.out.now args.at.0 c.factor.new.out c.in_ok-q.q.0
+    c.in_ok-q.b.0 c.in_ok-q.ensures (is-ch c.peek-c.ensures 63 c.if-c-eq-QUESTION_MARK.true) c.token.result
     c.token.new.out c.token.ensures
 
 pub term-repeated-requires : goal.term-repeated-requires
 term-repeated-requires t c =
     let pre = c.requires in (
-      falls-read t 2 1 (rw c.in-At.is at c.factor.ensures) c.decreases (omega arith),
+      falls-read t 2 1 c.in_ok-q.ensures c.decreases (omega arith),
       (
-        (room-read pre (rw c.in-At.is at c.factor.ensures) c.factor.auto.out),
+        (room-read pre c.in_ok-q.ensures c.factor.auto.out),
         omega arith,
         is-ch c.peek-c.ensures 42 c.if-c-eq-STAR.true,
       ),
@@ -368,16 +359,16 @@ term-shape_of-out-then-c-eq-STAR t c =
 pub term-returns-then-c-eq-STAR : goal.term-returns-then-c-eq-STAR
 term-returns-then-c-eq-STAR t c =
     let args = c.args in
-    term-star args.text.now args.p.0 args.d args.out.now args.at.0 c.factor.new.out c.in-At.q.0
-    c.in-At.b.0 (rw c.in-At.is at c.factor.ensures) (is-ch c.peek-c.ensures 42 c.if-c-eq-STAR.true) c.repeated.result
+    term-star args.text.now args.p.0 args.d args.out.now args.at.0 c.factor.new.out c.in_ok-q.q.0
+    c.in_ok-q.b.0 c.in_ok-q.ensures (is-ch c.peek-c.ensures 42 c.if-c-eq-STAR.true) c.repeated.result
     c.repeated.new.out c.repeated.ensures
 
 pub term-repeated-requires-then-c-eq-PLUS : goal.term-repeated-requires-then-c-eq-PLUS
 term-repeated-requires-then-c-eq-PLUS t c =
     let pre = c.requires in (
-      falls-read t 2 1 (rw c.in-At.is at c.factor.ensures) c.decreases (omega arith),
+      falls-read t 2 1 c.in_ok-q.ensures c.decreases (omega arith),
       (
-        (room-read pre (rw c.in-At.is at c.factor.ensures) c.factor.auto.out),
+        (room-read pre c.in_ok-q.ensures c.factor.auto.out),
         omega arith,
         is-ch c.peek-c.ensures 43 c.if-c-eq-PLUS.true,
       ),
@@ -390,8 +381,8 @@ term-shape_of-out-then-c-eq-PLUS t c =
 pub term-returns-then-c-eq-PLUS : goal.term-returns-then-c-eq-PLUS
 term-returns-then-c-eq-PLUS t c =
     let args = c.args in
-    term-plus args.text.now args.p.0 args.d args.out.now args.at.0 c.factor.new.out c.in-At.q.0
-    c.in-At.b.0 (rw c.in-At.is at c.factor.ensures) (is-ch c.peek-c.ensures 43 c.if-c-eq-PLUS.true) c.repeated-then-c-eq-PLUS.result
+    term-plus args.text.now args.p.0 args.d args.out.now args.at.0 c.factor.new.out c.in_ok-q.q.0
+    c.in_ok-q.b.0 c.in_ok-q.ensures (is-ch c.peek-c.ensures 43 c.if-c-eq-PLUS.true) c.repeated-then-c-eq-PLUS.result
     c.repeated-then-c-eq-PLUS.new.out c.repeated-then-c-eq-PLUS.ensures
 
 pub term-shape_of-out : goal.term-shape_of-out
@@ -401,8 +392,8 @@ term-shape_of-out t c =
 pub term-returns : goal.term-returns
 term-returns t c =
     let args = c.args in
-    term-stop args.text.now args.p.0 args.d args.out.now args.at.0 c.factor.new.out c.in-At.q.0
-    c.in-At.b.0 (rw c.in-At.is at c.factor.ensures) (not-ch c.peek-c.ensures 63 c.if-c-eq-QUESTION_MARK.false)
+    term-stop args.text.now args.p.0 args.d args.out.now args.at.0 c.factor.new.out c.in_ok-q.q.0
+    c.in_ok-q.b.0 c.in_ok-q.ensures (not-ch c.peek-c.ensures 63 c.if-c-eq-QUESTION_MARK.false)
     (not-ch c.peek-c.ensures 42 c.if-c-eq-STAR.false) (not-ch c.peek-c.ensures 43 c.if-c-eq-PLUS.false)
 
 pub terms-loop-q-init : goal.terms-loop-q-init
@@ -420,14 +411,14 @@ terms-term-requires t c =
       c.loop-q.invariant.room,
     )
 
-pub terms-shape_of-out-in_default : goal.terms-shape_of-out-in_default
-terms-shape_of-out-in_default t c =
+pub terms-shape_of-out-in_err-q : goal.terms-shape_of-out-in_err-q
+terms-shape_of-out-in_err-q t c =
     c.term.auto.out ∙ c.loop-q.invariant.same
 
-pub terms-returns-in_default : goal.terms-returns-in_default
-terms-returns-in_default t c =
+pub terms-returns-in_err-q : goal.terms-returns-in_err-q
+terms-returns-in_err-q t c =
     let args = c.args in
-    loop-fail c.loop-q.invariant (terms-none args.d (drop c.loop-q.from.0 args.text.now) (rw c.in_default.is at c.term.ensures))
+    rw c.from_residual.ensures (loop-fail c.loop-q.invariant (terms-none args.d (drop c.loop-q.from.0 args.text.now) c.in_err-q.ensures))
 
 pub terms-shape_of-out-then-peek-ne-COMMA : goal.terms-shape_of-out-then-peek-ne-COMMA
 terms-shape_of-out-then-peek-ne-COMMA t c =
@@ -437,42 +428,42 @@ pub terms-returns-then-peek-ne-COMMA : goal.terms-returns-then-peek-ne-COMMA
 terms-returns-then-peek-ne-COMMA t c =
     let args = c.args in
     let h = c.loop-q.invariant.context.on in
-    loop-read c.loop-q.invariant (args.p.0 + 1) (c.loop-q.from.0 + 1) c.term.new.out c.in-At.q.0 c.in-At.b.0 (omega arith)
-    (terms-stop args.text.now c.loop-q.from.0 args.d c.loop-q.out c.loop-q.to.0 c.term.new.out c.in-At.q.0
-    c.in-At.b.0 (rw c.in-At.is at c.term.ensures) (not-ch c.peek.ensures 44 c.if-peek-ne-COMMA.true))
+    loop-read c.loop-q.invariant (args.p.0 + 1) (c.loop-q.from.0 + 1) c.term.new.out c.in_ok-q.q.0 c.in_ok-q.b.0 (omega arith)
+    (terms-stop args.text.now c.loop-q.from.0 args.d c.loop-q.out c.loop-q.to.0 c.term.new.out c.in_ok-q.q.0
+    c.in_ok-q.b.0 c.in_ok-q.ensures (not-ch c.peek.ensures 44 c.if-peek-ne-COMMA.true))
 
 pub terms-after-requires : goal.terms-after-requires
 terms-after-requires t c =
     let args = c.args in
-    omega (arith, (seen-in args.text.now c.in-At.q.0 c.peek.result 44 c.peek.ensures c.if-peek-ne-COMMA.false (omega arith)))
+    omega (arith, (seen-in args.text.now c.in_ok-q.q.0 c.peek.result 44 c.peek.ensures c.if-peek-ne-COMMA.false (omega arith)))
 
 pub terms-skip-requires : goal.terms-skip-requires
 terms-skip-requires t c =
     let args = c.args in
-    omega (arith, c.after.ensures, (seen-in args.text.now c.in-At.q.0 c.peek.result 44 c.peek.ensures c.if-peek-ne-COMMA.false (omega arith)))
+    omega (arith, c.after.ensures, (seen-in args.text.now c.in_ok-q.q.0 c.peek.result 44 c.peek.ensures c.if-peek-ne-COMMA.false (omega arith)))
 
-pub terms-shape_of-out-in_default-skip : goal.terms-shape_of-out-in_default-skip
-terms-shape_of-out-in_default-skip t c =
+pub terms-shape_of-out-in_err-w : goal.terms-shape_of-out-in_err-w
+terms-shape_of-out-in_err-w t c =
     c.term.auto.out ∙ c.loop-q.invariant.same
 
-pub terms-returns-in_default-skip : goal.terms-returns-in_default-skip
-terms-returns-in_default-skip t c =
+pub terms-returns-in_err-w : goal.terms-returns-in_err-w
+terms-returns-in_err-w t c =
     let args = c.args in
-    loop-fail c.loop-q.invariant
-    (terms-no-space args.text.now c.loop-q.from.0 args.d c.loop-q.out c.loop-q.to.0 c.term.new.out c.in-At.q.0
-    c.in-At.b.0 (rw c.in-At.is at c.term.ensures) (is-ch c.peek.ensures 44 c.if-peek-ne-COMMA.false)
-    (rw (c.after.ensures, c.in_default-skip.is) at c.skip.ensures))
+    rw c.from_residual-in_err-w.ensures (loop-fail c.loop-q.invariant
+    (terms-no-space args.text.now c.loop-q.from.0 args.d c.loop-q.out c.loop-q.to.0 c.term.new.out c.in_ok-q.q.0
+    c.in_ok-q.b.0 c.in_ok-q.ensures (is-ch c.peek.ensures 44 c.if-peek-ne-COMMA.false)
+    (rw c.after.ensures at c.in_err-w.ensures)))
 
 pub terms-loop-q-smaller : goal.terms-loop-q-smaller
 terms-loop-q-smaller t c =
     let args = c.args in
-    terms-less args.text.now c.loop-q.from.0 args.d c.loop-q.out c.loop-q.to.0 c.term.new.out c.in-At.q.0 c.in-At.b.0
-    (rw c.in-At.is at c.term.ensures) (is-ch c.peek.ensures 44 c.if-peek-ne-COMMA.false) c.in-At-skip.w.0
-    (rw (c.after.ensures, c.in-At-skip.is) at c.skip.ensures)
+    terms-less args.text.now c.loop-q.from.0 args.d c.loop-q.out c.loop-q.to.0 c.term.new.out c.in_ok-q.q.0 c.in_ok-q.b.0
+    c.in_ok-q.ensures (is-ch c.peek.ensures 44 c.if-peek-ne-COMMA.false) c.in_ok-w.w.0
+    (rw c.after.ensures at c.in_ok-w.ensures)
 
 pub terms-loop-q-preserved : goal.terms-loop-q-preserved
 terms-loop-q-preserved t c =
     let args = c.args in
-    terms-again args.text.now c.loop-q.from.0 args.d c.loop-q.out c.loop-q.to.0 c.term.new.out c.in-At.q.0 c.in-At.b.0
-    (rw c.in-At.is at c.term.ensures) (is-ch c.peek.ensures 44 c.if-peek-ne-COMMA.false) c.in-At-skip.w.0
-    (rw (c.after.ensures, c.in-At-skip.is) at c.skip.ensures) c.loop-q.invariant c.term.auto.out
+    terms-again args.text.now c.loop-q.from.0 args.d c.loop-q.out c.loop-q.to.0 c.term.new.out c.in_ok-q.q.0 c.in_ok-q.b.0
+    c.in_ok-q.ensures (is-ch c.peek.ensures 44 c.if-peek-ne-COMMA.false) c.in_ok-w.w.0
+    (rw c.after.ensures at c.in_ok-w.ensures) c.loop-q.invariant c.term.auto.out

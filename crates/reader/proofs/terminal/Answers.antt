@@ -10,23 +10,23 @@ skip-requires c =
     let args = c.args in
     omega (arith, seen-in args.text.now args.p.0 _ 0x7e c.peek-c.ensures c.if-c-eq-TILDE.true (omega arith), c.after.ensures)
 
-pub returns-in_default : goal.returns-in_default
-returns-in_default c =
+pub returns-in_err-q : goal.returns-in_err-q
+returns-in_err-q c =
     let args = c.args in
-    exclude-bad args.text.now args.p.0 args.m args.out.now args.at.0 (is-ch c.peek-c.ensures 0x7e c.if-c-eq-TILDE.true)
-    (rw (c.after.ensures, c.in_default.is) at c.skip.ensures)
+    rw c.from_residual.ensures (exclude-bad args.text.now args.p.0 args.m args.out.now args.at.0 (is-ch c.peek-c.ensures 0x7e c.if-c-eq-TILDE.true)
+    (rw c.after.ensures at c.in_err-q.ensures))
 
 pub set-requires : goal.set-requires
 set-requires c =
     let args = c.args in
     let pre = c.requires in
-    room-past args.text.now args.p.0 _ _ _ pre.0 (rw (c.after.ensures, c.in-At.is) at c.skip.ensures)
+    room-past args.text.now args.p.0 _ _ _ pre.0 (rw c.after.ensures at c.in_ok-q.ensures)
 
 pub returns-then-c-eq-TILDE : goal.returns-then-c-eq-TILDE
 returns-then-c-eq-TILDE c =
     let args = c.args in
     excluded args.text.now args.p.0 args.m args.out.now args.at.0 (is-ch c.peek-c.ensures 0x7e c.if-c-eq-TILDE.true) _
-    (rw (c.after.ensures, c.in-At.is) at c.skip.ensures) c.set.result _ c.set.ensures
+    (rw c.after.ensures at c.in_ok-q.ensures) c.set.result _ c.set.ensures
 
 pub returns-then-c-eq-OPEN_SQUARE : goal.returns-then-c-eq-OPEN_SQUARE
 returns-then-c-eq-OPEN_SQUARE c =

@@ -1,4 +1,3 @@
-use Prim.Native.Nat.{◌-◌}
 use mathlib.Core.Path.{sym, ◌∙◌}
 use native.Mathlib.Omega.{arith}
 use Rattle.syntax.specs.Syntax.{bar}
@@ -14,15 +13,15 @@ member-requires c =
     let pre = c.requires in
     listing-room _ _ _ _ _ _ _ c.loop-q.invariant (pre)
 
-pub shape_of-out-in_default : goal.shape_of-out-in_default
-shape_of-out-in_default c =
+pub shape_of-out-in_err-q : goal.shape_of-out-in_err-q
+shape_of-out-in_err-q c =
     c.member.auto.out ∙ c.loop-q.invariant.len
 
-pub returns-in_default : goal.returns-in_default
-returns-in_default c =
+pub returns-in_err-q : goal.returns-in_err-q
+returns-in_err-q c =
     let args = c.args in
-    listing_none args.text.now args.p.0 args.out.now args.at.0 c.loop-q.out c.loop-q.from.0 c.loop-q.to.0 c.loop-q.invariant
-    (rw c.in_default.is at c.member.ensures)
+    rw c.from_residual.ensures (listing_none args.text.now args.p.0 args.out.now args.at.0 c.loop-q.out c.loop-q.from.0 c.loop-q.to.0 c.loop-q.invariant
+    c.in_err-q.ensures)
 
 pub shape_of-out-then-not-bar : goal.shape_of-out-then-not-bar
 shape_of-out-then-not-bar c =
@@ -32,7 +31,7 @@ pub returns-then-not-bar : goal.returns-then-not-bar
 returns-then-not-bar c =
     let args = c.args in
     listing-last args.text.now args.p.0 args.out.now args.at.0 c.loop-q.out c.loop-q.from.0 c.loop-q.to.0 c.loop-q.invariant _ _ _
-    (rw c.in-At.is at c.member.ensures) (tested c.peek.ensures bar (sym c.bar.ensures ∙ c.if-not-bar.true))
+    c.in_ok-q.ensures (tested c.peek.ensures bar (sym c.bar.ensures ∙ c.if-not-bar.true))
 
 pub after-requires : goal.after-requires
 after-requires c =
@@ -40,7 +39,7 @@ after-requires c =
     omega (
       arith,
       bar-in args.text.now args.p.0 args.out.now args.at.0 c.loop-q.out c.loop-q.from.0 c.loop-q.to.0 c.loop-q.invariant _ _ _
-          (rw c.in-At.is at c.member.ensures) (tested c.peek.ensures bar (sym c.bar.ensures ∙ c.if-not-bar.false)),
+          c.in_ok-q.ensures (tested c.peek.ensures bar (sym c.bar.ensures ∙ c.if-not-bar.false)),
       c.well_formed.0,
     )
 
@@ -50,31 +49,31 @@ skip-requires c =
     omega (
       arith,
       bar-in args.text.now args.p.0 args.out.now args.at.0 c.loop-q.out c.loop-q.from.0 c.loop-q.to.0 c.loop-q.invariant _ _ _
-          (rw c.in-At.is at c.member.ensures) (tested c.peek.ensures bar (sym c.bar.ensures ∙ c.if-not-bar.false)),
+          c.in_ok-q.ensures (tested c.peek.ensures bar (sym c.bar.ensures ∙ c.if-not-bar.false)),
       c.after.ensures,
     )
 
-pub shape_of-out-in_default-skip : goal.shape_of-out-in_default-skip
-shape_of-out-in_default-skip c =
+pub shape_of-out-in_err-w : goal.shape_of-out-in_err-w
+shape_of-out-in_err-w c =
     c.member.auto.out ∙ c.loop-q.invariant.len
 
-pub returns-in_default-skip : goal.returns-in_default-skip
-returns-in_default-skip c =
+pub returns-in_err-w : goal.returns-in_err-w
+returns-in_err-w c =
     let args = c.args in
-    listing-bad args.text.now args.p.0 args.out.now args.at.0 c.loop-q.out c.loop-q.from.0 c.loop-q.to.0 c.loop-q.invariant _ _ _
-    (rw c.in-At.is at c.member.ensures) (tested c.peek.ensures bar (sym c.bar.ensures ∙ c.if-not-bar.false))
-    (rw (c.after.ensures, c.in_default-skip.is) at c.skip.ensures)
+    rw c.from_residual-in_err-w.ensures (listing-bad args.text.now args.p.0 args.out.now args.at.0 c.loop-q.out c.loop-q.from.0 c.loop-q.to.0 c.loop-q.invariant _ _ _
+    c.in_ok-q.ensures (tested c.peek.ensures bar (sym c.bar.ensures ∙ c.if-not-bar.false))
+    (rw c.after.ensures at c.in_err-w.ensures))
 
 pub loop-q-smaller : goal.loop-q-smaller
 loop-q-smaller c =
     let args = c.args in
     listing-less args.text.now args.p.0 args.out.now args.at.0 c.loop-q.out c.loop-q.from.0 c.loop-q.to.0 c.loop-q.invariant _ _ _
-    (rw c.in-At.is at c.member.ensures) (tested c.peek.ensures bar (sym c.bar.ensures ∙ c.if-not-bar.false)) _
-    (rw (c.after.ensures, c.in-At-skip.is) at c.skip.ensures)
+    c.in_ok-q.ensures (tested c.peek.ensures bar (sym c.bar.ensures ∙ c.if-not-bar.false)) _
+    (rw c.after.ensures at c.in_ok-w.ensures)
 
 pub loop-q-preserved : goal.loop-q-preserved
 loop-q-preserved c =
     let args = c.args in
     listing-on args.text.now args.p.0 args.out.now args.at.0 c.loop-q.out c.loop-q.from.0 c.loop-q.to.0 c.loop-q.invariant _ _ _
-    (rw c.in-At.is at c.member.ensures) (tested c.peek.ensures bar (sym c.bar.ensures ∙ c.if-not-bar.false)) _
-    (rw (c.after.ensures, c.in-At-skip.is) at c.skip.ensures) c.member.auto.out
+    c.in_ok-q.ensures (tested c.peek.ensures bar (sym c.bar.ensures ∙ c.if-not-bar.false)) _
+    (rw c.after.ensures at c.in_ok-w.ensures) c.member.auto.out

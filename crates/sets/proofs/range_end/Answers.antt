@@ -10,10 +10,7 @@ pub bounds-out-j-in-Coded-2 : goal.bounds-out-j-in-Coded-2
 bounds-out-j-in-Coded-2 c = simp length-set (omega arith)
 
 pub returns-else-b-j : goal.returns-else-b-j
-returns-else-b-j c = rw c.in-Quoted.is (record { step = (refl, refl); table = refl }, c.if-b-j.false)
+returns-else-b-j c = rw c.in-Quoted.is (record { place = refl; cell = refl; table = refl }, c.if-b-j.false)
 
 pub returns-in-Coded : goal.returns-in-Coded
-returns-in-Coded c = rw c.in-Coded.is (record { step = (refl, refl); table = refl })
-
-pub returns-in-No : goal.returns-in-No
-returns-in-No c = rw c.in-No.is tt
+returns-in-Coded c = rw c.in-Coded.is (record { place = refl; cell = refl; table = refl })

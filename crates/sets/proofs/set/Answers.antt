@@ -16,10 +16,10 @@ token-requires c =
     let h = seen-in args.text.now args.p.0 _ 0x5b c.peek.ensures c.if-peek-ne-OPEN_SQUARE.false (omega arith) in
     (h, omega (arith, h, pre.cells))
 
-pub returns-in_default : goal.returns-in_default
-returns-in_default c =
+pub returns-in_err-v : goal.returns-in_err-v
+returns-in_err-v c =
     let args = c.args in
-    set-bad args.text.now args.p.0 (is-ch c.peek.ensures 0x5b c.if-peek-ne-OPEN_SQUARE.false) (rw c.in_default.is at c.token.ensures)
+    rw c.from_residual.ensures (set-bad args.text.now args.p.0 (is-ch c.peek.ensures 0x5b c.if-peek-ne-OPEN_SQUARE.false) c.in_err-v.ensures)
 
 pub token-requires-then-peek-eq-CLOSE_SQUARE : goal.token-requires-then-peek-eq-CLOSE_SQUARE
 token-requires-then-peek-eq-CLOSE_SQUARE c =
@@ -27,7 +27,7 @@ token-requires-then-peek-eq-CLOSE_SQUARE c =
     let pre = c.requires in (
       (seen-in _ _ _ 0x5d c.peek-2.ensures c.if-peek-eq-CLOSE_SQUARE.true (omega arith)),
       set-cell args.text.now args.p.0 (is-ch c.peek.ensures 0x5b c.if-peek-ne-OPEN_SQUARE.false) _ args.out.now args.at.0 _ _ _
-          (rw c.in-At.is at c.token.ensures) (pre) c.token.auto.out
+          c.in_ok-v.ensures (pre) c.token.auto.out
           (seen-in _ _ _ 0x5d c.peek-2.ensures c.if-peek-eq-CLOSE_SQUARE.true (omega arith)),
     )
 
@@ -35,17 +35,17 @@ pub returns-then-peek-eq-CLOSE_SQUARE : goal.returns-then-peek-eq-CLOSE_SQUARE
 returns-then-peek-eq-CLOSE_SQUARE c =
     let args = c.args in
     set-none args.text.now args.p.0 (is-ch c.peek.ensures 0x5b c.if-peek-ne-OPEN_SQUARE.false) _ args.out.now args.at.0 _ _ _
-    (rw c.in-At.is at c.token.ensures) (is-ch c.peek-2.ensures 0x5d c.if-peek-eq-CLOSE_SQUARE.true) c.token-then-peek-eq-CLOSE_SQUARE.result _ c.token-then-peek-eq-CLOSE_SQUARE.ensures
+    c.in_ok-v.ensures (is-ch c.peek-2.ensures 0x5d c.if-peek-eq-CLOSE_SQUARE.true) c.token-then-peek-eq-CLOSE_SQUARE.result _ c.token-then-peek-eq-CLOSE_SQUARE.ensures
 
 pub filled_set-requires : goal.filled_set-requires
 filled_set-requires c =
     let args = c.args in
     let pre = c.requires in
     set_room args.text.now args.p.0 (is-ch c.peek.ensures 0x5b c.if-peek-ne-OPEN_SQUARE.false) _ args.out.now args.at.0 _ _ _
-    (rw c.in-At.is at c.token.ensures) (pre) c.token.auto.out
+    c.in_ok-v.ensures (pre) c.token.auto.out
 
 pub returns : goal.returns
 returns c =
     let args = c.args in
     set-some args.text.now args.p.0 (is-ch c.peek.ensures 0x5b c.if-peek-ne-OPEN_SQUARE.false) _ args.out.now args.at.0 _ _ _
-    (rw c.in-At.is at c.token.ensures) (not-ch c.peek-2.ensures 0x5d c.if-peek-eq-CLOSE_SQUARE.false) c.filled_set.result _ c.filled_set.ensures
+    c.in_ok-v.ensures (not-ch c.peek-2.ensures 0x5d c.if-peek-eq-CLOSE_SQUARE.false) c.filled_set.result _ c.filled_set.ensures

@@ -1,11 +1,14 @@
-use borrow.Author.Tests.{eq-eqb, ne_eqb}
+use borrow.Author.Tests.{ne_eqb}
 use Rattle.static_errors.specs.Parts.{bad_code}
+use Rattle.static_errors.specs.declared.StaticError.TheVariants.{HexTooLarge}
+use Rattle.static_errors.specs.Held.{rule_number}
+use Rattle.static_errors.proofs.Rulings.{rule_one}
 use Rattle.static_errors.proofs.bad_code.Goals as goal
 
-pub returns-then-rule-eq-HEX_TOO_LARGE : goal.returns-then-rule-eq-HEX_TOO_LARGE
+pub returns-in-HexTooLarge : goal.returns-in-HexTooLarge
 unfolding bad_code
-returns-then-rule-eq-HEX_TOO_LARGE c = rw (eq-eqb _ _ c.if-rule-eq-HEX_TOO_LARGE.true)
+returns-in-HexTooLarge c = rw c.in-HexTooLarge.is
 
-pub returns : goal.returns
+pub returns-in_default : goal.returns-in_default
 unfolding bad_code
-returns c = rw (ne_eqb _ _ c.if-rule-eq-HEX_TOO_LARGE.false) c.unassignable.ensures
+returns-in_default c = rw (ne_eqb (rule_number c.args.rule) 7 (λ z. c.in_default.not-HexTooLarge (rule_one c.args.rule HexTooLarge z))) c.unassignable.ensures

@@ -1,35 +1,29 @@
-use borrow.Author.Tests.{eq-eqb, ne_eqb}
+use borrow.Author.Tests.{ne_eqb}
+use Rattle.static_errors.specs.declared.StaticError.TheVariants.{UndefinedName, BackwardRange, UnknownClass}
+use Rattle.static_errors.specs.Held.{rule_number}
 use Rattle.static_errors.specs.Parts.{failing}
+use Rattle.static_errors.proofs.Rulings.{rule_one, some-rule}
 use Rattle.static_errors.proofs.breaks.Goals as goal
 
-pub returns-then-rule-eq-UNDEFINED_NAME : goal.returns-then-rule-eq-UNDEFINED_NAME
+pub returns-in-UndefinedName : goal.returns-in-UndefinedName
 unfolding failing
-returns-then-rule-eq-UNDEFINED_NAME c = rw (eq-eqb _ 5 c.if-rule-eq-UNDEFINED_NAME.true) c.lacks.ensures
+returns-in-UndefinedName c = rw c.in-UndefinedName.is c.lacks.ensures
 
-pub returns-then-rule-eq-BACKWARD_RANGE : goal.returns-then-rule-eq-BACKWARD_RANGE
+pub returns-in-BackwardRange : goal.returns-in-BackwardRange
 unfolding failing
-returns-then-rule-eq-BACKWARD_RANGE c = rw (ne_eqb _ 5 c.if-rule-eq-UNDEFINED_NAME.false, eq-eqb _ 9 c.if-rule-eq-BACKWARD_RANGE.true) c.runs_back.ensures
+returns-in-BackwardRange c = rw c.in-BackwardRange.is c.runs_back.ensures
 
-pub returns-then-rule-eq-UNKNOWN_CLASS : goal.returns-then-rule-eq-UNKNOWN_CLASS
+pub returns-in-UnknownClass : goal.returns-in-UnknownClass
 unfolding failing
-returns-then-rule-eq-UNKNOWN_CLASS c = rw (ne_eqb _ 5 c.if-rule-eq-UNDEFINED_NAME.false, ne_eqb _ 9 c.if-rule-eq-BACKWARD_RANGE.false, eq-eqb _ 10 c.if-rule-eq-UNKNOWN_CLASS.true) c.no_class.ensures
+returns-in-UnknownClass c = rw c.in-UnknownClass.is c.no_class.ensures
 
-pub returns-then-rule-eq-ANY : goal.returns-then-rule-eq-ANY
+pub returns-in_default : goal.returns-in_default
 unfolding failing
-returns-then-rule-eq-ANY c =
+returns-in_default c =
+    let r = c.args.rule in
     rw (
-      ne_eqb _ 5 c.if-rule-eq-UNDEFINED_NAME.false,
-      ne_eqb _ 9 c.if-rule-eq-BACKWARD_RANGE.false,
-      ne_eqb _ 10 c.if-rule-eq-UNKNOWN_CLASS.false,
-      eq-eqb _ 0 c.if-rule-eq-ANY.true,
-    ) c.breaks_any.ensures
-
-pub returns : goal.returns
-unfolding failing
-returns c =
-    rw (
-      ne_eqb _ 5 c.if-rule-eq-UNDEFINED_NAME.false,
-      ne_eqb _ 9 c.if-rule-eq-BACKWARD_RANGE.false,
-      ne_eqb _ 10 c.if-rule-eq-UNKNOWN_CLASS.false,
-      ne_eqb _ 0 c.if-rule-eq-ANY.false,
+      ne_eqb (rule_number r) 5 (λ z. c.in_default.not-UndefinedName (rule_one r UndefinedName z)),
+      ne_eqb (rule_number r) 9 (λ z. c.in_default.not-BackwardRange (rule_one r BackwardRange z)),
+      ne_eqb (rule_number r) 10 (λ z. c.in_default.not-UnknownClass (rule_one r UnknownClass z)),
+      ne_eqb (rule_number r) 0 (some-rule r),
     ) c.bad_codes.ensures

@@ -1,4 +1,3 @@
-use Prim.Native.Nat.{◌-◌}
 use native.Mathlib.Omega.{arith}
 use Rattle.static_errors.proofs.Scans as law
 use Rattle.static_errors.proofs.heads.Goals as goal

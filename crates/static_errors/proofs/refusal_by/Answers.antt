@@ -1,4 +1,4 @@
-use Rattle.static_errors.specs.Held.{rule_number}
+use Rattle.static_errors.specs.Held.{ruling_number}
 use Rattle.static_errors.proofs.Top as law
 use Rattle.static_errors.proofs.refusal_by.Goals as goal
 
@@ -13,4 +13,4 @@ refusal-requires c =
 pub returns : goal.returns
 returns c =
     law.answer c.args.table.now c.args.end _ c.heads-n.result c.heads-n.ensures
-    (rule_number c.refusal.result) c.refusal.ensures
+    (ruling_number c.refusal.result) c.refusal.ensures

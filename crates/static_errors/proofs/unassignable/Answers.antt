@@ -1,14 +1,19 @@
+use mathlib.Core.Path.{◌∙◌}
+use Rattle.text.proofs.Tests.{clash}
 use Rattle.plain.specs.Static.{unassignable}
+use Rattle.static_errors.proofs.unassignable.Goals.{then-between, else-between}
 use Rattle.static_errors.proofs.unassignable.Goals as goal
-
-pub returns-then-between : goal.returns-then-between
-unfolding unassignable
-returns-then-between c = rw (← c.between.ensures, c.if-between.true)
 
 pub returns-then-between-2 : goal.returns-then-between-2
 unfolding unassignable
-returns-then-between-2 c = rw (← c.between.ensures, c.if-between.false, ← c.between-2.ensures, c.if-between-2.true)
+returns-then-between-2 c = elim c.if-between.branch [
+  | then-between w ↦ rw (c.if-between-2.true, ← c.between.ensures, w.if-between.true)
+  | else-between w ↦ rw (c.if-between-2.true, ← c.between.ensures, w.if-between.false, ← w.between-else-between.ensures, ← w.value-is, c.if-between-2.true)
+]
 
-pub returns : goal.returns
+pub returns-else-between-2 : goal.returns-else-between-2
 unfolding unassignable
-returns c = rw (← c.between.ensures, c.if-between.false, ← c.between-2.ensures, c.if-between-2.false)
+returns-else-between-2 c = elim c.if-between.branch [
+  | then-between w ↦ absurd (clash c.if-between-2.false (w.value-is ∙ w.if-between.true))
+  | else-between w ↦ rw (← c.between.ensures, w.if-between.false, ← w.between-else-between.ensures, ← w.value-is, c.if-between-2.false)
+]

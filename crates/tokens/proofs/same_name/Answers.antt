@@ -1,4 +1,3 @@
-use Prim.Native.Nat.{◌-◌}
 use native.Mathlib.Omega.{arith}
 use Rattle.tokens.proofs.Names as law
 use Rattle.tokens.proofs.same_name.Goals as goal

@@ -10,5 +10,5 @@ pub returns : goal.returns
 returns c =
     record {
       starts = tested c.peek.ensures namestart (sym c.name_start.ensures ∙ c.if-not-name_start.false);
-      copied = c.copy_run-run.ensures;
+      copied = c.copy_run.ensures;
     }

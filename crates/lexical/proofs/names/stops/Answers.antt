@@ -24,4 +24,4 @@ returns c =
     let args = c.args in
     let pre = c.requires in
     stops_then args.text.now args.p.0 args.q.0 pre.0 pre.1 c.if-n-i.false c.if-text-n-ne-FULL_STOP.false _ c.ended.result
-    (rw c.in-At.is at c.skip.ensures) c.ended.ensures
+    c.in-Some.ensures c.ended.ensures

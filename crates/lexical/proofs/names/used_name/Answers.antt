@@ -2,31 +2,30 @@ use mathlib.Core.Path.{◌≡◌}
 use native.Mathlib.Omega.{arith}
 use lib.ListN.{drop}
 use Rattle.syntax.specs.Lexical.{read-use}
-use Rattle.lexical.specs.Answers.{Named}
 use Rattle.lexical.proofs.Words.{run_on, headable, counted-token}
 use Rattle.lexical.proofs.Uses.{no-use, use-run, use-stop, stop-on}
 use Rattle.lexical.proofs.names.used_name.Goals as goal
 
-pub returns-in_default : goal.returns-in_default
-returns-in_default c =
+pub returns-in_err-q : goal.returns-in_err-q
+returns-in_err-q c =
     let args = c.args in
-    no-use args.text.now args.p.0 (rw c.in_default.is at c.name_run.ensures)
+    rw c.from_residual.ensures (no-use args.text.now args.p.0 c.in_err-q.ensures)
 
 pub stops-requires : goal.stops-requires
 stops-requires c =
     let args = c.args in
-    let v : Named _ _ _ _ _ _ _ = rw c.in-At.is at c.name_run.ensures in
+    let v = c.in_ok-q.ensures in
     (run_on args.text.now args.p.0 v.starts _ _ _ _ _ v.copied, v.copied.onward.within)
 
 pub overflow_sub-m : goal.overflow_sub-m
 overflow_sub-m c =
-    let v : Named _ _ _ _ _ _ _ = rw c.in-At.is at c.name_run.ensures in omega (arith, v.copied.cells)
+    let v = c.in_ok-q.ensures in omega (arith, v.copied.cells)
 
 pub head-requires : goal.head-requires
 head-requires c =
     let args = c.args in
     let pre = c.requires in
-    let v : Named _ _ _ _ _ _ _ = rw c.in-At.is at c.name_run.ensures in
+    let v = c.in_ok-q.ensures in
     let h = headable _ _ _ _ (pre) _ c.name_run.auto.out _ 0 _ _ v.copied (run_on args.text.now args.p.0 v.starts _ _ _ _ _ v.copied) in
     headable _ _ _ _ (pre) _ c.name_run.auto.out (λ x. read-use (drop args.p.0 args.text.now) ≡ x) 0 _ _
     (use-stop args.text.now args.p.0 _ _ _ _ _ v.starts v.copied c.stops.result c.stops.ensures c.if-stops.true h.high c.name_run.auto.out)
@@ -36,19 +35,19 @@ pub overflow_sub-result : goal.overflow_sub-result
 overflow_sub-result c =
     let args = c.args in
     let pre = c.requires in
-    let v : Named _ _ _ _ _ _ _ = rw c.in-At.is at c.name_run.ensures in
+    let v = c.in_ok-q.ensures in
     let h = run_on args.text.now args.p.0 v.starts _ _ _ _ _ v.copied in
     omega (arith, h, v.copied.cells, v.copied.count, pre.cells)
 
 pub overflow_sub-result-then-stops : goal.overflow_sub-result-then-stops
 overflow_sub-result-then-stops c =
-    let v : Named _ _ _ _ _ _ _ = rw c.in-At.is at c.name_run.ensures in omega (arith, v.copied.cells)
+    let v = c.in_ok-q.ensures in omega (arith, v.copied.cells)
 
 pub returns-then-stops : goal.returns-then-stops
 returns-then-stops c =
     let args = c.args in
     let pre = c.requires in
-    let v : Named _ _ _ _ _ _ _ = rw c.in-At.is at c.name_run.ensures in
+    let v = c.in_ok-q.ensures in
     let h = headable _ _ _ _ (pre) _ c.name_run.auto.out _ 0 _ _ v.copied (run_on args.text.now args.p.0 v.starts _ _ _ _ _ v.copied) in
     counted-token _ _ _ _ (pre) _ c.name_run.auto.out (λ x. read-use (drop args.p.0 args.text.now) ≡ x) 0 _ _ _ _
     (use-stop args.text.now args.p.0 _ _ _ _ _ v.starts v.copied c.stops.result c.stops.ensures
@@ -58,14 +57,14 @@ returns-then-stops c =
 pub head-requires-2 : goal.head-requires-2
 head-requires-2 c =
     let pre = c.requires in
-    let v : Named _ _ _ _ _ _ _ = rw c.in-At.is at c.name_run.ensures in
+    let v = c.in_ok-q.ensures in
     headable _ _ _ _ (pre) _ c.name_run.auto.out _ 0 _ _ v.copied (run_on _ _ v.starts _ _ _ _ _ v.copied)
 
 pub returns : goal.returns
 returns c =
     let args = c.args in
     let pre = c.requires in
-    let v : Named _ _ _ _ _ _ _ = rw c.in-At.is at c.name_run.ensures in
+    let v = c.in_ok-q.ensures in
     counted-token _ _ _ _ (pre) _ c.name_run.auto.out (λ x. read-use (drop args.p.0 args.text.now) ≡ x) 0 _ _ _ _
     (use-run args.text.now args.p.0 _ _ _ _ _ v.starts v.copied c.stops.result c.stops.ensures c.if-stops.false)
     (run_on args.text.now args.p.0 v.starts _ _ _ _ _ v.copied) c.head-2.ensures

@@ -27,5 +27,6 @@ digits-requires c =
 
 pub returns : goal.returns
 returns c =
-    let args = c.args in let pre = c.requires in hex-some
-    args.text.now args.p.0 (pre) (tested (rw c.after-first.ensures at c.peek.ensures) digit (sym c.digit.ensures ∙ c.if-not-digit.false)) c.digits.result (rw c.after-first.ensures at c.digits.ensures)
+    let args = c.args in
+    hex-some args.text.now args.p.0 c.requires (tested (rw c.after-first.ensures at c.peek.ensures) digit (sym c.digit.ensures ∙ c.if-not-digit.false))
+    _ _ (rw c.after-first.ensures at c.digits.ensures)

@@ -1,4 +1,3 @@
-use Prim.Native.Nat.{◌-◌}
 use mathlib.Core.Path.{sym, ◌∙◌}
 use native.Mathlib.Omega.{arith}
 use Rattle.lexical.proofs.Copies.{copy_start, copy-on, copy-no, copy-end, copy-room, quoted-by, chars-end, chars-plain, chars-no, chars-last, chars-quote, quote-small, second-in}

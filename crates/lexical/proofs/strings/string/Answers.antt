@@ -16,20 +16,20 @@ copy_quoted-requires c =
       sym c.quote.ensures ∙ c.if-not-quote.false,
     )
 
-pub returns-in_default : goal.returns-in_default
-returns-in_default c =
+pub returns-in_err-u : goal.returns-in_err-u
+returns-in_err-u c =
     let args = c.args in
-    string-bad args.text.now args.p.0 _ c.peek-q.ensures (sym c.quote.ensures ∙ c.if-not-quote.false)
-    (rw (c.after.ensures, c.in_default.is) at c.copy_quoted.ensures)
+    rw c.from_residual.ensures (string-bad args.text.now args.p.0 _ c.peek-q.ensures (sym c.quote.ensures ∙ c.if-not-quote.false)
+    (rw c.after.ensures at c.in_err-u.ensures))
 
 pub returns-then-b-at : goal.returns-then-b-at
 returns-then-b-at c =
     let args = c.args in
     string-empty args.text.now args.p.0 _ c.peek-q.ensures (sym c.quote.ensures ∙ c.if-not-quote.false) _ _ _ _ _
-    (rw (c.after.ensures, c.in-At.is) at c.copy_quoted.ensures) c.if-b-at.true
+    (rw c.after.ensures at c.in_ok-u.ensures) c.if-b-at.true
 
 pub returns : goal.returns
 returns c =
     let args = c.args in
     string-read args.text.now args.p.0 _ c.peek-q.ensures (sym c.quote.ensures ∙ c.if-not-quote.false) _ _ _ _ _
-    (rw (c.after.ensures, c.in-At.is) at c.copy_quoted.ensures) c.if-b-at.false
+    (rw c.after.ensures at c.in_ok-u.ensures) c.if-b-at.false

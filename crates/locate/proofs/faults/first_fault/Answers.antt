@@ -1,4 +1,5 @@
 use Rattle.static_errors.proofs.Top.{some-tokens}
+use Rattle.static_errors.specs.Held.{rule_number}
 use Rattle.locate.proofs.Found as law
 use Rattle.locate.proofs.faults.first_fault.Goals as goal
 
@@ -16,5 +17,5 @@ search-requires c =
 
 pub returns : goal.returns
 returns c =
-    law.fault-at c.args.table.now c.args.end _ c.heads-n.result c.args.rule c.search.result c.heads-n.ensures
+    law.fault-at c.args.table.now c.args.end _ c.heads-n.result (rule_number c.args.rule) c.search.result c.heads-n.ensures
     c.search.ensures

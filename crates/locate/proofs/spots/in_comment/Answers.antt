@@ -1,21 +1,14 @@
-use mathlib.Core.Path.{ap, ◌∙◌}
-use Rattle.locate.specs.declared.spots.State.{State}
-use Rattle.locate.specs.Spots.{meant}
 use Rattle.locate.proofs.Modes.{deeper, same-depth, outside, less-deep}
 use Rattle.locate.proofs.spots.in_comment.Goals as goal
 
 pub returns-then-c-eq-OPEN_BRACE : goal.returns-then-c-eq-OPEN_BRACE
-returns-then-c-eq-OPEN_BRACE c =
-    ap (λ (s : State). meant s) c.standing.ensures ∙ deeper c.args.depth c.args.c c.if-c-eq-OPEN_BRACE.true
+returns-then-c-eq-OPEN_BRACE c = deeper c.args.depth c.args.c c.if-c-eq-OPEN_BRACE.true
 
 pub returns-then-c-ne-CLOSE_BRACE : goal.returns-then-c-ne-CLOSE_BRACE
-returns-then-c-ne-CLOSE_BRACE c =
-    ap (λ (s : State). meant s) c.standing-then-c-ne-CLOSE_BRACE.ensures ∙ same-depth c.args.depth c.args.c c.if-c-eq-OPEN_BRACE.false c.if-c-ne-CLOSE_BRACE.true
+returns-then-c-ne-CLOSE_BRACE c = same-depth c.args.depth c.args.c c.if-c-eq-OPEN_BRACE.false c.if-c-ne-CLOSE_BRACE.true
 
 pub returns-then-depth-eq0 : goal.returns-then-depth-eq0
-returns-then-depth-eq0 c =
-    ap (λ (s : State). meant s) c.standing-then-depth-eq0.ensures ∙ outside c.args.depth c.args.c c.if-c-eq-OPEN_BRACE.false c.if-c-ne-CLOSE_BRACE.false c.if-depth-eq0.true
+returns-then-depth-eq0 c = outside c.args.depth c.args.c c.if-c-eq-OPEN_BRACE.false c.if-c-ne-CLOSE_BRACE.false c.if-depth-eq0.true
 
 pub returns : goal.returns
-returns c =
-    ap (λ (s : State). meant s) c.standing-2.ensures ∙ less-deep c.args.depth c.args.c c.if-c-eq-OPEN_BRACE.false c.if-c-ne-CLOSE_BRACE.false c.if-depth-eq0.false
+returns c = less-deep c.args.depth c.args.c c.if-c-eq-OPEN_BRACE.false c.if-c-ne-CLOSE_BRACE.false c.if-depth-eq0.false

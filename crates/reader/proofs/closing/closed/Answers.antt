@@ -5,22 +5,22 @@ use Rattle.spacing.proofs.Places.{tested, in-text}
 use Rattle.reader.specs.Answers.{one_of}
 use Rattle.reader.proofs.closing.closed.Goals as goal
 
-pub returns-in_default : goal.returns-in_default
-returns-in_default c =
+pub returns-in_err-w : goal.returns-in_err-w
+returns-in_err-w c =
     let args = c.args in
-    closed-unspaced (one_of args.first args.second) args.text.now args.word _ c.in_default.is c.spaced.ensures
+    rw c.from_residual.ensures (closed-unspaced (one_of args.first args.second) args.text.now args.word c.in_err-w.ensures)
 
 pub returns-then-not-one_of : goal.returns-then-not-one_of
 returns-then-not-one_of c =
     let args = c.args in
-    closed-no (one_of args.first args.second) args.text.now args.word _ _ _ c.in-At.is c.spaced.ensures
+    closed-no (one_of args.first args.second) args.text.now _ _ args.word c.in_ok-w.ensures
     (tested c.peek.ensures (one_of args.first args.second) (sym c.one_of.ensures ∙ c.if-not-one_of.true))
 
 pub after-requires : goal.after-requires
 after-requires c =
     let args = c.args in
     let pre = c.requires in
-    let h = in-text args.text.now c.in-At.w.0 (one_of args.first args.second) (one-of-end _ _ pre.1.0 pre.1.1)
+    let h = in-text args.text.now c.in_ok-w.w.0 (one_of args.first args.second) (one-of-end _ _ pre.1.0 pre.1.1)
     (tested c.peek.ensures (one_of args.first args.second) (sym c.one_of.ensures ∙ c.if-not-one_of.false)) in
     omega (arith, h, c.well_formed.0)
 
@@ -28,20 +28,20 @@ pub skip-requires : goal.skip-requires
 skip-requires c =
     let args = c.args in
     let pre = c.requires in
-    let h = in-text args.text.now c.in-At.w.0 (one_of args.first args.second) (one-of-end _ _ pre.1.0 pre.1.1)
+    let h = in-text args.text.now c.in_ok-w.w.0 (one_of args.first args.second) (one-of-end _ _ pre.1.0 pre.1.1)
     (tested c.peek.ensures (one_of args.first args.second) (sym c.one_of.ensures ∙ c.if-not-one_of.false)) in
     omega (arith, h, c.after.ensures)
 
-pub returns-in_default-skip : goal.returns-in_default-skip
-returns-in_default-skip c =
+pub returns-in_err-y : goal.returns-in_err-y
+returns-in_err-y c =
     let args = c.args in
-    closed-bad (one_of args.first args.second) args.text.now args.word _ _ _ c.in-At.is c.spaced.ensures
+    rw c.from_residual-in_err-y.ensures (closed-bad (one_of args.first args.second) args.text.now _ _ args.word c.in_ok-w.ensures
     (tested c.peek.ensures (one_of args.first args.second) (sym c.one_of.ensures ∙ c.if-not-one_of.false))
-    (rw (c.after.ensures, c.in_default-skip.is) at c.skip.ensures)
+    (rw c.after.ensures at c.in_err-y.ensures))
 
 pub returns : goal.returns
 returns c =
     let args = c.args in
-    closed-got (one_of args.first args.second) args.text.now args.word _ _ _ c.in-At.is c.spaced.ensures
+    closed-got (one_of args.first args.second) args.text.now _ _ args.word c.in_ok-w.ensures
     (tested c.peek.ensures (one_of args.first args.second) (sym c.one_of.ensures ∙ c.if-not-one_of.false)) _
-    (rw (c.after.ensures, c.in-At-skip.is) at c.skip.ensures)
+    (rw c.after.ensures at c.in_ok-y.ensures)

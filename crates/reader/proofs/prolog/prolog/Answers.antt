@@ -16,14 +16,12 @@ pub version-requires : goal.version-requires
 version-requires c =
     let args = c.args in
     let pre = c.requires in
-    let a : Passed (λ x. parser.heading (drop args.p.0 args.text.now) ≡ x) args.text.now args.p.0 c.in-At.u.0 = rw
-    c.in-At.is at c.heading.ensures in
-    room-on args.text.now args.p.0 c.in-At.u.0 args.out.now args.at.0 (pre) a.onward
+    let a : Passed (λ x. parser.heading (drop args.p.0 args.text.now) ≡ x) args.text.now args.p.0 c.in-Some.u.0 = c.in-Some.ensures in
+    room-on args.text.now args.p.0 c.in-Some.u.0 args.out.now args.at.0 (pre) a.onward
 
 pub returns : goal.returns
 returns c =
     let args = c.args in
-    let a : Passed (λ x. parser.heading (drop args.p.0 args.text.now) ≡ x) args.text.now args.p.0 c.in-At.u.0 = rw
-    c.in-At.is at c.heading.ensures in
-    prolog-some args.text.now args.p.0 c.in-At.u.0 a args.out.now args.at.0 c.version.result c.version.new.out
+    let a : Passed (λ x. parser.heading (drop args.p.0 args.text.now) ≡ x) args.text.now args.p.0 c.in-Some.u.0 = c.in-Some.ensures in
+    prolog-some args.text.now args.p.0 c.in-Some.u.0 a args.out.now args.at.0 c.version.result c.version.new.out
     c.version.ensures

@@ -1,6 +1,6 @@
 use borrow.Author.Tests.{lt-ltb, le-ltb}
 use Rattle.tokens.specs.Lengths.{form_of}
-use Rattle.tokens.proofs.form.Goals as goal
+use Rattle.tokens.proofs.Form.of.Goals as goal
 
 pub returns-then-kind-lt-QUOTED : goal.returns-then-kind-lt-QUOTED
 unfolding form_of
@@ -33,4 +33,4 @@ returns c =
       le-ltb _ _
           c.if-kind-lt-RULE_HEAD.false,
       le-ltb _ _ c.if-kind-lt-MEMBER_QUOTED.false,
-    ) c.late_form.ensures
+    ) c.of_late.ensures
