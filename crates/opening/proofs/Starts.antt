@@ -8,7 +8,6 @@ use native.Mathlib.Omega.{arith}
 use lib.Dec.{ltb, eqb}
 use Rattle.std.specs.Prelude.{Ok, Err}
 use Rattle.text.specs.Limits.{grammar_table}
-use Rattle.text.specs.Stages.{diagnostic_of}
 use Rattle.text.specs.Utf8.{known}
 use Rattle.text.specs.Decode.{break_of}
 use Rattle.text.specs.Faults.{every, after_mark}
@@ -21,9 +20,7 @@ use Rattle.answer.proofs.Noted.{value-skip}
 use Rattle.answer.proofs.Stages.{stage-15}
 use Rattle.load.specs.Loaded.{Turned}
 use Rattle.accept.specs.declared.Rules.{Rules}
-use Rattle.accept.specs.declared.Accepted.{Accepted}
-use Rattle.accept.specs.declared.Accepted.TheVariants.{Grammar as A-grammar, Refused as Turned-down}
-use Rattle.accept.specs.Accepted.{stage_of, Kept, Accepts}
+use Rattle.accept.specs.Accepted.{Kept, Accepts}
 use Rattle.opening.specs.declared.Start.{Start}
 use Rattle.opening.specs.Stages.{Takes, Opened, lending, need_of, Small, NotBegun, Opens, BeginsBy}
 
@@ -50,17 +47,14 @@ module _ (j : Job) (T new : List ℕ) where
       λ ι. record { byte = e ι; fault = sym f ι; grammar = value_at (place_values j.grammar) n }
 
   -- 1 to 11, and 24
-  pub ends-grammar : (need : Need) (d : Accepted) (k n : Diagnostic) → d ≡ Turned-down k → n ≡ diagnostic_of (stage_of d) → Accepts j.grammar T d → NotBegun need j n
-  ends-grammar need d k n q e l =
-      let w : n ≡ k = e ∙ ap (λ (x : Accepted). diagnostic_of (stage_of x)) q in
-      let t : Turned j.grammar k = subst (Accepts j.grammar T) q l in
-      rw w (record {
-        some = t.some;
-        early = ⊎_elim (λ l. inl (omega arith)) inr t.early;
-        is = λ ts. t.first (need_tests need j ts);
-        places = t.places ∙ same-places k.number (λ e. ⊎_elim (λ l. omega arith) (λ l. omega arith) t.early) (λ e. ⊎_elim (λ l. omega arith) (λ l. omega arith) t.early)
-            (λ e. ⊎_elim (λ l. omega arith) (λ l. omega arith) t.early);
-      })
+  pub ends-grammar : (need : Need) (k : Diagnostic) → Turned j.grammar k → NotBegun need j k
+  ends-grammar need k t = record {
+    some = t.some;
+    early = ⊎_elim (λ l. inl (omega arith)) inr t.early;
+    is = λ ts. t.first (need_tests need j ts);
+    places = t.places ∙ same-places k.number (λ e. ⊎_elim (λ l. omega arith) (λ l. omega arith) t.early) (λ e. ⊎_elim (λ l. omega arith) (λ l. omega arith) t.early)
+        (λ e. ⊎_elim (λ l. omega arith) (λ l. omega arith) t.early);
+  }
 
   -- 12 to 14
   pub ends-record : (need : Need) (p : Rules) → Kept j.grammar T p → (k : Diagnostic) → Takes j.input new (Err k) → NotBegun need j k
@@ -69,19 +63,16 @@ module _ (j : Job) (T new : List ℕ) where
       record { some = s.some; early = s.early; is = λ ts. kept.first (need_tests need j ts) ∙ s.is ts; places = s.places }
 
 module _ (gs rs T new : List ℕ) where
-  pub opens-grammar : (d : Accepted) (k n : Diagnostic) → d ≡ Turned-down k → n ≡ diagnostic_of (stage_of d) → Accepts gs T d → Opens gs rs T new (Err n)
-  opens-grammar d k n q e l = λ need j eg er. ends-grammar j T new need d k n q e (subst (λ (bs : List ℕ). Accepts bs T d) (sym eg) l)
+  pub opens-grammar : (k : Diagnostic) → Turned gs k → Opens gs rs T new (Err k)
+  opens-grammar k t = λ need j eg er. ends-grammar j T new need k (subst (λ (bs : List ℕ). Turned bs k) (sym eg) t)
 
-  module _ (d : Accepted) (p : Rules) (q : d ≡ A-grammar p) (l : Accepts gs T d) where
-    kept-by : Kept gs T p
-    kept-by = subst (Accepts gs T) q l
-
+  module _ (p : Rules) (kept : Kept gs T p) where
     pub opens-record : (k : Diagnostic) → Takes rs new (Err k) → Opens gs rs T new (Err k)
     opens-record k t = λ need j eg er.
-        ends-record j T new need p (subst (λ (bs : List ℕ). Kept bs T p) (sym eg) kept-by) k (subst (λ (bs : List ℕ). Takes bs new (Err k)) (sym er) t)
+        ends-record j T new need p (subst (λ (bs : List ℕ). Kept bs T p) (sym eg) kept) k (subst (λ (bs : List ℕ). Takes bs new (Err k)) (sym er) t)
 
     pub opens_at : (n : CharPlace) → Takes rs new (Ok n) → Opens gs rs T new (Ok (record { rules = p; chars = n }))
-    opens_at n t = record { grammar = kept-by; input = t }
+    opens_at n t = record { grammar = kept; input = t }
 
 -- sizes that the need is computed from
 pub small : {gs rs T new : List ℕ} (s : Start) → Opened gs rs T new s → Small s

@@ -1,6 +1,6 @@
 -- The characters of a record: what the decoder's answer says of the tests.
 use mathlib.Core.Bool.{Bool}
-use mathlib.Core.Path.{◌≡◌, refl, sym, ap, ◌∙◌}
+use mathlib.Core.Path.{◌≡◌, refl, sym, ap, ◌∙◌, subst}
 use mathlib.Core.Logic.{inl}
 use mathlib.Core.List.{List, [], ◌∷◌, ◌++◌}
 use Prim.Native.Nat.{ℕ, ◌≤◌, ◌<◌}
@@ -8,18 +8,14 @@ use native.Mathlib.Omega.{arith}
 use lib.ListN.{length, take, drop, length-take}
 use lib.Seq.{take_all, take_at}
 use Rattle.text.specs.Limits.{record_chars}
-use denote.Enum.Declared.{tag_of}
-use types.Run.{OneOf}
 use Rattle.text.specs.Lists.{Text}
 use Rattle.text.specs.Decode.{decode, break_of}
 use Rattle.answer.proofs.Stages.{stage-12, stage-13, stage-14}
-use Rattle.decode.specs.declared.Decoding.{Decoding}
-use Rattle.decode.specs.declared.Decoding.TheVariants.{Of}
+use Rattle.decode.specs.declared.DecodeError.{DecodeError}
 use Rattle.text.specs.declared.CharPlace.{CharPlace}
-use Rattle.decode.specs.contracts.Decoding.{the_type}
 use Rattle.decode.specs.Refused.{why_of}
 use Rattle.decode.proofs.Refusals.{some-refusal}
-use Rattle.decode.specs.Scan.{over}
+use Rattle.decode.specs.Scan.{Decoding, over}
 use Rattle.decode.specs.Whole.{Ends as Stops, cut_short, malformed, unknown, Decodes}
 use Rattle.text.specs.Faults.{every, Breaks}
 use Rattle.text.specs.Utf8.{known as alphabet}
@@ -34,8 +30,8 @@ use Rattle.std.specs.Prelude.{Ok, Err}
 use Rattle.opening.specs.Stages.{Got, Takes}
 
 module _ (bs old new : List ℕ) (r : Decoding) (w : Decodes bs 0 old r new) where
-  pub not_taken : OneOf (1 ∷ 2 ∷ 3 ∷ []) (tag_of the_type r) → (n : Diagnostic) → n ≡ why_of 12 13 r → Takes bs new (Err n)
-  not_taken h n e = rw e (go w.answer (told bs 0 w).tells (some-refusal 11 12 r h))
+  pub not_taken : (e : DecodeError) → r ≡ Err e → Takes bs new (Err (why_of 12 13 e))
+  not_taken e q = go (subst (Stops bs 0) q w.answer) (subst (Tells (decode bs)) q (told bs 0 w).tells) (some-refusal 11 12 e)
     where
       at : (f : ℕ → Bool) (n : ℕ) (p : BytePlace) → Breaks f bs 0 p.0 → (j : Job) → j.input ≡ bs
           → places_of (at_byte n p).places ≡ record { byte = break_of f j.input 0; fault = 0; grammar = 0 }
@@ -43,8 +39,7 @@ module _ (bs old new : List ℕ) (r : Decoding) (w : Decodes bs 0 old r new) whe
           let e : break_of f j.input 0 ≡ p.0 = ap (λ (x : List ℕ). break_of f x 0) q ∙ break-of f bs 0 p.0 b in
           λ ι. record { byte = sym e ι; fault = 0; grammar = 0 }
 
-      go : {d : Decoding} → Stops bs 0 d → Tells (decode bs) d → ((why_of 12 13 d).number ≡ 0 → ⊥) → Takes bs new (Err (why_of 12 13 d))
-      go a (tells-of x) z = absurd (z refl)
+      go : {e : DecodeError} → Stops bs 0 (Err e) → Tells (decode bs) (Err e) → ((why_of 12 13 e).number ≡ 0 → ⊥) → Takes bs new (Err (why_of 12 13 e))
       go (cut_short {p = p} b c) (tells-cut x) z =
           λ need j q. record { some = z; early = inl (omega arith); is = λ ts. stage-12 need j ts (ap decode q ∙ x); places = at every 12 p b j q }
       go (malformed {p = p} b c) (tells-malformed x) z =
@@ -57,11 +52,11 @@ module _ (bs old new : List ℕ) (r : Decoding) (w : Decodes bs 0 old r new) whe
             places = at alphabet 13 p b j q;
           }
 
-  module _ (k : CharPlace) (e : r ≡ Of k) where
+  module _ (k : CharPlace) (e : r ≡ Ok k) where
     known : Known (decode bs) k.0
     known = go (told bs 0 w).tells e
       where
-        go : {d : Decoding} → Tells (decode bs) d → d ≡ Of k → Known (decode bs) k.0
+        go : {d : Decoding} → Tells (decode bs) d → d ≡ Ok k → Known (decode bs) k.0
         go (tells-of {k = n} x) q = let p : k ≡ n = cc in record { chars = x.chars; is = x.is; within = x.within; count = ap (λ (z : CharPlace). z.0) p ∙ x.count }
         go (tells-cut x) q = absurd (let z : ◌≡◌ {A = ℕ} 0 1 = cc in omega arith)
         go (tells-malformed x) q = absurd (let z : ◌≡◌ {A = ℕ} 0 1 = cc in omega arith)

@@ -7,8 +7,7 @@ ghost use Rattle.text.specs.Limits.{grammar_table, record_chars};
 ghost use Rattle.answer.specs.Answer.{job};
 ghost use Rattle.opening.specs.Stages.{Takes, Opens, Small, need_of, lending, Begins, BeginsBy};
 
-use accept::{Accepted, Rules};
-use decode::Decoding;
+use accept::Rules;
 use text::{CharPlace, Diagnostic, limits, refusals};
 
 // Judging a list notes two numbers of each entry.
@@ -19,14 +18,8 @@ fn take_record(record: &[u8], text: &mut [u32]) -> Result<CharPlace, Diagnostic>
     requires { length text.old ≡ record_chars }
     ensures { Takes «record».now text.new result }
 {
-    let decoded = decode::decode_text(record, text);
-    let Decoding::Of(end) = decoded else {
-        return Err(decode::why_refused(
-            decoded,
-            refusals::RECORD_NOT_UTF8,
-            refusals::RECORD_CHARACTER,
-        ));
-    };
+    let end = decode::decode_text(record, text)
+        .map_err(|e| e.diagnostic(refusals::RECORD_NOT_UTF8, refusals::RECORD_CHARACTER))?;
     if limits::RECORD_CHARACTERS < end.0 {
         return Err(text::plain(refusals::RECORD_TOO_LONG));
     }
@@ -50,10 +43,7 @@ pub fn open_job(
     requires { (length table.old ≡ grammar_table) × (length text.old ≡ record_chars) }
     ensures { Opens grammar.now «record».now table.new text.new result }
 {
-    let accepted = accept::accept_grammar(grammar, table);
-    let Accepted::Grammar(rules) = accepted else {
-        return Err(accept::why_not_accepted(accepted));
-    };
+    let rules = accept::accept_grammar(grammar, table)?;
     let chars = take_record(record, text)?;
     Ok(Start { rules, chars })
 }

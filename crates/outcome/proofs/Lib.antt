@@ -1,4 +1,3 @@
 pub mod Outcomes
-pub mod Given
 pub mod Documents
 pub mod Lists

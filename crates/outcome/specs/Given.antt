@@ -10,8 +10,7 @@ use Rattle.tidy_writer.specs.Walk.{SomeLeft}
 use Rattle.tidy_text.specs.declared.TidyError.{TidyError}
 use Rattle.tidy_text.specs.Whole as tidy
 use Rattle.accept.specs.declared.Rules.{Rules}
-use Rattle.accept.specs.declared.Accepted.{Accepted}
-use Rattle.accept.specs.declared.Accepted.TheVariants.{Grammar as A-grammar, Refused as Not-accepted}
+use Rattle.accept.specs.Accepted.{Accepted}
 use Rattle.derive.specs.Derive.{Row}
 use Rattle.job.specs.declared.LeftParse.{LeftParse}
 use Rattle.exported.specs.declared.Refusal.{Refusal}
@@ -65,8 +64,8 @@ GivesXml (Err k) T R P old new a = (a ≡ refusal_of k) × (new ≡ old)
 
 -- 3. Tidy text: the tokens stand in `T`.
 abbrev pub Tokened : Accepted → List ℕ → Type 0
-Tokened (A-grammar p) T = SomeLeft T p.end 0
-Tokened (Not-accepted d) T = Unit
+Tokened (Ok p) T = SomeLeft T p.end 0
+Tokened (Err d) T = Unit
 
 abbrev pub tidied_of : Result ℕ TidyError → Bool → Answer
 tidied_of (Ok n) m = done n false m
@@ -79,5 +78,5 @@ pub record Tidying (p : Rules) (T old new : List ℕ) (a : Answer) : Type 0 wher
   pub answer : a ≡ tidied_of tidied p.mismatch
 
 abbrev pub GivesTidy : Accepted → List ℕ → List ℕ → List ℕ → Answer → Type 0
-GivesTidy (A-grammar p) T old new a = Tidying p T old new a
-GivesTidy (Not-accepted d) T old new a = (a ≡ refusal_of (record { why = d; mismatch = false })) × (new ≡ old)
+GivesTidy (Ok p) T old new a = Tidying p T old new a
+GivesTidy (Err d) T old new a = (a ≡ refusal_of (record { why = d; mismatch = false })) × (new ≡ old)

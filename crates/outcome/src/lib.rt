@@ -6,12 +6,12 @@ ghost use Rattle.outcome.specs.Outcome.{answer_of};
 ghost use Rattle.outcome.specs.Given.{Counted, GivesNumbers, Named, GivesXml, Tokened, tidied_of, GivesTidy};
 ghost use Rattle.outcome.specs.Judging.{Judgeable, Concluded};
 
-use accept::{Accepted, Rules};
+use accept::Rules;
 use convert::ConvertError;
 use exported::{Answer, Refusal, answered, refuse};
 use job::LeftParse;
 use markup::StateWords;
-use text::refusals;
+use text::{Diagnostic, refusals};
 use tidy_text::TidyError;
 
 // The answer to XML that is written, or refused.
@@ -102,10 +102,7 @@ pub fn conclude_list(
         let converted = convert::conclude(table, rules.root, list, record, due, scratch, res);
         return answer_to(converted, false, rules.mismatch);
     }
-    refuse(Refusal {
-        why: text::plain(NOT_A_DERIVATION),
-        mismatch: false,
-    })
+    refuse(Refusal::from(text::plain(NOT_A_DERIVATION)))
 }
 
 // The answer to tidy text that is written, or refused.
@@ -119,15 +116,13 @@ fn answer_to_tidied(tidied: Result<usize, TidyError>, mismatch: bool) -> Answer
 }
 
 // The tidy text of an accepted grammar, or the refusal.
-pub fn give_tidy(accepted: Accepted, table: &[u32], res: &mut [u8]) -> Answer
+pub fn give_tidy(accepted: Result<Rules, Diagnostic>, table: &[u32], res: &mut [u8]) -> Answer
     requires { Tokened accepted table.now }
     ensures { GivesTidy accepted table.now res.old res.new result }
 {
-    let Accepted::Grammar(rules) = accepted else {
-        return refuse(Refusal {
-            why: accept::why_not_accepted(accepted),
-            mismatch: false,
-        });
+    let rules = match accepted {
+        Ok(rules) => rules,
+        Err(why) => return refuse(Refusal::from(why)),
     };
     let tidied = tidy_text::tidy(table, rules.end, res);
     answer_to_tidied(tidied, rules.mismatch)

@@ -15,7 +15,7 @@ returns-then-judge_list c =
 
 pub returns : goal.returns
 returns c =
-    declined-list c.requires c.judge_list.ensures c.if-judge_list.false (c.refuse.ensures ∙ ap (λ (d : Diagnostic). refusal_of (record {
+    declined-list c.requires c.judge_list.ensures c.if-judge_list.false (c.refuse.ensures ∙ ap refusal_of (c.from.ensures ∙ ap (λ (d : Diagnostic). record {
       why = d;
       mismatch = mathlib.Core.Bool.false;
-    })) c.plain.ensures)
+    }) c.plain.ensures))
