@@ -19,7 +19,7 @@ use Rattle.answer.specs.Answer.{Topmost, Job, Answer, Converts, grammar_lines, r
 use Rattle.answer.specs.Compute.{convert_of}
 use Rattle.answer.specs.Program.{File, unreadable, bytes, shows, program_job, Writes, no-grammar, no_record, long-record, job}
 use Rattle.answer.proofs.Settled.{convert-settled, convert-answers}
-use Rattle.std.specs.Prelude.{IfSome, Option, None, Some}
+use Rattle.std.specs.Prelude.{IfSome, Option, None, Some, option_map}
 use Rattle.std.specs.Io.KnownBytes.{Appends}
 use Rattle.cli.specs.Output.{Behind, fails, has_bytes, unknown, Answered, Seen, shut, begins, Written, no_file, long_file, asked_bytes, job_outcome, job_text, Shows, Holds, Replies}
 
@@ -109,10 +109,11 @@ pub record Stands (known xs : Option (List ℕ)) : Type 0 where
   pub behind : Behind known file
   pub seen : Seen file xs
 
-pub stands : (known xs : Option (List ℕ)) → IfSome xs (λ x. length x ≤ asked_bytes) → IfSome known (λ bs. IfSome xs (λ x. x ≡ take asked_bytes bs)) → Stands known xs
-stands known None h e = record { file = unreadable; behind = fails; seen = shut }
-stands None (Some xs) h e = record { file = bytes xs; behind = unknown; seen = some-file xs h }
-stands (Some bs) (Some xs) h e = record { file = bytes bs; behind = has_bytes; seen = begins e }
+pub stands : (known : Option (List ℕ)) (count : Option ℕ) (buf : List ℕ) → length buf ≤ asked_bytes
+    → IfSome known (λ bs. IfSome count (λ n. take n buf ≡ take asked_bytes bs)) → Stands known (option_map (λ n. take n buf) count)
+stands known None buf h e = record { file = unreadable; behind = fails; seen = shut }
+stands None (Some n) buf h e = record { file = bytes (take n buf); behind = unknown; seen = some-file (take n buf) (let l = length-take n buf in omega arith) }
+stands (Some bs) (Some n) buf h e = record { file = bytes bs; behind = has_bytes; seen = begins e }
 
 -- what is replied is written for the files behind the readers
 pub answered : {first second old new g r : Option (List ℕ)} {out : List ℕ} {n : ℕ}

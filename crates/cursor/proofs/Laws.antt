@@ -1,17 +1,12 @@
 -- Laws of nodes before all that is ahead, and of what rows come to.
-use mathlib.Core.Path.{◌≡◌, refl, sym, ap, ◌∙◌}
+use mathlib.Core.Path.{◌≡◌, refl, ap}
 use mathlib.Core.List.{List, [], ◌∷◌, ◌++◌}
-use Prim.Native.Nat.{ℕ, zero, suc, ◌+◌, ◌≤◌, ◌<◌}
+use Prim.Native.Nat.{ℕ, zero, suc, ◌≤◌, ◌<◌}
 use native.Mathlib.Omega.{arith}
 use Rattle.text.specs.Lists.{Text}
 use Rattle.tree.specs.Tree.{Symbol, terminal, Terminal, Grammar}
 use Rattle.derive.specs.Derive.{Row, end, leaf, node, alternative}
-use Rattle.items.specs.Items.{mark_kind, kind_at}
-use Rattle.cursor.specs.Events.{Closes, KindIn}
-use mathlib.Core.Bool.{true, false}
-use mathlib.Core.Logic.{inl, inr, ⊎_elim}
-use lib.Dec.{eqb}
-use borrow.Author.Tests.{eqb-true, eqb-false}
+use Rattle.items.specs.Items.{mark_kind}
 use Rattle.xml.specs.Document.{Xml, none, char, attr, elem, join, text, value, mark_of, stretch, terminal_text}
 use Rattle.left_parse.proofs.Marks.{nodes-deleted}
 use Rattle.cursor.specs.Rest.{Rest, row, within, before}
@@ -85,30 +80,3 @@ module _ {k n : ℕ} (e : k ≡ n) where
 
   pub not-two : k ≡ 3 → n ≡ 2 → ⊥
   not-two a b = omega arith
-
--- the kind of an item in no value, and in one
-module _ {T : List ℕ} {item k : ℕ} (e : k ≡ kind_at T item) where
-  pub kind-free : {v : ℕ} → v ≡ 0 → KindIn T item v k
-  kind-free z = record { text = λ q. omega arith; node = λ q. (z, sym e); into = λ q. (omega arith, omega arith, λ y. omega arith); ends = λ a b c d n. omega arith }
-
-  pub kind-deleted : {v : ℕ} → (v ≡ 0 → ⊥) → 2 ≤ k → k ≤ 3 → KindIn T item v 4
-  kind-deleted z a b = record {
-    text = λ q. absurd (omega arith);
-    node = λ q. absurd (⊎_elim (λ (y : 4 ≡ 2). omega arith) (λ (y : 4 ≡ 3). omega arith) q);
-    into = λ q. (omega arith, omega arith, λ y. absurd (z y));
-    ends = λ a b c d n. absurd (d refl);
-  }
-
-  pub kind-other : {v : ℕ} → (v ≡ 0 → ⊥) → (k ≡ 2 → ⊥) → (k ≡ 3 → ⊥) → KindIn T item v k
-  kind-other z a b = record { text = λ q. omega arith; node = λ q. absurd (⊎_elim a b q); into = λ q. (omega arith, omega arith, λ y. absurd (z y)); ends = λ a b c d n. omega arith }
-
--- whether an end is written
-module _ {T : List ℕ} {item v i : ℕ} where
-  pub closes-value : v ≡ i → Closes T item v i true
-  closes-value e = record { yes = λ q. inl e; no = λ q. absurd (let z : ◌≡◌ {A = ℕ} 0 1 = cc in omega arith) }
-
-  pub closes-nothing : (v ≡ i → ⊥) → 0 < v → Closes T item v i false
-  closes-nothing a b = record { yes = λ q. absurd (let z : ◌≡◌ {A = ℕ} 0 1 = cc in omega arith); no = λ q. (a, λ z. absurd (omega arith)) }
-
-  pub closes-element : (v ≡ i → ⊥) → v ≤ 0 → {k : ℕ} → k ≡ kind_at T item → Closes T item v i (eqb k 2)
-  closes-element a b {k} e = record { yes = λ q. inr (none_above b, sym e ∙ eqb-true k 2 q); no = λ q. (a, λ z y. eqb-false k 2 q (e ∙ y)) }

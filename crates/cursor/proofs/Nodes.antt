@@ -1,6 +1,6 @@
 -- Into a node, over it, and before what stands in it as a walk of its own; and where a walk begins.
 use mathlib.Core.Path.{◌≡◌, refl, sym, ap, ◌∙◌}
-use mathlib.Core.Logic.{◌⊎◌, ⊎_elim}
+use mathlib.Core.Logic.{⊎_elim}
 use mathlib.Core.List.{List, [], ◌∷◌}
 use Prim.Native.Nat.{ℕ, ◌+◌, ◌*◌, ◌≤◌, ◌<◌}
 use native.Mathlib.Omega.{arith}
@@ -21,7 +21,7 @@ use Rattle.left_parse.proofs.Walks.{frame, seen, node-list}
 use Rattle.left_parse.proofs.After.{small_of, after-enter, after-jump, walk_inside}
 use Rattle.cursor.specs.Rest.{Rest, row, within, before}
 use Rattle.cursor.specs.Ahead.{spread, Outer, b-none, b-element, b-attribute, Ahead, AtNode}
-use Rattle.cursor.specs.Events.{weight, Entered, Inside}
+use Rattle.cursor.specs.Events.{weight}
 use Rattle.cursor.specs.declared.Cursor.{Cursor}
 use Rattle.cursor.proofs.Laws.{join-none}
 use Rattle.cursor.proofs.Weights.{enters-at, enter-falls, jump-falls}

@@ -10,7 +10,7 @@ use Rattle.text.specs.Lists.{Text}
 use Rattle.tree.specs.Tree.{Symbol, Terminal}
 use Rattle.tree.specs.Tokens.{terminal_tokens}
 use Rattle.plain.specs.Plain.{fits, width}
-use Rattle.derive.specs.Derive.{Row, node, left_parse, alternative}
+use Rattle.derive.specs.Derive.{Row, alternative}
 use Rattle.items.specs.Items.{kind_at, token_at, Reads}
 use Rattle.xml.specs.Document.{Xml, none, attr, elem, join, text, nodes, name_of, value, stretch, terminal_text}
 use Rattle.left_parse.specs.declared.Position.{Position}
@@ -24,7 +24,7 @@ use Rattle.left_parse.proofs.After.{small_of, after-leaf, after-enter, after_lea
 use Rattle.left_parse.proofs.Marks.{node-mark, node-named, nodes-element, nodes-attribute}
 use Rattle.cursor.specs.Rest.{Rest, row, within, before}
 use Rattle.cursor.specs.Ahead.{spread, following, Outer, b-none, b-deleted, b-element, b-attribute, b-inside, Ahead, AtNode}
-use Rattle.cursor.specs.Events.{weight, MetElement, MetAttribute, MetClose, MetEnd, Entered}
+use Rattle.cursor.specs.Events.{weight, MetElement, MetAttribute, MetClose, MetEnd}
 use Rattle.cursor.specs.declared.Cursor.{Cursor}
 use Rattle.cursor.proofs.Laws.{before-join, before-none, spread-leaf, spread-node, spread_end}
 use Rattle.cursor.proofs.Weights.{enters-at, leaves_at, on-falls, enter-falls, leave-falls}

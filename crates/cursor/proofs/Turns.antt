@@ -8,7 +8,7 @@ use lib.ListN.{get_or}
 use Rattle.text.specs.Lists.{Text}
 use Rattle.plain.specs.Plain.{width}
 use Rattle.items.specs.Items.{kind_at, token_at}
-use Rattle.xml.specs.Document.{none, text, stretch, terminal_text}
+use Rattle.xml.specs.Document.{text, stretch, terminal_text}
 use Rattle.left_parse.specs.declared.Position.{Position}
 use Rattle.left_parse.specs.Steps.{Skipped, jumped}
 use Rattle.left_parse.specs.Steps as ends

@@ -1,7 +1,7 @@
 // A cursor over the chosen derivation: what a left parse writes, one event at a time, with no recursion.
 #![tactic(auto)]
 
-ghost use Rattle.std.specs.Prelude.{◌≡◌, List, ℕ, ◌<◌, ◌≤◌};
+ghost use Rattle.std.specs.Prelude.{◌≡◌};
 ghost use Rattle.text.specs.Lists.{Text};
 ghost use Rattle.items.specs.Items.{token_at};
 ghost use Rattle.markup.specs.Pieces.{Pieced};
@@ -45,13 +45,7 @@ pub enum Event {
 fn closes(table: &[u32], item: usize, value: usize, inner: usize) -> bool
     ensures { Closes table.now item value inner result }
 {
-    if value == inner {
-        return true;
-    }
-    if value > 0 {
-        return false;
-    }
-    items::kind_at(table, item) == ELEMENT
+    value == inner || value == 0 && items::kind_at(table, item) == ELEMENT
 }
 
 // The kind of an item; in a value all nodes are as deleted ones.
@@ -59,13 +53,7 @@ fn kind_in(table: &[u32], item: usize, value: usize) -> usize
     ensures { KindIn table.now item value result }
 {
     let k = items::kind_at(table, item);
-    if value == 0 {
-        return k;
-    }
-    if k == ELEMENT {
-        return DELETED;
-    }
-    if k == ATTRIBUTE {
+    if value != 0 && (k == ELEMENT || k == ATTRIBUTE) {
         return DELETED;
     }
     k
@@ -88,9 +76,7 @@ fn pass(table: &[u32], parse: &[u32], scratch: &mut [u64], from: Cursor) -> Curs
             }
             let n = left_parse::skip(table, h);
             c = Cursor { at: n, value };
-        } else if k == ELEMENT {
-            return c;
-        } else if k == ATTRIBUTE {
+        } else if k == ELEMENT || k == ATTRIBUTE {
             return c;
         } else if k == DELETED {
             let n = left_parse::enter(table, parse, scratch, h);
@@ -116,13 +102,8 @@ fn settle(table: &[u32], parse: &[u32], scratch: &mut [u64], c: Cursor) -> Curso
     let h = c.at;
     let k = items::kind_at(table, h.item);
     if k < ALTERNATIVE_END {
-        if c.value == 0 {
-            if k == ELEMENT {
-                return c;
-            }
-            if k == ATTRIBUTE {
-                return c;
-            }
+        if c.value == 0 && (k == ELEMENT || k == ATTRIBUTE) {
+            return c;
         }
         return pass(table, parse, scratch, c);
     }

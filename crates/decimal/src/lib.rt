@@ -6,8 +6,8 @@ ghost use Rattle.std.specs.List.{prefix_len, fold};
 ghost use Rattle.std.specs.Float.{binary64};
 ghost use Rattle.std.specs.Float.Ieee.{div};
 ghost use Rattle.decimal.specs.Number.{digit};
-ghost use Rattle.decimal.specs.Value.{num, next_digit, digits_from, signed as signedBy, decimal, value_of};
-ghost use Rattle.decimal.specs.Compute.{leading, is_fraction, after_whole, unsigned, decimal_of, number_of};
+ghost use Rattle.decimal.specs.Value.{num, next_digit, signed as signedBy, decimal, value_of};
+ghost use Rattle.decimal.specs.Compute.{is_fraction, after_whole, unsigned, decimal_of, number_of};
 
 const MOST_WHOLE_DIGITS: usize = 3;
 

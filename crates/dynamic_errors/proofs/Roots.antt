@@ -83,13 +83,9 @@ module _ {T P S : List ℕ} {h : Cursor} {d : Bool} where
     is = λ r x A. f ∙ ap₂ ◌||◌ (K.is r x (rw J.kept A)) (J.is r x A) ∙ ap (λ (c : Bool). twice_in c x) (sym e);
   }
 
-  -- an element is one
-  pub not-one-element : d ≡ false → Judges (not_one_in d) T P S S h false
-  not-one-element e = record { kept = refl; is = λ r x A. ap (λ (c : Bool). not_one_in c x) (sym e) }
-
 -- without attributes there is none twice
-pub twice-bare : {T P S : List ℕ} {h : Cursor} {a : Bool} (d : Bool) → Attributed T P S h a → a ≡ false → Judges (twice_in d) T P S S h false
-twice-bare d U e = record { kept = refl; is = λ r x A. sym (none d x (U.bare e r x A)) }
+pub twice-bare : {T P S : List ℕ} {h : Cursor} {a : Bool} (d : Bool) → Attributed T P S h a → a ≡ false → Judges (twice_in d) T P S S h a
+twice-bare d U e = record { kept = refl; is = λ r x A. e ∙ sym (none d x (U.bare e r x A)) }
   where
     none : (d : Bool) (x : Xml) → attributes_of x ≡ 0 → twice_in d x ≡ false
     none true x z = not-twice x z

@@ -1,7 +1,7 @@
 // What forbids to write the document of a left parse: refusals 17 to 22.
 #![tactic(auto)]
 
-ghost use Rattle.std.specs.Prelude.{◌≡◌, ◌||◌, ℕ, ◌<◌, ◌≤◌, length};
+ghost use Rattle.std.specs.Prelude.{◌≡◌, ℕ, ◌<◌, ◌≤◌, length};
 ghost use Rattle.text.specs.Lists.{Text};
 ghost use Rattle.xml.specs.Document.{twice};
 ghost use Rattle.items.specs.Items.{kind_at};
@@ -154,10 +154,7 @@ fn twice_in(
     requires some_row { (r : Text) × SomeRow table.now parse.now r scratch.old first }
     ensures { Judges (twice_in deleted) table.now parse.now scratch.old scratch.new first result }
 {
-    if attributed {
-        return twice_around(table, parse, scratch, first, deleted);
-    }
-    false
+    attributed && twice_around(table, parse, scratch, first, deleted)
 }
 
 // 18: a name that is no XML name, with the name of the document's element.
@@ -183,10 +180,7 @@ fn not_one_in(
     requires { (r : Text) × SomeRow table.now parse.now r scratch.old first }
     ensures { Judges (not_one_in deleted) table.now parse.now scratch.old scratch.new first result }
 {
-    if deleted {
-        return xml_shape::not_one(table, parse, scratch, first);
-    }
-    false
+    deleted && xml_shape::not_one(table, parse, scratch, first)
 }
 
 // What forbids to write a document.

@@ -1,5 +1,5 @@
 -- How many bytes a row takes at most, and how many attributes it has, at every depth.
-use Rattle.std.specs.Prelude.{◌≡◌, true, false, List, ℕ, ◌+◌, ◌*◌, ◌<◌, ◌≤◌, length}
+use Rattle.std.specs.Prelude.{◌≡◌, true, false, ℕ, ◌+◌, ◌*◌, ◌<◌, ◌≤◌, length}
 use Rattle.text.specs.Lists.{Text, concat_map}
 use Rattle.xml.specs.Document.{Xml, none, char, attr, elem}
 use Rattle.xml.specs.Bytes.{escape}

@@ -1,7 +1,7 @@
 // How many bytes the XML of a row takes at most, and whether it has attributes: gathered while the row is judged.
 #![tactic(auto)]
 
-ghost use Rattle.std.specs.Prelude.{◌≡◌, true, false, ℕ, ◌+◌, ◌*◌, ◌<◌, ◌≤◌};
+ghost use Rattle.std.specs.Prelude.{◌≡◌, true, ℕ, ◌+◌, ◌*◌, ◌<◌};
 ghost use Rattle.text.specs.Lists.{Text};
 ghost use Rattle.left_parse.specs.Steps.{Named};
 ghost use Rattle.extent.specs.Extent.{tag, none_at, Grown, Fits};
@@ -104,8 +104,5 @@ pub fn with_attribute(e: Extent, table: &[u32], token: usize) -> Extent
 pub fn fits(e: Extent, room: usize) -> bool
     ensures { result ≡ true → Fits e room }
 {
-    if e.most < UNKNOWN {
-        return e.most + STATE_BYTES <= room;
-    }
-    false
+    e.most < UNKNOWN && e.most + STATE_BYTES <= room
 }

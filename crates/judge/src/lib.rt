@@ -1,7 +1,7 @@
 // Whether a list of numbers, whoever made it, names a derivation of a record; with no recursion, and two numbers for each entry.
 #![tactic(auto)]
 
-ghost use Rattle.std.specs.Prelude.{◌≡◌, ℕ, ◌+◌, ◌*◌, ◌<◌, ◌≤◌, length};
+ghost use Rattle.std.specs.Prelude.{◌≡◌, ◌≤◌, length};
 ghost use Rattle.items.specs.Items.{kind_at};
 ghost use Rattle.left_parse.specs.Walk.{Over};
 ghost use Rattle.judge.specs.Tracks.{SomeTracks, Steps, Walked, Asked, Judged};

@@ -1,7 +1,7 @@
 // The way through a left parse, and what is noted of its entries: no recursion, and two numbers for each entry.
 #![tactic(auto)]
 
-ghost use Rattle.std.specs.Prelude.{◌≡◌, Bool, true, false, List, ℕ, ◌+◌, ◌*◌, ◌<◌, ◌≤◌, length, get_or, is_some, IfSome};
+ghost use Rattle.std.specs.Prelude.{◌≡◌, true, false, List, ℕ, get_or, is_some, IfSome};
 ghost use Rattle.text.specs.Lists.{Text};
 ghost use Rattle.tree.specs.Tree.{Grammar};
 ghost use Rattle.derive.specs.Derive.{Row};

@@ -1,8 +1,7 @@
 // The bytes of names, terminals' text, states and tags, put into a buffer up to a limit.
 #![tactic(auto)]
 
-ghost use Rattle.std.specs.Prelude.{◌≡◌, Bool, true, false, List, [], ◌∷◌, ◌++◌, ℕ, ◌+◌, ◌<◌, ◌≤◌, length, take, drop};
-ghost use Rattle.text.specs.Utf8.{utf8};
+ghost use Rattle.std.specs.Prelude.{◌≡◌, ℕ, ◌<◌, ◌≤◌, length};
 ghost use Rattle.text.specs.Lists.{Text, chars, concat_map};
 ghost use Rattle.xml.specs.Bytes.{state_with};
 ghost use Rattle.left_parse.specs.Steps.{Named};

@@ -1,7 +1,7 @@
 // What the program writes for two files: the answer to the job that they are, or why there is none.
 #![tactic(auto)]
 
-ghost use Rattle.std.specs.Prelude.{OnOk};
+ghost use Rattle.std.specs.Prelude.{OnOk, option_copied};
 ghost use Rattle.cli.specs.Output.{Holds, job_text, Replies, Answered};
 
 use calls::ixml_convert;
@@ -27,22 +27,16 @@ fn convert(grammar: &[u8], input: &[u8], out: &mut [u8; WRITTEN_BYTES]) -> usize
     cli::show(a.number, a.length, a.version, fault, &xml, out)
 }
 
-// What is written for two files, by what is seen of them: whether each can be read, and its first 4,097 bytes.
-pub fn reply(
-    first: bool,
-    grammar: &[u8],
-    second: bool,
-    input: &[u8],
-    out: &mut [u8; WRITTEN_BYTES],
-) -> usize
-    ensures { Replies first grammar.now second input.now out.new result }
+// What is written for two files, by what is seen of each: its first 4,097 bytes, if it can be read.
+pub fn reply(grammar: Option<&[u8]>, input: Option<&[u8]>, out: &mut [u8; WRITTEN_BYTES]) -> usize
+    ensures { Replies (option_copied grammar.entry) (option_copied input.entry) out.new result }
 {
-    if !first {
+    let Some(grammar) = grammar else {
         return cli::show_unreadable(out);
-    }
-    if !second {
+    };
+    let Some(input) = input else {
         return cli::show_unreadable(out);
-    }
+    };
     if limits::FILE_BYTES < input.len() {
         return cli::show_long(out);
     }
@@ -65,10 +59,8 @@ pub fn answer<G: Read + Drop, R: Read + Drop, W: Write>(
     let second = cli::load(input, &mut read);
     let mut out = [0u8; WRITTEN_BYTES];
     let n = reply(
-        first.readable,
-        &shown[..first.count],
-        second.readable,
-        &read[..second.count],
+        first.map(|n| &shown[..n]),
+        second.map(|n| &read[..n]),
         &mut out,
     );
     writer.write_all(&out[..n])

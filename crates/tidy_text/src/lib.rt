@@ -87,22 +87,13 @@ fn put_between(
 }
 
 // A list begins after a token of the kind.
+#[tactic(auto, unfolding(tidy::specs::Numbers::kind_by))]
 fn begins_list(kind: u32) -> bool
     ensures { result ≡ begins (kind_by kind) }
 {
-    if kind < tokens::INCLUDE {
-        return false;
-    }
-    if kind < tokens::MEMBER_QUOTED {
-        return true;
-    }
-    if kind == tokens::OPEN_GROUP {
-        return true;
-    }
-    if kind == tokens::NEXT_ALTERNATIVE {
-        return true;
-    }
-    false
+    tokens::INCLUDE <= kind && kind < tokens::MEMBER_QUOTED
+        || kind == tokens::OPEN_GROUP
+        || kind == tokens::NEXT_ALTERNATIVE
 }
 
 // All tokens up to the end.

@@ -1,7 +1,7 @@
 // The bytes of a token in the tidy text, put into a buffer up to a limit; and where a factor ends.
 #![tactic(auto)]
 
-ghost use Rattle.std.specs.Prelude.{◌≡◌, List, ◌+◌, ◌-◌, ◌<◌, ◌≤◌, length, get_or};
+ghost use Rattle.std.specs.Prelude.{◌≡◌, List, ◌+◌, ◌<◌, ◌≤◌, length, get_or};
 ghost use Rattle.tree.specs.Tokens.{Token};
 ghost use Rattle.tokens.specs.Lengths.{form_of, length_at, TokenAt, Left};
 ghost use Rattle.encode.specs.Out.{Wrote};

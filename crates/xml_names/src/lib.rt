@@ -1,9 +1,9 @@
 // What forbids to write the XML of a left parse: bad names, bad characters, attributes named xmlns.
 #![tactic(auto)]
 
-ghost use Rattle.std.specs.Prelude.{◌≡◌, true, false, not, ◌&&◌, ◌||◌, ℕ, ◌<◌, eqb, get_or, take, drop};
+ghost use Rattle.std.specs.Prelude.{◌≡◌, not, ℕ, ◌<◌};
 ghost use Rattle.std.specs.List.{list_all, list_any};
-ghost use Rattle.text.specs.Lists.{Text, chars, any, same, span, inside};
+ghost use Rattle.text.specs.Lists.{Text, chars, any, same};
 ghost use Rattle.xml.specs.Names.{xml_char, name_start, name_char, xml_name};
 ghost use Rattle.left_parse.specs.Steps.{Named};
 ghost use Rattle.markup.specs.Pieces.{said, Says};

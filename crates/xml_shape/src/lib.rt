@@ -1,10 +1,9 @@
 // Judges of what a row of a left parse comes to: an attribute twice, and anything but one element.
 #![tactic(auto)]
 
-ghost use Rattle.std.specs.Prelude.{◌≡◌, ◌||◌, ℕ, ◌+◌, ◌<◌, ◌≤◌, length, set};
+ghost use Rattle.std.specs.Prelude.{◌≡◌, ◌+◌, ◌<◌, ◌≤◌, length, set};
 ghost use Rattle.text.specs.Lists.{Text, pick};
 ghost use Rattle.xml.specs.Document.{not_one};
-ghost use Rattle.left_parse.specs.Steps.{Named};
 ghost use Rattle.cursor.specs.Ahead.{SomeRow};
 ghost use Rattle.xml_shape.specs.Judges.{Judges};
 ghost use Rattle.xml_shape.specs.Names.{repeated, Seen, name_tokens};

@@ -1,7 +1,6 @@
 use mathlib.Core.Path.{refl}
-use mathlib.Core.Logic.{inl, inr}
 use native.Mathlib.Omega.{arith}
-use Rattle.cursor.specs.Events.{s-text, s-node, s-close, s-end}
+use Rattle.cursor.specs.Events.{s-text, s-close, s-end}
 use Rattle.cursor.proofs.Laws.{none_above, above-none, decide-zero}
 use Rattle.cursor.proofs.Steps.{ahead_small, ahead-kind, ahead-enters, ahead-leaves}
 use Rattle.cursor.proofs.Turns.{turn-empty, turn-into, turn-out, came-begin, came-on, came-settled, came-some}
@@ -34,22 +33,6 @@ loop-p-preserved-then-k-eq-TERMINAL c =
     c.skip-n.ensures in
     (c.loop-p.invariant.0, came-some c.loop-p.invariant.1 M, came-on c.loop-p.invariant.2 M)
 
-pub shape_of-scratch-then-k-eq-ELEMENT : goal.shape_of-scratch-then-k-eq-ELEMENT
-shape_of-scratch-then-k-eq-ELEMENT c = c.loop-p.invariant.0
-
-pub returns-then-k-eq-ELEMENT : goal.returns-then-k-eq-ELEMENT
-returns-then-k-eq-ELEMENT c =
-    let n = c.kind_in-k.ensures.node (inl c.if-k-eq-ELEMENT.true) in
-    came-settled c.loop-p.invariant.2 (s-node n.0 (omega (arith, n.1, c.if-k-eq-ELEMENT.true)) (omega (arith, n.1, c.if-k-eq-ELEMENT.true)))
-
-pub shape_of-scratch-then-k-eq-ATTRIBUTE : goal.shape_of-scratch-then-k-eq-ATTRIBUTE
-shape_of-scratch-then-k-eq-ATTRIBUTE c = c.loop-p.invariant.0
-
-pub returns-then-k-eq-ATTRIBUTE : goal.returns-then-k-eq-ATTRIBUTE
-returns-then-k-eq-ATTRIBUTE c =
-    let n = c.kind_in-k.ensures.node (inr c.if-k-eq-ATTRIBUTE.true) in
-    came-settled c.loop-p.invariant.2 (s-node n.0 (omega (arith, n.1, c.if-k-eq-ATTRIBUTE.true)) (omega (arith, n.1, c.if-k-eq-ATTRIBUTE.true)))
-
 pub enter-n-requires : goal.enter-n-requires
 enter-n-requires c =
     let n = c.kind_in-k.ensures.into c.if-k-eq-DELETED.true in
@@ -71,15 +54,15 @@ shape_of-scratch-then-h-eq0 c = c.loop-p.invariant.0
 
 pub returns-then-h-eq0 : goal.returns-then-h-eq0
 returns-then-h-eq0 c =
-    came-settled c.loop-p.invariant.2 (s-end (c.kind_in-k.ensures.ends c.if-k-eq-TERMINAL.false c.if-k-eq-ELEMENT.false
-    c.if-k-eq-ATTRIBUTE.false c.if-k-eq-DELETED.false (ahead-kind c.loop-p.invariant.1.ahead)) c.if-h-eq0.true)
+    came-settled c.loop-p.invariant.2 (s-end (c.kind_in-k.ensures.ends c.if-k-eq-TERMINAL.false c.if-k-eq-ATTRIBUTE.false.0
+    c.if-k-eq-ATTRIBUTE.false.1 c.if-k-eq-DELETED.false (ahead-kind c.loop-p.invariant.1.ahead)) c.if-h-eq0.true)
 
 pub shape_of-scratch-then-closes : goal.shape_of-scratch-then-closes
 shape_of-scratch-then-closes c = c.loop-p.invariant.0
 
 pub returns-then-closes : goal.returns-then-closes
 returns-then-closes c =
-    let five = c.kind_in-k.ensures.ends c.if-k-eq-TERMINAL.false c.if-k-eq-ELEMENT.false c.if-k-eq-ATTRIBUTE.false c.if-k-eq-DELETED.false (ahead-kind c.loop-p.invariant.1.ahead) in
+    let five = c.kind_in-k.ensures.ends c.if-k-eq-TERMINAL.false c.if-k-eq-ATTRIBUTE.false.0 c.if-k-eq-ATTRIBUTE.false.1 c.if-k-eq-DELETED.false (ahead-kind c.loop-p.invariant.1.ahead) in
     came-settled c.loop-p.invariant.2 (s-close five (decide-zero _ c.if-h-eq0.false) _ c.note_at-item.ensures (c.closes.ensures.yes c.if-closes.true))
 
 pub leave-n-requires : goal.leave-n-requires
@@ -88,13 +71,13 @@ leave-n-requires c =
 
 pub loop-p-smaller : goal.loop-p-smaller
 loop-p-smaller c =
-    let five = c.kind_in-k.ensures.ends c.if-k-eq-TERMINAL.false c.if-k-eq-ELEMENT.false c.if-k-eq-ATTRIBUTE.false c.if-k-eq-DELETED.false (ahead-kind c.loop-p.invariant.1.ahead) in
+    let five = c.kind_in-k.ensures.ends c.if-k-eq-TERMINAL.false c.if-k-eq-ATTRIBUTE.false.0 c.if-k-eq-ATTRIBUTE.false.1 c.if-k-eq-DELETED.false (ahead-kind c.loop-p.invariant.1.ahead) in
     let n = c.closes.ensures.no c.if-closes.false in
     (turn-out c.loop-p.invariant.1 five (decide-zero _ c.if-h-eq0.false) c.leave-n.ensures c.note_at-item.ensures n.0 n.1).falls
 
 pub loop-p-preserved : goal.loop-p-preserved
 loop-p-preserved c =
-    let five = c.kind_in-k.ensures.ends c.if-k-eq-TERMINAL.false c.if-k-eq-ELEMENT.false c.if-k-eq-ATTRIBUTE.false c.if-k-eq-DELETED.false (ahead-kind c.loop-p.invariant.1.ahead) in
+    let five = c.kind_in-k.ensures.ends c.if-k-eq-TERMINAL.false c.if-k-eq-ATTRIBUTE.false.0 c.if-k-eq-ATTRIBUTE.false.1 c.if-k-eq-DELETED.false (ahead-kind c.loop-p.invariant.1.ahead) in
     let n = c.closes.ensures.no c.if-closes.false in
     let M = turn-out c.loop-p.invariant.1 five (decide-zero _ c.if-h-eq0.false) c.leave-n.ensures c.note_at-item.ensures n.0 n.1 in
     (omega (arith, c.loop-p.invariant.0), came-some c.loop-p.invariant.1 M, came-on c.loop-p.invariant.2 M)

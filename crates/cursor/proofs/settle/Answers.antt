@@ -1,16 +1,8 @@
 use native.Mathlib.Omega.{arith}
-use Rattle.cursor.specs.Events.{s-node, s-close, s-end}
+use Rattle.cursor.specs.Events.{s-close, s-end}
 use Rattle.cursor.proofs.Laws.{decide-zero}
 use Rattle.cursor.proofs.Turns.{came-begin, came-settled}
 use Rattle.cursor.proofs.settle.Goals as goal
-
-pub returns-then-k-eq-ELEMENT : goal.returns-then-k-eq-ELEMENT
-returns-then-k-eq-ELEMENT c =
-    came-settled came-begin (s-node c.if-c-eq0.true (omega (arith, c.kind_at-k.ensures, c.if-k-eq-ELEMENT.true)) (omega (arith, c.kind_at-k.ensures, c.if-k-eq-ELEMENT.true)))
-
-pub returns-then-k-eq-ATTRIBUTE : goal.returns-then-k-eq-ATTRIBUTE
-returns-then-k-eq-ATTRIBUTE c =
-    came-settled came-begin (s-node c.if-c-eq0.true (omega (arith, c.kind_at-k.ensures, c.if-k-eq-ATTRIBUTE.true)) (omega (arith, c.kind_at-k.ensures, c.if-k-eq-ATTRIBUTE.true)))
 
 pub returns-then-h-eq0 : goal.returns-then-h-eq0
 returns-then-h-eq0 c = came-settled came-begin (s-end (omega (arith, c.kind_at-k.ensures, c.if-k-lt-ALTERNATIVE_END.false)) c.if-h-eq0.true)

@@ -1,7 +1,6 @@
 -- The files behind the readers are those that are seen, and what is replied is what is written.
-use Rattle.std.proofs.Common.{OnOk, arith}
-use Rattle.std.specs.declared.result.Result.{Result}
-use Rattle.std.specs.declared.result.Result.TheVariants.{Ok, Err}
+use Rattle.std.proofs.Common.{OnOk, rules, ◌≡◌, take}
+use Rattle.std.specs.Prelude.{Result, Ok, Err, option_copied, option_map}
 use Rattle.cli.proofs.Law.{stands, answered}
 use Rattle.replies.proofs.answer.Goals as goal
 
@@ -11,9 +10,11 @@ on_ok (Err e) f p = tt
 
 pub returns : goal.returns
 returns g c =
+    let shown : option_copied c.map.result ≡ option_map (λ n. take n c.load-first.new.buf) c.load-first.result = search rules in
+    let read : option_copied c.map-2.result ≡ option_map (λ n. take n c.load-second.new.buf) c.load-second.result = search rules in
     on_ok c.write_all.result
     (answered
-    (stands _ c.load-first.result.readable _ (omega arith) c.load-first.ensures.known)
-    (stands _ c.load-second.result.readable _ (omega arith) c.load-second.ensures.known)
-    c.reply-n.ensures)
+    (stands _ c.load-first.result c.load-first.new.buf (search rules) c.load-first.ensures.known)
+    (stands _ c.load-second.result c.load-second.new.buf (search rules) c.load-second.ensures.known)
+    (rw (shown, read) at c.reply-n.ensures))
     c.write_all.ensures.bytes
