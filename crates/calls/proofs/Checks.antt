@@ -7,16 +7,13 @@ use Prim.Native.Nat.{ℕ}
 use native.Mathlib.Omega.{arith}
 use lib.Dec.{eqb}
 use borrow.Author.Tests.{ne_eqb}
-use Rattle.text.specs.Stages.{diagnostic_of}
 use Rattle.text.specs.declared.Diagnostic.{Diagnostic}
 use Rattle.answer.specs.Answer.{Checks}
 use Rattle.answer.specs.Compute.{Values, places_at, check_values, mismatch, result, outcome, check_of}
 use Rattle.answer.proofs.Settled.{check-answers}
 use Rattle.load.specs.Loaded.{Turned, places_of}
 use Rattle.accept.specs.declared.Rules.{Rules}
-use Rattle.accept.specs.declared.Accepted.{Accepted}
-use Rattle.accept.specs.declared.Accepted.TheVariants.{Grammar as A-grammar, Refused}
-use Rattle.accept.specs.Accepted.{stage_of, Kept, Accepts}
+use Rattle.accept.specs.Accepted.{Kept}
 use Rattle.exported.specs.declared.Answer.{Answer}
 use Rattle.exported.specs.Exported.{shown, done, refusal_of}
 use Rattle.outcome.specs.Calls.{Checked}
@@ -41,12 +38,8 @@ kept-is bs T p k =
 checked : (bs : List ℕ) (a : Answer) → shown a ≡ check_of bs → Checked bs a
 checked bs a e = record { computed = e; defines = subst (Checks bs) (sym e) (check-answers bs) }
 
-pub refuses : (bs T : List ℕ) (j : Accepted) (k d : Diagnostic) (a : Answer) → j ≡ Refused k → d ≡ diagnostic_of (stage_of j) → Accepts bs T j
-    → a ≡ refusal_of (record { why = d; mismatch = false }) → Checked bs a
-refuses bs T j k d a q e l z =
-    let w : d ≡ k = e ∙ ap (λ (x : Accepted). diagnostic_of (stage_of x)) q in
-    let u : a ≡ refusal_of (record { why = k; mismatch = false }) = z ∙ ap (λ (x : Diagnostic). refusal_of (record { why = x; mismatch = false })) w in
-    subst (Checked bs) (sym u) (checked bs (refusal_of (record { why = k; mismatch = false })) (sym (refused-is bs k (subst (Accepts bs T) q l))))
+pub refuses : (bs : List ℕ) (d : Diagnostic) (a : Answer) → Turned bs d → a ≡ refusal_of (record { why = d; mismatch = false }) → Checked bs a
+refuses bs d a t z = subst (Checked bs) (sym z) (checked bs (refusal_of (record { why = d; mismatch = false })) (sym (refused-is bs d t)))
 
-pub accepts : (bs T : List ℕ) (j : Accepted) (p : Rules) (a : Answer) → j ≡ A-grammar p → Accepts bs T j → a ≡ done 0 false p.mismatch → Checked bs a
-accepts bs T j p a e l z = subst (Checked bs) (sym z) (checked bs (done 0 false p.mismatch) (sym (kept-is bs T p (subst (Accepts bs T) e l))))
+pub accepts : (bs T : List ℕ) (p : Rules) (a : Answer) → Kept bs T p → a ≡ done 0 false p.mismatch → Checked bs a
+accepts bs T p a k z = subst (Checked bs) (sym z) (checked bs (done 0 false p.mismatch) (sym (kept-is bs T p k)))

@@ -26,16 +26,14 @@ use Rattle.answer.proofs.Lines.{first-topmost, none-given}
 use Rattle.load.specs.Loaded.{places_of}
 use Rattle.load.proofs.Stages.{to-size}
 use Rattle.accept.specs.declared.Rules.{Rules}
-use Rattle.accept.specs.declared.Accepted.{Accepted}
-use Rattle.accept.specs.declared.Accepted.TheVariants.{Grammar as A-grammar, Refused}
-use Rattle.accept.specs.Accepted.{Kept, Accepts}
+use Rattle.accept.specs.Accepted.{Accepted, Kept, Accepts}
 use Rattle.exported.specs.declared.Refusal.{Refusal}
 use Rattle.tidy.specs.Scan.{scan}
 use Rattle.tidy.specs.Call.{tidy_bytes, tidy_tests, Tidies, tidy_of}
 use Rattle.tidy.proofs.Answers.{tidy-answers}
 use Rattle.tidy.proofs.Same.{known-text}
 use Rattle.tidy_writer.specs.Walk.{SomeLeft}
-use Rattle.std.specs.Prelude.{Result, Ok, Err}
+use Rattle.std.specs.Prelude.{Result as Either, Ok, Err}
 use Rattle.tidy_text.specs.declared.TidyError.{TidyError}
 use Rattle.tidy_text.specs.Whole.{error_number, AllFit, Written, NotWritten, Concludes}
 use Rattle.tidy_text.proofs.Fits.{grammar-fits}
@@ -93,7 +91,7 @@ module _ {bs U : List ℕ} {p : Rules} (y : Kept bs U p) where
   bytes-are : enc (scan true (grammar_tokens g)) ≡ tidy_bytes g
   bytes-are = tidy-encoded tree.0 g tree.2 (known-text bs g tree accepted)
 
-  module _ (old new : List ℕ) (v : Result ℕ TidyError) (h : (ts : List Token) → Left U p.end 0 ts → AllFit ts → Concludes (enc (scan true ts)) old new v) where
+  module _ (old new : List ℕ) (v : Either ℕ TidyError) (h : (ts : List Token) → Left U p.end 0 ts → AllFit ts → Concludes (enc (scan true ts)) old new v) where
     abbrev cells : List ℕ
     cells = tidy_bytes g
 
@@ -131,15 +129,15 @@ module _ {bs U : List ℕ} {p : Rules} (y : Kept bs U p) where
 
 -- the tokens stand in the table
 pub tokened : (bs U : List ℕ) (q : Accepted) → Accepts bs U q → length U ≡ grammar_table → Tokened q U
-tokened bs U (Refused d) t l = tt
-tokened bs U (A-grammar p) y l = some_left y l
+tokened bs U (Err d) t l = tt
+tokened bs U (Ok p) y l = some_left y l
 
 -- whatever is given of a grammar
 pub tidy-given : (bs old U : List ℕ) (q : Accepted) → Accepts bs U q → (new : List ℕ) (a : Answer) → GivesTidy q U old new a → TidiedAs bs old a new
-tidy-given bs old U (Refused d) t new a h =
+tidy-given bs old U (Err d) t new a h =
     rw h.1 (refused_as bs old d (t.first (tidy_tests bs old)) t.some (λ q. ⊎_elim (λ l. omega arith) (λ l. omega arith) t.early) t.places a h.0)
-tidy-given bs old U (A-grammar p) y new a h = go h.tidied h.concludes h.answer
+tidy-given bs old U (Ok p) y new a h = go h.tidied h.concludes h.answer
   where
-    go : (v : Result ℕ TidyError) → ((ts : List Token) → Left U p.end 0 ts → AllFit ts → Concludes (enc (scan true ts)) old new v) → a ≡ tidied_of v p.mismatch → TidiedAs bs old a new
+    go : (v : Either ℕ TidyError) → ((ts : List Token) → Left U p.end 0 ts → AllFit ts → Concludes (enc (scan true ts)) old new v) → a ≡ tidied_of v p.mismatch → TidiedAs bs old a new
     go (Ok n) c z = tidied y old new (Ok n) c n a refl z
     go (Err e) c z = refused-at y old new (Err e) c (error_number e) (concludes y old new (Err e) c) a z

@@ -6,7 +6,6 @@ ghost use Rattle.answer.specs.Answer.{job, Categorizes, Reads, Converts};
 ghost use Rattle.outcome.specs.Calls.{Checked, ReadAs, ConvertedAs, JudgedAs, TidiedAs};
 ghost use Rattle.resume.specs.Resume.{StartedAs, RoundedAs, EndedAs};
 
-use accept::Accepted;
 use exported::{Answer, Refusal};
 use resume::Progress;
 use text::limits;
@@ -16,14 +15,10 @@ pub fn ixml_check(grammar: &[u8]) -> Answer
     ensures { Checked grammar.now result }
 {
     let mut table = [0u32; limits::GRAMMAR_TABLE];
-    let accepted = accept::accept_grammar(grammar, &mut table);
-    let Accepted::Grammar(rules) = accepted else {
-        return exported::refuse(Refusal {
-            why: accept::why_not_accepted(accepted),
-            mismatch: false,
-        });
-    };
-    exported::answered(0, false, rules.mismatch)
+    match accept::accept_grammar(grammar, &mut table) {
+        Ok(rules) => exported::answered(0, false, rules.mismatch),
+        Err(why) => exported::refuse(Refusal::from(why)),
+    }
 }
 
 // The category of a code point, by its place in the list of thirty; 30 for one that is not known here.

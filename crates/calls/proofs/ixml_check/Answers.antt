@@ -1,10 +1,8 @@
 use Rattle.calls.proofs.Checks.{refuses, accepts}
 use Rattle.calls.proofs.ixml_check.Goals as goal
 
-pub returns-in_default : goal.returns-in_default
-returns-in_default c =
-    refuses _ _ _ _ _ _ c.in_default.is c.why_not_accepted.ensures c.accept_grammar-accepted.ensures c.refuse.ensures
+pub returns-in-Err : goal.returns-in-Err
+returns-in-Err c = refuses _ c.in-Err.why _ c.in-Err.ensures (rw c.from.ensures at c.refuse.ensures)
 
-pub returns : goal.returns
-returns c =
-    accepts _ _ _ _ _ c.in-Grammar.is c.accept_grammar-accepted.ensures c.answered.ensures
+pub returns-in-Ok : goal.returns-in-Ok
+returns-in-Ok c = accepts _ _ c.in-Ok.rules _ c.in-Ok.ensures c.answered.ensures
