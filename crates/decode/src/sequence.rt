@@ -16,28 +16,26 @@ pub struct Sequence {
 // No character begins so: stands for the count of bytes that follow.
 pub const NEVER: usize = 4;
 
+#[tactic(auto, unfolding(text::specs::Decode::second_low))]
 fn second_low(b: u8) -> u8
     ensures { result ≡ second_low b }
 {
-    if b == 0xe0 {
-        return 0xa0;
+    match b {
+        0xe0 => 0xa0,
+        0xf0 => 0x90,
+        _ => 0x80,
     }
-    if b == 0xf0 {
-        return 0x90;
-    }
-    0x80
 }
 
+#[tactic(auto, unfolding(text::specs::Decode::second_high))]
 fn second_high(b: u8) -> u8
     ensures { result ≡ second_high b }
 {
-    if b == 0xed {
-        return 0x9f;
+    match b {
+        0xed => 0x9f,
+        0xf4 => 0x8f,
+        _ => 0xbf,
     }
-    if b == 0xf4 {
-        return 0x8f;
-    }
-    0xbf
 }
 
 fn lead_with(more: usize, bits: u8, b: u8) -> Sequence
@@ -52,6 +50,7 @@ fn lead_with(more: usize, bits: u8, b: u8) -> Sequence
 }
 
 // What a first byte says.
+#[tactic(auto, unfolding(crate::specs::Sequence::lead_of))]
 pub fn lead_of(b: u8) -> Sequence
     ensures { result ≡ lead_of b }
 {

@@ -42,9 +42,6 @@ last-at (c ∷ []) u (suc k) e = absurd (omega arith)
 last-at (c ∷ d ∷ cs) u zero e = absurd (omega arith)
 last-at (c ∷ d ∷ cs) u (suc k) e = last-at (d ∷ cs) u k (omega arith)
 
-dot-false : (a b : Bool) → a ≡ false → a && b ≡ false
-dot-false a b e = rw e
-
 module _ (s : Text) (p q : ℕ) (h : p < q) (l : q ≤ length s) where
   pub stops-short : q ≡ p + 1 → Stops s p q false
   stops-short e cs f g = rw (no-dot cs (omega arith))

@@ -98,10 +98,6 @@ chars-no-string s p e f = chars-string s p e fail f
 pub coding : (s : Text) (p q v : ℕ) (o : List ℕ) → ch 0x23 (hd (drop p s)) ≡ true → Hexed (λ x. read-hex (drop p s) ≡ x) s (p + 1) q v → Coding s p q v o o
 coding s p q v o e h = record { number = record { value = h.value; same = chars-hex s p e (ok h.value (drop q s)) h.same; onward = h.onward; held = h.held }; same = refl }
 
--- room for what is written after a token's head
-pub chars-space : (s : Text) (p : ℕ) (o : List ℕ) (at : ℕ) → Room s p o at → Space s p 1 o (at + 2)
-chars-space s p o at r = let c = r.cells in record { place = r.place; cells = λ h. omega arith }
-
 module _ (s : Text) (p : ℕ) (o : List ℕ) (at : ℕ) (r : Room s p o at) (m : List ℕ) (len : length m ≡ length o) where
   pub headable : (E : Result Text → Type 0) (n q b : ℕ) → Copied E s p n o (at + 2) m q b → p < q → Headable m at b
   headable E n q b v h = let c = v.cells in let k = v.onward in let d = v.count in let i = r.cells in let f = r.few in record { low = omega arith; high = omega arith; few = omega arith }
@@ -175,9 +171,6 @@ module _ (s : Text) (p : ℕ) (e : namestart (hd (drop p s)) ≡ true) where
 
   pub run_on : (o : List ℕ) (at : ℕ) (m : List ℕ) (q b : ℕ) → Copied (λ x. run (drop p s) ≡ x) s p 0 o at m q b → p < q
   run_on o at m q b v = let h = run-some (drop p s) v.chars (drop q s) e v.same in let c = v.cells in let d = v.count in omega arith
-
-  pub run-space : (o : List ℕ) (at : ℕ) → Room s p o at → Space s p 0 o (at + 2)
-  run-space o at r = let c = r.cells in let i = name_in in record { place = r.place; cells = λ h. omega arith }
 
   pub name-same : (x : Result Text) → run (drop p s) ≡ x → read_name (drop p s) ≡ x
   name-same x f = name-run (drop p s) e ∙ f

@@ -5,7 +5,7 @@ ghost use Rattle.spacing.specs.Answers.{Room};
 ghost use Rattle.lexical.specs.Answers.{Space, Copied, After-run, After-name, Stops};
 
 use crate::head;
-use decode::{CharPlace, after};
+use decode::CharPlace;
 use spacing::{Cell, FULL_STOP, is_mark, name_follower, name_start, peek, skip};
 
 // Copies the longest run of name characters.
@@ -13,20 +13,17 @@ fn copy_run(text: &[u32], p: CharPlace, out: &mut [u32], at: Cell) -> (CharPlace
     requires { Space text.now p.0 0 out.old at.0 }
     ensures { Copied (λ x. run (drop p.0 text.now) ≡ x) text.now p.0 0 out.old at.0 out.new result.0.0 result.1.0 }
 {
-    let mut from = p;
     let mut to = at;
-    while from.0 < text.len() {
-        let i = from.0;
+    for i in p.0..text.len() {
         let c = text[i];
         if !name_follower(c) {
-            return (from, to);
+            return (CharPlace(i), to);
         }
         let j = to.0;
         out[j] = c;
-        from = after(from);
         to = Cell(j + 1);
     }
-    (from, to)
+    (CharPlace(text.len()), to)
 }
 
 // The characters of a name, copied after the two cells of its token's head.
@@ -62,14 +59,7 @@ fn ended(text: &[u32], p: CharPlace) -> bool
     ensures { result ≡ Ended (drop p.0 text.now) }
 {
     let i = p.0;
-    if text.len() <= i {
-        return true;
-    }
-    let c = text[i];
-    if is_mark(c) {
-        return true;
-    }
-    name_start(c)
+    text.len() <= i || is_mark(text[i]) || name_start(text[i])
 }
 
 // Whether a name from p to q ends with the full stop of its rule.
@@ -79,16 +69,13 @@ fn stops(text: &[u32], p: CharPlace, q: CharPlace) -> bool
 {
     let i = p.0;
     let n = q.0;
-    if n == i + 1 {
+    if n == i + 1 || text[n - 1] != FULL_STOP {
         return false;
     }
-    if text[n - 1] != FULL_STOP {
-        return false;
+    match skip(text, q) {
+        Some(w) => ended(text, w),
+        None => false,
     }
-    let Some(w) = skip(text, q) else {
-        return false;
-    };
-    ended(text, w)
 }
 
 // A name in a rule's body, as a token of a kind.

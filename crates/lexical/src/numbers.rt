@@ -14,11 +14,7 @@ fn next_value(v: u32, c: u32) -> u32
     requires { (v ≤ 1114112) × (Digit c ≡ true) }
     ensures { result ≡ capped (16 * v + digit_value c) }
 {
-    let n = 16 * v + digit_value(c);
-    if n < END {
-        return n;
-    }
-    END
+    (16 * v + digit_value(c)).min(END)
 }
 
 // The digits at a place: where they end, and their value.

@@ -14,7 +14,7 @@ use Rattle.tokens.specs.Names.{name_at}
 use Rattle.static_errors.specs.Parts.{Part, used, headed, code, between, classed, other, part_at, end_codes, bad_code, failing}
 use Rattle.static_errors.specs.Scan.{Looking}
 use Rattle.static_errors.proofs.Leaf.{by_form, at-form, is-headed, is-range, not-headed}
-use Rattle.locate.specs.Faults.{spot_count, again, at_token, second_of, offset_of, Faulting}
+use Rattle.locate.specs.Faults.{again, at_token, second_of, offset_of, Faulting}
 
 pub narrow : {t : List ℕ} {k : ℕ} {list : List ℕ} {n before : ℕ} → Faulting t k list n before → Looking t k list before
 narrow f = let l = f.looking.listing in let b = f.few in let c = l.few in record { fits = f.looking.fits; listing = record { few = omega arith; each = λ i h. l.each i (omega arith) } }
@@ -68,28 +68,3 @@ offset-low rule p o e = subst (λ (n : ℕ). n ≤ 1) (sym e) (by (ltb 8 rule) p
     by : (b : Bool) (p : Part) → pick b 0 (second_of rule p) ≤ 1
     by true p = omega arith
     by false p = second p
-
--- how many spots
-pub spots-3 : (k : ℕ) → k ≡ 40 → 3 ≡ spot_count k
-unfolding spot_count
-spots-3 k e = rw e
-
-pub spots-2 : (k : ℕ) → k ≡ 26 → 2 ≡ spot_count k
-unfolding spot_count
-spots-2 k e = rw e
-
-pub spots-1 : (k : ℕ) → (k ≡ 40 → ⊥) → (k ≡ 26 → ⊥) → k < 28 → 1 ≡ spot_count k
-unfolding spot_count
-spots-1 k a b c = rw (ne_eqb k 40 a, ne_eqb k 26 b, lt-ltb k 28 c)
-
-pub spots-end : (k : ℕ) → k ≡ 28 → 0 ≡ spot_count k
-unfolding spot_count
-spots-end k e = rw e
-
-pub spots-open : (k : ℕ) → (k ≡ 40 → ⊥) → (k ≡ 26 → ⊥) → 28 ≤ k → (k ≡ 28 → ⊥) → k < 32 → 1 ≡ spot_count k
-unfolding spot_count
-spots-open k a b c d e = rw (ne_eqb k 40 a, ne_eqb k 26 b, le-ltb k 28 c, ne_eqb k 28 d, lt-ltb k 32 e)
-
-pub spots-none : (k : ℕ) → (k ≡ 40 → ⊥) → (k ≡ 26 → ⊥) → 28 ≤ k → (k ≡ 28 → ⊥) → 32 ≤ k → 0 ≡ spot_count k
-unfolding spot_count
-spots-none k a b c d e = rw (ne_eqb k 40 a, ne_eqb k 26 b, le-ltb k 28 c, ne_eqb k 28 d, le-ltb k 32 e)

@@ -27,36 +27,6 @@ afresh (scan.quoted q) c e = absurd (clash e refl)
 afresh (scan.closed q) c e = rw e
 afresh (scan.comment k) c e = absurd (clash e refl)
 
--- between words
-pub opens-name : (c : ℕ) → namestart c ≡ true → true ≡ opens c
-unfolding opens
-opens-name c e = rw e
-
-pub opens-quote : (c : ℕ) → namestart c ≡ false → quote c ≡ true → true ≡ opens c
-unfolding opens
-opens-quote c e f = rw (e, f)
-
-pub opens-sign : (c : ℕ) (r : Bool) → namestart c ≡ false → quote c ≡ false → r ≡ sign c → r ≡ opens c
-unfolding opens
-opens-sign c r e f h = rw (e, f) h
-
-pub onward-word : (c : ℕ) → namestart c || eqb c 0x23 ≡ true → scan.word ≡ onward c
-unfolding onward
-onward-word c e = rw e
-
-module _ (c : ℕ) (e : namestart c || eqb c 0x23 ≡ false) where
-  pub onward-quote : quote c ≡ true → scan.quoted c ≡ onward c
-  unfolding onward
-  onward-quote f = rw (e, f)
-
-  pub onward-brace : quote c ≡ false → c ≡ 0x7b → scan.comment 0 ≡ onward c
-  unfolding onward
-  onward-brace f g = rw (e, f, eq-eqb c 0x7b g)
-
-  pub onward-none : quote c ≡ false → (c ≡ 0x7b → ⊥) → scan.between ≡ onward c
-  unfolding onward
-  onward-none f g = rw (e, f, ne_eqb c 0x7b g)
-
 -- 2. Inside something.
 pub deeper : (d c : ℕ) → c ≡ 0x7b → scan.comment (d + 1) ≡ step (scan.comment d) c
 deeper d c e = rw (eq-eqb c 0x7b e) (ap (λ (k : ℕ). scan.comment k) (plus d))
@@ -76,12 +46,6 @@ less-deep (suc d) c a b z = rw (ne_eqb c 0x7b a, eq-eqb c 0x7d b) (ap (λ (k : �
   where
     minus : (d : ℕ) → suc d - 1 ≡ d
     minus d = omega arith
-
-pub requotes : (q c : ℕ) → goes_on (scan.closed q) c ≡ true → scan.quoted q ≡ step (scan.closed q) c
-requotes q c h = rw h
-
-pub in-word : (c : ℕ) → goes_on scan.word c ≡ true → scan.word ≡ step scan.word c
-in-word c h = rw h
 
 -- 3. How many comments are open.
 record Low (n : ℕ) (s : scan.State) : Type 0 where

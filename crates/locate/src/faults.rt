@@ -13,25 +13,17 @@ use static_errors::StaticError;
 use tokens::Form;
 
 // How many spots a token has, by its kind.
+#[tactic(auto, unfolding(crate::specs::Faults::spot_count))]
 fn spots_of(kind: u32) -> usize
     ensures { result ≡ spot_count kind }
 {
-    if kind == tokens::VERSION {
-        return 3;
+    match kind {
+        tokens::VERSION => 3,
+        tokens::MEMBER_RANGE => 2,
+        tokens::SET_END => 0,
+        _ if kind < tokens::CLOSE_GROUP => 1,
+        _ => 0,
     }
-    if kind == tokens::MEMBER_RANGE {
-        return 2;
-    }
-    if kind < tokens::SET_END {
-        return 1;
-    }
-    if kind == tokens::SET_END {
-        return 0;
-    }
-    if kind < tokens::CLOSE_GROUP {
-        return 1;
-    }
-    0
 }
 
 // 1 where the token is a rule's head.

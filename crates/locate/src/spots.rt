@@ -16,6 +16,7 @@ enum State {
     Comment(u32),
 }
 
+#[tactic(auto, unfolding(places::specs::Scan::sign))]
 fn sign(c: u32) -> bool
     ensures { result ≡ Sign c }
 {
@@ -23,6 +24,7 @@ fn sign(c: u32) -> bool
 }
 
 // Something begins at the character.
+#[tactic(auto, unfolding(places::specs::Scan::opens))]
 fn opens(c: u32) -> bool
     ensures { result ≡ Opens c }
 {
@@ -30,6 +32,7 @@ fn opens(c: u32) -> bool
 }
 
 // After a character that stands between words.
+#[tactic(auto, unfolding(places::specs::Scan::onward))]
 fn onward(c: u32) -> State
     ensures { meant result ≡ Onward c }
 {

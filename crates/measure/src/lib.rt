@@ -21,6 +21,7 @@ const REPEAT0_SEPARATED: u32 = 10;
 const REPEAT1_SEPARATED: u32 = 7;
 
 // What a token adds to the size.
+#[tactic(auto, unfolding(crate::specs::Costs::cost_of))]
 fn token_cost(k: u32) -> u32
     ensures { (result ≡ cost_of k) × (result ≤ 10) }
 {
@@ -43,25 +44,18 @@ fn token_cost(k: u32) -> u32
 }
 
 // The same of an operator.
+#[tactic(auto, unfolding(crate::specs::Costs::repeat_cost_of))]
 fn repeat_cost(k: u32) -> u32
     ensures { (result ≡ repeat_cost_of k) × (result ≤ 10) }
 {
-    if k == tokens::TO_OPTION {
-        return OPTION;
+    match k {
+        tokens::TO_OPTION => OPTION,
+        tokens::TO_REPEAT0 => REPEAT0,
+        tokens::TO_REPEAT1 => REPEAT1,
+        tokens::TO_REPEAT0SEP => REPEAT0_SEPARATED,
+        tokens::TO_REPEAT1SEP => REPEAT1_SEPARATED,
+        _ => 0,
     }
-    if k == tokens::TO_REPEAT0 {
-        return REPEAT0;
-    }
-    if k == tokens::TO_REPEAT1 {
-        return REPEAT1;
-    }
-    if k == tokens::TO_REPEAT0SEP {
-        return REPEAT0_SEPARATED;
-    }
-    if k == tokens::TO_REPEAT1SEP {
-        return REPEAT1_SEPARATED;
-    }
-    0
 }
 
 // The size of the grammar whose tokens are the first `end` numbers.

@@ -1,21 +1,20 @@
 -- The cycle of alternatives, terms and factors: each answer from the answers of what it calls.
 use Rattle.std.specs.Prelude.{Some, None}
-use mathlib.Core.Bool.{Bool, true, false, ◌||◌}
+use mathlib.Core.Bool.{Bool, true, false}
 use mathlib.Core.Path.{◌≡◌, refl, sym, ap, ◌∙◌}
 use mathlib.Core.List.{List, [], ◌∷◌, ◌++◌, append_assoc, append-nil}
 use Prim.Native.Nat.{ℕ, suc, ◌+◌, ◌*◌, ◌-◌, ◌<◌, ◌≤◌}
 use native.Mathlib.Omega.{arith}
 use lib.ListN.{length, drop, take, set}
-use lib.Dec.{eqb}
-use Rattle.text.specs.Lists.{Text, chars}
+use Rattle.text.specs.Lists.{Text}
 use Rattle.tree.specs.Tree.{Symbol, group, option, repeat0, repeat1, repeat0sep, repeat1sep, nil, cons, Body, one, also}
 use Rattle.tree.specs.Tokens.{Token, encode, symbol_tokens, alternative_tokens, body_tokens, close-group, next-alternative, to-option, to-repeat0, to-repeat1, to-repeat0sep, to-repeat1sep}
-use Rattle.syntax.specs.Syntax.{ch, bar, quote, is_mark, namestart}
+use Rattle.syntax.specs.Syntax.{ch, bar}
 use Rattle.syntax.specs.Result.{Result, ok, fail, hd, tl, when, then, map, guard, expect}
 use Rattle.syntax.specs.Spacing.{skip, spaced}
 use Rattle.syntax.specs.Lexical.{separated}
 use Rattle.syntax.specs.Parser.{repeated, suffix, under, starts, single, Alts=, Alt=, Terms=, Term=, Factor=}
-use Rattle.syntax.proofs.Classes.{clash, among-at, at-ch, ch-not}
+use Rattle.syntax.proofs.Classes.{at-ch, ch-not}
 use Rattle.syntax.proofs.Steps.{alt-none=, alt-some=, alts-step, terms-step, term-step, factor-plain, factor-step}
 use Rattle.spacing.specs.Answers.{Step, Skipped, Room, Read, After-token}
 use borrow.Author.Tests.{eqb-true}
@@ -25,51 +24,6 @@ use Rattle.spacing.proofs.Parts.{tail, as-part}
 use Rattle.reader.specs.Answers.{symbol_code, alternative_code, body_code, Repeat, alone, by, repeat-rest, repeat_code, Repeat=, After-repeat, After-plain, After-factor, After-term}
 use Rattle.reader.specs.Answers.{After-terms, After-alternative}
 use Rattle.reader.proofs.Loops.{encode-append, map-twice, Context, room-on, Looping, loop-on, falls-on}
-
--- The first character of a factor.
-or-no-left : (a b : Bool) → a || b ≡ false → a ≡ false
-or-no-left true b e = absurd (clash e refl)
-or-no-left false b e = refl
-
-or-no-right : (a b : Bool) → a || b ≡ false → b ≡ false
-or-no-right true b e = absurd (clash e refl)
-or-no-right false b e = e
-
-pub starts-quote : (c : ℕ) → quote c ≡ true → starts c ≡ true
-unfolding quote starts
-starts-quote c e = among-at (chars "\"'") starts c refl e
-
-pub starts-mark : (c : ℕ) → is_mark c ≡ true → starts c ≡ true
-unfolding is_mark starts
-starts-mark c e = among-at (chars "@^-") starts c refl e
-
-pub starts_char : (c k : ℕ) → starts k ≡ true → c ≡ k → starts c ≡ true
-starts_char c k z e = rw e z
-
-module _ (c : ℕ) (q : quote c ≡ false) (m : is_mark c ≡ false) where
-  not-double : eqb c 0x22 ≡ false
-  unfolding quote
-  not-double = or-no-left _ _ q
-
-  not-single : eqb c 0x27 ≡ false
-  unfolding quote
-  not-single = or-no-left (eqb c 0x27) false (or-no-right (eqb c 0x22) (eqb c 0x27 || false) q)
-
-  not_at : eqb c 0x40 ≡ false
-  unfolding is_mark
-  not_at = or-no-left _ _ m
-
-  not-hat : eqb c 0x5e ≡ false
-  unfolding is_mark
-  not-hat = or-no-left (eqb c 0x5e) (eqb c 0x2d || false) (or-no-right (eqb c 0x40) (eqb c 0x5e || (eqb c 0x2d || false)) m)
-
-  not-minus : eqb c 0x2d ≡ false
-  unfolding is_mark
-  not-minus = or-no-left (eqb c 0x2d) false (or-no-right (eqb c 0x5e) (eqb c 0x2d || false) (or-no-right (eqb c 0x40) (eqb c 0x5e || (eqb c 0x2d || false)) m))
-
-  pub starts-name : eqb c 0x28 ≡ false → eqb c 0x2b ≡ false → eqb c 0x23 ≡ false → eqb c 0x5b ≡ false → eqb c 0x7e ≡ false → starts c ≡ namestart c
-  unfolding starts
-  starts-name e f g h k = rw (not-double, not-single, not_at, not-hat, not-minus, e, f, g, h, k)
 
 -- Alternatives.
 pub alts-none : (d : ℕ) (t : Text) → Alt= d t fail → Alts= d t fail

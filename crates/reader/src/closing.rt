@@ -7,13 +7,11 @@ use decode::CharPlace;
 use spacing::Cell;
 
 // Whether a character is one of two.
+#[tactic(auto, unfolding(crate::specs::Answers::one_of, syntax::specs::Syntax::ch))]
 fn one_of(c: u32, first: u32, second: u32) -> bool
     ensures { result ≡ one_of first second c }
 {
-    if c == first {
-        return true;
-    }
-    c == second
+    c == first || c == second
 }
 
 // Past the spacing after a word, one of two characters, which must follow, and the spacing after that.

@@ -83,31 +83,14 @@ fn plain_factor(text: &[u32], p: CharPlace, out: &mut [u32], at: Cell) -> Option
 }
 
 // What may begin a factor.
+#[tactic(auto, unfolding(syntax::specs::Parser::starts, syntax::specs::Syntax::quote, syntax::specs::Syntax::is_mark))]
 fn starts(c: u32) -> bool
     ensures { result ≡ Starts c }
 {
-    if spacing::quote(c) {
-        return true;
+    match c {
+        OPEN_ROUND | PLUS | NUMBER_SIGN | OPEN_SQUARE | TILDE => true,
+        _ => spacing::quote(c) || spacing::is_mark(c) || spacing::name_start(c),
     }
-    if spacing::is_mark(c) {
-        return true;
-    }
-    if c == OPEN_ROUND {
-        return true;
-    }
-    if c == PLUS {
-        return true;
-    }
-    if c == NUMBER_SIGN {
-        return true;
-    }
-    if c == OPEN_SQUARE {
-        return true;
-    }
-    if c == TILDE {
-        return true;
-    }
-    spacing::name_start(c)
 }
 
 // Alternatives with bars between them; d brackets more may open.

@@ -14,8 +14,8 @@ fn word(text: &[u32], p: CharPlace, w: &[u8]) -> Option<CharPlace>
     ensures { After-word w.now text.now p.0 result }
 {
     let mut at = p;
-    for k in 0..w.len() {
-        if spacing::peek(text, at) != w[k] as u32 {
+    for &b in w {
+        if spacing::peek(text, at) != b as u32 {
             return None;
         }
         at = decode::after(at);

@@ -62,50 +62,30 @@ pub fn whitespace(c: u32) -> bool
     if c == SPACE {
         return true;
     }
-    if category::in_class(CLASS_ZS, c) {
-        return true;
-    }
-    if c == TAB {
-        return true;
-    }
-    if c == LINE_FEED {
-        return true;
-    }
-    c == CARRIAGE_RETURN
+    category::in_class(CLASS_ZS, c) || c == TAB || c == LINE_FEED || c == CARRIAGE_RETURN
 }
 
+#[tactic(auto, unfolding(syntax::specs::Syntax::quote))]
 pub fn quote(c: u32) -> bool
     ensures { result ≡ Quote c }
 {
-    if c == DOUBLE_QUOTE {
-        return true;
-    }
-    c == SINGLE_QUOTE
+    c == DOUBLE_QUOTE || c == SINGLE_QUOTE
 }
 
 // A character of a string whose quote is q, other than the quote.
 pub fn plain(q: u32, c: u32) -> bool
     ensures { result ≡ Plain q c }
 {
-    if c == q {
-        return false;
-    }
-    if text::between(c, 0x20, 0x7e) {
-        return true;
-    }
-    !category::in_class(CLASS_CC, c)
+    c != q && (text::between(c, 0x20, 0x7e) || !category::in_class(CLASS_CC, c))
 }
 
+#[tactic(auto, unfolding(syntax::specs::Syntax::digit))]
 pub fn digit(c: u32) -> bool
     ensures { result ≡ Digit c }
 {
-    if text::between(c, DIGIT_0, DIGIT_9) {
-        return true;
-    }
-    if text::between(c, SMALL_A, SMALL_F) {
-        return true;
-    }
-    text::between(c, CAPITAL_A, CAPITAL_F)
+    text::between(c, DIGIT_0, DIGIT_9)
+        || text::between(c, SMALL_A, SMALL_F)
+        || text::between(c, CAPITAL_A, CAPITAL_F)
 }
 
 pub fn digit_value(c: u32) -> u32
@@ -127,34 +107,25 @@ pub fn capital(c: u32) -> bool
     text::between(c, CAPITAL_A, CAPITAL_Z)
 }
 
+#[tactic(auto, unfolding(syntax::specs::Syntax::letter))]
 pub fn letter(c: u32) -> bool
     ensures { result ≡ Letter c }
 {
-    if capital(c) {
-        return true;
-    }
-    text::between(c, SMALL_A, SMALL_Z)
+    capital(c) || text::between(c, SMALL_A, SMALL_Z)
 }
 
+#[tactic(auto, unfolding(syntax::specs::Syntax::bar))]
 pub fn bar(c: u32) -> bool
     ensures { result ≡ Bar c }
 {
-    if c == SEMICOLON {
-        return true;
-    }
-    c == VERTICAL_LINE
+    c == SEMICOLON || c == VERTICAL_LINE
 }
 
+#[tactic(auto, unfolding(syntax::specs::Syntax::is_mark))]
 pub fn is_mark(c: u32) -> bool
     ensures { result ≡ is_mark c }
 {
-    if c == AT_SIGN {
-        return true;
-    }
-    if c == CARET {
-        return true;
-    }
-    c == HYPHEN
+    c == AT_SIGN || c == CARET || c == HYPHEN
 }
 
 // The numbers of marks.
@@ -165,69 +136,38 @@ const ATTRIBUTE: u32 = 2;
 const DELETED: u32 = 3;
 
 // The number of a mark.
+#[tactic(auto, unfolding(syntax::specs::Syntax::mark_of))]
 pub fn mark_number(c: u32) -> u32
     ensures { result ≡ mark_number (mark_of c) }
 {
-    if c == AT_SIGN {
-        return ATTRIBUTE;
+    match c {
+        AT_SIGN => ATTRIBUTE,
+        CARET => INCLUDED,
+        _ => DELETED,
     }
-    if c == CARET {
-        return INCLUDED;
-    }
-    DELETED
 }
 
 pub fn name_start(c: u32) -> bool
     ensures { result ≡ namestart c }
 {
-    if letter(c) {
+    if letter(c) || c == UNDERSCORE {
         return true;
     }
-    if c == UNDERSCORE {
-        return true;
-    }
-    if c < PAST_ASCII {
-        return false;
-    }
-    category::in_class(CLASS_L, c)
+    PAST_ASCII <= c && category::in_class(CLASS_L, c)
 }
 
 // The connectors of a name: -.·‿⁀
 fn connector(c: u32) -> bool
     ensures { result ≡ among c (Points "-.·‿⁀") }
 {
-    if c == HYPHEN {
-        return true;
-    }
-    if c == FULL_STOP {
-        return true;
-    }
-    if c == MIDDLE_DOT {
-        return true;
-    }
-    if c == UNDERTIE {
-        return true;
-    }
-    c == CHARACTER_TIE
+    c == HYPHEN || c == FULL_STOP || c == MIDDLE_DOT || c == UNDERTIE || c == CHARACTER_TIE
 }
 
 pub fn name_follower(c: u32) -> bool
     ensures { result ≡ namefollower c }
 {
-    if text::between(c, DIGIT_0, DIGIT_9) {
+    if text::between(c, DIGIT_0, DIGIT_9) || name_start(c) || connector(c) {
         return true;
     }
-    if name_start(c) {
-        return true;
-    }
-    if connector(c) {
-        return true;
-    }
-    if c < PAST_ASCII {
-        return false;
-    }
-    if category::in_class(CLASS_ND, c) {
-        return true;
-    }
-    category::in_class(CLASS_MN, c)
+    PAST_ASCII <= c && (category::in_class(CLASS_ND, c) || category::in_class(CLASS_MN, c))
 }

@@ -79,9 +79,6 @@ module _ (t : List ℕ) (h : Named t 0) where
       pub other-second : (get_or t 3 0 ≡ 0x2e → ⊥) → false ≡ same (name_at t 0) (chars "1.0")
       other-second f = sym (is-three ∙ rw (eq-eqb (get_or t 2 0) 0x31 a, ne_eqb (get_or t 3 0) 0x2e f))
 
-      pub by-third : get_or t 3 0 ≡ 0x2e → eqb (get_or t 4 0) 0x30 ≡ same (name_at t 0) (chars "1.0")
-      by-third b = sym (is-three ∙ rw (eq-eqb (get_or t 2 0) 0x31 a, eq-eqb (get_or t 3 0) 0x2e b) (and-true (eqb (get_or t 4 0) 0x30)))
-
 -- a name that a place of the list has is in it
 or_right : (b : Bool) {c : Bool} → c ≡ true → (b || c) ≡ true
 or_right true e = refl

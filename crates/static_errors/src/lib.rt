@@ -71,6 +71,7 @@ impl StaticError {
 }
 
 // A surrogate or noncharacter.
+#[tactic(auto, unfolding(plain::specs::Static::unassignable))]
 fn unassignable(v: u32) -> bool
     ensures { result ≡ noCharacter v }
 {

@@ -1,13 +1,13 @@
 -- Laws of names: what a token that holds one says, and names compared by their places.
 use mathlib.Core.Bool.{Bool, true, false, ◌&&◌}
 use mathlib.Core.List.{List, ◌++◌, append_assoc}
-use mathlib.Core.Path.{◌≡◌, refl, sym, ap, ap₂, ◌∙◌, subst}
+use mathlib.Core.Path.{◌≡◌, refl, sym, ap, ◌∙◌, subst}
 use Prim.Native.Nat.{ℕ, zero, suc, ◌+◌, ◌<◌, ◌≤◌}
 use native.Mathlib.Omega.{arith}
 use native.Mathlib.Numerals.{add-one}
 use borrow.Author.Tests.{eq-eqb, ne_eqb}
 use lib.Dec.{T as Holds, eqb}
-use lib.ListN.{length, get_or, take, drop, length-append, length-drop, length-take, drop_of_length-le, get_or-append}
+use lib.ListN.{length, get_or, take, drop, length-append, length-drop, length-take, drop_of_length-le}
 use lib.Seq.{get_or-take, get_or-drop, drop-drop, drop-cons, take-append_seam}
 use Rattle.text.specs.Lists.{Text, same}
 use Rattle.text.proofs.Lists.{same-lengths}
@@ -26,9 +26,6 @@ module _ {T : List ℕ} {a : ℕ} {x : Text} (h : Holding T a x) where
 
   pub held-count : get_or T (a + 1) 0 ≡ length x
   held-count = ap (λ (k : ℕ). get_or T k 0) (let z : a + 1 ≡ a + 1 + 0 = omega arith in z) ∙ held_at 0
-
-  pub held-letter : (j : ℕ) → j < length x → get_or T (a + 2 + j) 0 ≡ get_or x j 0
-  held-letter j l = ap (λ (k : ℕ). get_or T k 0) (let z : a + 2 + j ≡ a + 1 + suc j = omega arith in z) ∙ held_at (suc j) ∙ get_or-append x h.more 0 j l
 
   pub held-name : name_at T a ≡ x
   held-name =
@@ -114,11 +111,3 @@ module _ (t : List ℕ) (a b : ℕ) (h : Names t a b) where
         right = w.right;
         on = on-next ∙ rw (eq-eqb (get_or t (a + 2 + i) 0) (get_or t (b + 2 + i) 0) e);
       }
-
--- a place at which no count with its characters stands holds nothing
-pub not-held : (T : List ℕ) (a n : ℕ) (x : Text) → n ≡ get_or T (a + 1) 0 → length T < a + 2 + n → Holding T a x → ⊥
-not-held T a n x e l h = omega (arith, held_fits h, held-count h)
-
--- what two tokens hold
-pub same-held : {T : List ℕ} {a b : ℕ} {x y : Text} (r : Bool) → Holding T a x → Holding T b y → r ≡ same (name_at T a) (name_at T b) → r ≡ same x y
-same-held r h k e = e ∙ ap₂ same (held-name h) (held-name k)

@@ -90,6 +90,7 @@ pub enum Form {
 
 impl Form {
     // The form of a kind of tokens.
+    #[tactic(auto, unfolding(crate::specs::Lengths::form_of))]
     pub fn of(kind: u32) -> Form
         ensures { form_number result ≡ form_of kind }
     {
@@ -112,6 +113,7 @@ impl Form {
     }
 
     // The same of the kinds that have no mark.
+    #[tactic(auto, unfolding(crate::specs::Lengths::late_form))]
     fn of_late(kind: u32) -> Form
         ensures { form_number result ≡ late_form kind }
     {
@@ -156,10 +158,7 @@ pub const CLASS_CELLS: usize = 3;
 pub fn look(t: &[u32], i: usize) -> usize
     ensures { (result ≡ get_or t.now i 0) × (result < 4294967296) }
 {
-    if i < t.len() {
-        return t[i] as usize;
-    }
-    0
+    if i < t.len() { t[i] as usize } else { 0 }
 }
 
 // The place after the token at k.
@@ -213,6 +212,7 @@ pub fn same_if_named(table: &[u32], a: usize, b: usize) -> bool
 }
 
 // How many characters of a record the terminal whose token stands at k takes.
+#[tactic(auto, unfolding(crate::specs::Lengths::terminal_width))]
 pub fn terminal_width(table: &[u32], k: usize) -> usize
     requires { k < 4294967296 }
     ensures { (result ≡ width_at table.now k) × (result < 4294967296) }

@@ -1,5 +1,4 @@
 use native.Mathlib.Omega.{arith}
-use Prim.Native.Nat.{◌-◌}
 use Rattle.measure.proofs.Sizes.{sum-start, sum-steps, sum-next, sum_done}
 use Rattle.measure.proofs.grammar_size.Goals as goal
 

@@ -1,11 +1,6 @@
-use Prim.Native.Nat.{◌-◌}
-use lib.ListN.{length}
 use Rattle.syntax.specs.Lexical.{run}
 use Rattle.lexical.proofs.Copies.{Copying}
 use Rattle.lexical.proofs.names.copy_run.Given as goal
 
-abbrev pub invariant-loop-from : goal.invariant-loop-from
-invariant-loop-from l = Copying run l.text l.initial.from.0 l.initial.out l.initial.to.0 l.out l.from.0 l.to.0
-
-abbrev pub decreases-loop-from : goal.decreases-loop-from
-decreases-loop-from l = length l.text - l.from.0
+abbrev pub invariant-loop-i : goal.invariant-loop-i
+invariant-loop-i l = Copying run l.text l.fn.p.0 l.initial.out l.initial.to.0 l.out l.i l.to.0

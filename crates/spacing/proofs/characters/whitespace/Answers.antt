@@ -1,5 +1,5 @@
 use mathlib.Core.Path.{sym, ap, ◌∙◌}
-use borrow.Author.Tests.{ne_eqb}
+use borrow.Author.Rules.{rules}
 use Rattle.syntax.specs.Syntax.{whitespace}
 use Rattle.spacing.proofs.Tests.{is-zs}
 use Rattle.spacing.proofs.Ascii.{not_white, space-white}
@@ -11,19 +11,10 @@ returns-then-between c = sym (not_white _ (sym c.between.ensures ∙ c.if-betwee
 pub returns-then-c-eq-SPACE : goal.returns-then-c-eq-SPACE
 returns-then-c-eq-SPACE c = sym (ap whitespace c.if-c-eq-SPACE.true ∙ space-white)
 
-pub returns-then-in_class : goal.returns-then-in_class
-unfolding whitespace
-returns-then-in_class c = rw (is-zs _ c.in_class.ensures ∙ c.if-in_class.true)
-
-pub returns-then-c-eq-TAB : goal.returns-then-c-eq-TAB
-unfolding whitespace
-returns-then-c-eq-TAB c = rw (is-zs _ c.in_class.ensures ∙ c.if-in_class.false, c.if-c-eq-TAB.true)
-
 pub returns-then-c-eq-LINE_FEED : goal.returns-then-c-eq-LINE_FEED
 unfolding whitespace
-returns-then-c-eq-LINE_FEED c = rw (is-zs _ c.in_class.ensures ∙ c.if-in_class.false, c.if-c-eq-LINE_FEED.true)
+returns-then-c-eq-LINE_FEED c = rw (is-zs _ c.in_class.ensures) (search rules)
 
-pub returns : goal.returns
+pub returns-else-c-eq-LINE_FEED : goal.returns-else-c-eq-LINE_FEED
 unfolding whitespace
-returns c =
-    rw (is-zs _ c.in_class.ensures ∙ c.if-in_class.false, ne_eqb _ _ c.if-c-eq-TAB.false, ne_eqb _ _ c.if-c-eq-LINE_FEED.false)
+returns-else-c-eq-LINE_FEED c = rw (is-zs _ c.in_class.ensures) (search rules)
