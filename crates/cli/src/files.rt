@@ -74,7 +74,8 @@ fn fill<R: Read>(reader: &mut R, buf: &mut [u8]) -> io::Result<usize>
     Ok(done)
 }
 
-// How many of a file's first bytes the buffer took, all that it has room for; nothing, if a read failed. Then the file is closed.
+// How many of a file's first bytes the buffer took, all that it has room for; nothing, if a read failed. Then the file is
+// closed.
 pub fn load<R: Read + Drop>(mut file: R, buf: &mut [u8]) -> Option<usize>
     ensures bound { IfSome result (λ n. n ≤ length buf.new) }
     ensures known { IfSome (R.remaining file) (λ bs. IfSome result (λ n. take n buf.new ≡ take (length buf.old) bs)) }

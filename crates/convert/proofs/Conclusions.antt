@@ -1,7 +1,7 @@
 -- From the judgment and the writer's answer to the conclusion.
 use mathlib.Core.Bool.{Bool, true, false, true≢false}
-use mathlib.Core.Path.{◌≡◌, refl, sym, ap, ◌∙◌, subst}
-use mathlib.Core.Logic.{inl, inr, ⊎_elim}
+use mathlib.Core.Path.{◌≡◌, refl, sym, ◌∙◌, subst}
+use mathlib.Core.Logic.{inr, ⊎_elim}
 use mathlib.Core.List.{List}
 use Prim.Native.Nat.{ℕ, ◌*◌, ◌<◌, ◌≤◌}
 use native.Mathlib.Omega.{arith}
@@ -17,11 +17,10 @@ use Rattle.left_parse.specs.Noted.{Noted, Parsed, Room}
 use Rattle.writer.specs.Whole.{Job, SomeJob, Writable, Answered}
 use Rattle.extent.specs.Extent.{Covers}
 use Rattle.dynamic_errors.specs.declared.DynamicError.{DynamicError}
-use Rattle.dynamic_errors.specs.declared.DynamicError.TheVariants.{RepeatedAttribute, NotXmlName, NotXmlCharacter, AttributeRoot, DeletedRoot, AttributeXmlns}
 use Rattle.dynamic_errors.specs.declared.Review.{Review}
-use Rattle.dynamic_errors.specs.Judgment.{topmost, judgment_of, error_number, verdict_number, Judged}
+use Rattle.dynamic_errors.specs.Judgment.{topmost, judgment_of, verdict_number, Judged}
 use Rattle.convert.specs.declared.ConvertError.{ConvertError}
-use Rattle.convert.specs.declared.ConvertError.TheVariants.{Forbidden, TooLong}
+use Rattle.convert.specs.declared.ConvertError.TheVariants.{TooLong}
 use Rattle.convert.specs.Concluded.{refusal_number, Parsing, Ready, Annotated, Written, NotWritten, Concludes}
 
 -- where no line applies, no test holds
@@ -43,15 +42,6 @@ writable g r t e =
     let d = document g r t in
     let w = clear (twice d) (misnamed d) (unwritable d) (is_attribute (mark_of g (root g))) (not_one d) (namespaced d) e in
     record { names = w.names; chars = w.chars; one = w.one }
-
--- an error has a number
-some-number : (e : DynamicError) → error_number e ≡ 0 → ⊥
-some-number RepeatedAttribute h = omega arith
-some-number NotXmlName h = omega arith
-some-number NotXmlCharacter h = omega arith
-some-number AttributeRoot h = omega arith
-some-number DeletedRoot h = omega arith
-some-number AttributeXmlns h = omega arith
 
 -- what is promised of an answer, by its case
 module _ (g : Grammar) (r : Text) (t : Row) (a m : Bool) (old new : List ℕ) where
@@ -93,9 +83,6 @@ module _ {T : List ℕ} {root : ℕ} {P : List ℕ} {r : Text} where
       some-later w = record { g = w.g; t = w.t; job = later-job w.parsing }
 
       module _ (g : Grammar) (t : Row) (a m : Bool) (old : List ℕ) (p : Parsing T root P r g t) where
-        pub forbidden : (e : DynamicError) → v.verdict ≡ Err e → Concludes g r t a m old old (Err (Forbidden e))
-        forbidden e q = promised g r t a m old old (Err (Forbidden e)) (record { why = inl (sym (ap verdict_number q) ∙ j.is g t (its-job p), some-number e); buffer = refl })
-
         module _ (z : true ≡ is_ok v.verdict) (new : List ℕ) (x : Option ℕ)
             (w : Job T root P r S' g t → Writable g r t → Covers v.extent (document g r t) → Answered (bytes a m (document g r t)) old new x) where
           allowed : judgment_of g r t ≡ 0

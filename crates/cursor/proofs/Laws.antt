@@ -67,16 +67,5 @@ none_above h = omega arith
 pub above-none : {v : ℕ} → 0 < v → v ≡ 0 → ⊥
 above-none h z = omega arith
 
--- the kind of an item, by what was found of it
-module _ {k n : ℕ} (e : k ≡ n) where
-  pub five-at : 5 ≤ k → 5 ≤ n
-  five-at h = omega arith
-
-  pub at-most-four : (n ≡ 0 → ⊥) → (k ≡ 1 → ⊥) → k < 5 → (2 ≤ n) × (n ≤ 4)
-  at-most-four z a b = (omega arith, omega arith)
-
-  pub fourth : (2 ≤ n) × (n ≤ 4) → (k ≡ 2 → ⊥) → (k ≡ 3 → ⊥) → n ≡ 4
-  fourth h a b = omega arith
-
-  pub not-two : k ≡ 3 → n ≡ 2 → ⊥
-  not-two a b = omega arith
+pub not-two : {k n : ℕ} → k ≡ n → k ≡ 3 → n ≡ 2 → ⊥
+not-two e a b = omega arith

@@ -23,10 +23,6 @@ pub puts_none : (l : ℕ) (s : State) → puts l s [] ≡ s
 unfolding puts
 puts_none l s = refl
 
-pub puts-cons : (l : ℕ) (s : State) (x : ℕ) (xs : List ℕ) → puts l (puts l s (x ∷ [])) xs ≡ puts l s (x ∷ xs)
-unfolding puts
-puts-cons l s x xs = refl
-
 -- two writes, one after the other
 pub then : (l : ℕ) (a : State) {b c : State} (xs ys : List ℕ) → b ≡ puts l a xs → c ≡ puts l b ys → c ≡ puts l a (xs ++ ys)
 then l a xs ys p q = q ∙ rw p (sym (puts-append l a xs ys))

@@ -1,12 +1,9 @@
 -- The code's constants as the definitions write them.
-use mathlib.Core.Bool.{Bool}
-use mathlib.Core.Path.{◌≡◌, refl, sym, ap, ◌∙◌}
+use mathlib.Core.Path.{◌≡◌, refl}
 use lib.Ieee.{Float, nan, inf, fin, binary64, of_bits, of_int}
 use Rattle.std.specs.Float.{float_is_finite}
 use Rattle.decimal.specs.Nearest.{finite}
 use Rattle.decimal.specs.Value.{num}
-use Rattle.gate.specs.Gate.{beyond}
-use Rattle.gate.specs.declared.Position.{Position}
 
 pub ninety : of_bits binary64 0x4056_8000_0000_0000 ≡ num 90
 unfolding of_bits of_int
@@ -15,10 +12,6 @@ ninety = refl
 pub half_turn : of_bits binary64 0x4066_8000_0000_0000 ≡ num 180
 unfolding of_bits of_int
 half_turn = refl
-
--- what the code finds of the latitude of p, found of an equal position
-pub latitude-beyond : {p q : Position} {b : Bool} → p ≡ q → beyond (of_bits binary64 0x4056_8000_0000_0000) p.lat.0 ≡ b → beyond (num 90) q.lat.0 ≡ b
-latitude-beyond {p} e h = ap (λ (q : Position). beyond (num 90) q.lat.0) (sym e) ∙ sym (ap (λ (m : Float). beyond m p.lat.0) ninety) ∙ h
 
 -- the kit's test of a finite number
 pub finite_law : (x : Float) → float_is_finite x ≡ finite x

@@ -64,9 +64,6 @@ module _ {T : List ℕ} {g : Grammar} {starts : Starts} where
   alternatives-of rule (st-name {p = p} {n = n} k r a) l = rule (target_at T p) (nonterminal unmarked n) a
   alternatives-of rule (st-made {p = p} {s = s} q k r a) l = rule (target_at T p) s a
 
-  pub ends-kind : {p : ℕ} → Spells T g starts p [] → 5 ≤ kind_at T p
-  ends-kind (sp_end k) = ⊎_elim (λ e. omega arith) (λ e. omega arith) k
-
   pub first-stands : {p : ℕ} {s : Symbol} {ss : List Symbol} → Spells T g starts p (s ∷ ss) → Stands T g starts p s
   first-stands (sp-item st sp) = st
 

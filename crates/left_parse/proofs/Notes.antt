@@ -43,9 +43,6 @@ module _ {T P S F : List ℕ} {h : Position} {e₁ i₁ : ℕ} where
           let z : h.place.0 + w ≡ m = ap (λ (n : ℕ). h.place.0 + n) (wide.is x R) ∙ sym q in
           record { g = G.g; r = G.r; starts = G.starts; row = t; ss = ss; fs = G.fs; under = G.under; walk = rw z (walk-leaf W); scratch = G.scratch; noted = G.noted; room = G.room }
 
-  pub leaf-inside : Going T P S h F e₁ i₁ → kind_at T h.item ≡ 1 → (w : ℕ) → Wide T (token_at T h.item) w → h.place.0 + w < 4294967296
-  leaf-inside G k w wide = let N = going-leaf G k w wide in omega (arith, place_inside N.walk, N.walk.record-length)
-
   -- a node
   pub going-enter : Going T P S h F e₁ i₁ → 2 ≤ kind_at T h.item → kind_at T h.item ≤ 4 → (to : ℕ) → Found T (target_at T h.item) (get_or P h.entry 0) to
       → (h.entry < length P) × Going T P (set (set S (2 * h.entry) h.inner) (2 * h.entry + 1) h.item) (spot to (h.entry + 1) h.place.0 (h.entry + 1)) F e₁ i₁

@@ -192,14 +192,7 @@ fn step(table: &[u32], parse: &[u32], scratch: &mut [u64], h: Position) -> Posit
 {
     let k = items::kind_at(table, h.item);
     if k == TERMINAL {
-        let w = tokens::terminal_width(table, items::token_at(table, h.item));
-        let place = h.place;
-        return Position {
-            item: h.item + 1,
-            entry: h.entry,
-            place: CharPlace(place.0 + w),
-            inner: h.inner,
-        };
+        return skip(table, h);
     }
     if k < ALTERNATIVE_END {
         return enter(table, parse, scratch, h);

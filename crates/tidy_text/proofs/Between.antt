@@ -1,6 +1,5 @@
 -- What stands before a token, and whether a list begins after it, by its kind's number.
-use mathlib.Core.Bool.{Bool, true, false}
-use mathlib.Core.Path.{◌≡◌, refl, sym, ap, ◌∙◌}
+use mathlib.Core.Path.{◌≡◌, refl, ap, ◌∙◌}
 use mathlib.Core.Logic.{⊎_elim}
 use mathlib.Core.List.{List, [], ◌∷◌}
 use Prim.Native.Nat.{ℕ, zero, suc, ◌<◌, ◌≤◌}
@@ -10,7 +9,7 @@ use borrow.Author.Tests.{eq-eqb, ne_eqb, lt-ltb, le-ltb}
 use Rattle.text.specs.Lists.{Text, chars, pick}
 use Rattle.text.proofs.Tests.{split}
 use Rattle.tree.specs.Tokens.{Token}
-use Rattle.tidy.specs.Scan.{Kind, opening, single, member, closing, heading, other, kind_of, depth, past, joint, before, begins}
+use Rattle.tidy.specs.Scan.{Kind, opening, single, member, closing, heading, other, kind_of, depth, past, joint, before}
 use Rattle.tidy.specs.Numbers.{kind_by, joint_by}
 
 -- the joint, by what stands behind the factor
@@ -118,37 +117,3 @@ module _ (k : ℕ) (j : Text) where
       (λ l. by closing (a-group-end k (omega arith) h l) refl)
       (λ l. ⊎_elim (λ m. by heading (a-bar k (omega arith) l m) refl) (λ m. by other (an-operator k (omega arith) m) refl) (split k 34))
       (split k 33)
-
-module _ (k : ℕ) where
-  begun : {b : Bool} (c : Kind) → kind_by k ≡ c → begins c ≡ b → b ≡ begins (kind_by k)
-  begun c e q = sym (ap begins e ∙ q)
-
-  pub begins-no : k < 12 → false ≡ begins (kind_by k)
-  begins-no h = begun single (below_set k h) refl
-
-  pub begins-yes : 12 ≤ k → k < 24 → true ≡ begins (kind_by k)
-  begins-yes h i = ⊎_elim (λ l. begun opening (a-set k h l) refl) (λ l. begun heading (a-head k l i) refl) (split k 20)
-
-  pub begins-group : k ≡ 31 → true ≡ begins (kind_by k)
-  begins-group e = begun opening (a-group k (omega arith) (omega arith) (omega arith)) refl
-
-  pub begins-bar : k ≡ 33 → true ≡ begins (kind_by k)
-  begins-bar e = begun heading (a-bar k (omega arith) (omega arith) (omega arith)) refl
-
-  pub begins-not : 24 ≤ k → (k ≡ 31 → ⊥) → (k ≡ 33 → ⊥) → false ≡ begins (kind_by k)
-  begins-not h f g = ⊎_elim (λ l. begun member (a-member k h l) refl) (λ l. after l) (split k 28)
-    where
-      after : 28 ≤ k → false ≡ begins (kind_by k)
-      after h = ⊎_elim
-          (λ l. begun closing (a-set-end k h l) refl)
-          (λ l. ⊎_elim
-          (λ m. begun single (an-insertion k h l m) refl)
-          (λ m. ⊎_elim
-          (λ (n : k < 32). absurd (f (omega arith)))
-          (λ n. ⊎_elim
-          (λ p. begun closing (a-group-end k h n p) refl)
-          (λ p. ⊎_elim (λ (q : k < 34). absurd (g (omega arith))) (λ q. begun other (an-operator k h q) refl) (split k 34))
-          (split k 33))
-          (split k 32))
-          (split k 31))
-          (split k 29)

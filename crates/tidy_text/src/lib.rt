@@ -133,7 +133,8 @@ impl TidyError {
     }
 }
 
-// The count of the tidy text's bytes; or 28, and then 23: the text is written into 4,096 local bytes first, so that 28 is told whatever buffer is lent.
+// The count of the tidy text's bytes; or 28, and then 23: the text is written into 4,096 local bytes first, so that 28 is told
+// whatever buffer is lent.
 pub fn tidy(t: &[u32], end: usize, res: &mut [u8]) -> Result<usize, TidyError>
     requires { SomeLeft t.now end 0 }
     ensures { (ts : List Token) → Left t.now end 0 ts → AllFit ts

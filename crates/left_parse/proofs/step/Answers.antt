@@ -1,10 +1,10 @@
 use mathlib.Core.Path.{◌≡◌, sym, ◌∙◌}
 use Prim.Native.Nat.{ℕ, ◌≤◌, ◌<◌}
 use native.Mathlib.Omega.{arith}
-use Rattle.left_parse.specs.Steps.{Wide}
-use Rattle.left_parse.proofs.Items.{spells-kind, wide_of}
-use Rattle.left_parse.proofs.Walks.{item-inside, positive}
-use Rattle.left_parse.proofs.Notes.{stepped-leaf, leaf-inside, enters-fit, stepped-enter, leaves-fit, stepped-leave}
+use Rattle.left_parse.proofs.Items.{spells-kind}
+use Rattle.left_parse.proofs.Walks.{positive}
+use Rattle.left_parse.proofs.Notes.{stepped-leaf, enters-fit, stepped-enter, leaves-fit, stepped-leave}
+use Rattle.left_parse.proofs.After.{small_of}
 use Rattle.left_parse.proofs.step.Goals as goal
 
 two : (k n : ℕ) → k ≡ n → (k ≡ 1 → ⊥) → k < 5 → (n ≡ 0 → ⊥) → (2 ≤ n) × (n ≤ 4)
@@ -13,23 +13,13 @@ two k n e a b z = omega arith
 five : (k n : ℕ) → k ≡ n → 5 ≤ k → 5 ≤ n
 five k n e h = omega arith
 
-pub overflow_add-result : goal.overflow_add-result
-overflow_add-result c = let G = c.requires.by_index.3 in omega (arith, item-inside G.walk, G.walk.table)
-
-pub overflow_add-result-then-k-eq-TERMINAL : goal.overflow_add-result-then-k-eq-TERMINAL
-overflow_add-result-then-k-eq-TERMINAL c =
-    let k = sym c.kind_at-k.ensures ∙ c.if-k-eq-TERMINAL.true in
-    let w : Wide c.args.table.now _ c.terminal_width-w.result = wide_of _
-    c.terminal_width-w.ensures.0 c.token_at.ensures.0
-    c.terminal_width-w.ensures.1 in
-    omega (arith, leaf-inside c.requires.by_index.3 k c.terminal_width-w.result w)
+pub skip-requires : goal.skip-requires
+skip-requires c = small_of c.requires.by_index.3.walk
 
 pub returns-then-k-eq-TERMINAL : goal.returns-then-k-eq-TERMINAL
 returns-then-k-eq-TERMINAL c =
-    let k = sym c.kind_at-k.ensures ∙ c.if-k-eq-TERMINAL.true in
-    stepped-leaf c.requires.by_index.3 k c.terminal_width-w.result
-    (wide_of _ c.terminal_width-w.ensures.0 c.token_at.ensures.0
-    c.terminal_width-w.ensures.1)
+    let s = c.skip.ensures in
+    rw s.spot (stepped-leaf c.requires.by_index.3 (sym c.kind_at-k.ensures ∙ c.if-k-eq-TERMINAL.true) s.w s.wide)
 
 pub enter-requires : goal.enter-requires
 enter-requires c =
