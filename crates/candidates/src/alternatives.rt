@@ -16,6 +16,7 @@ fn alternative_end(code: &[u32], q: usize) -> usize
     ensures { Ends code.now q result }
 {
     let mut p = q;
+    // A search: where it ends is what is asked.
     while number_at(code, CODE_COLUMNS * p) != AFTER_ALTERNATIVE {
         p += 1;
     }
@@ -47,6 +48,7 @@ pub fn find_alternative(
 {
     let mut q = first;
     let mut a = 0;
+    // Along the links of the alternatives, not over a range.
     while k < alternative_height(code, marks, notes, main, q, s) {
         q = next_alternative(code, q) - 1;
         a += 1;
@@ -91,6 +93,7 @@ pub fn other_alternative(
 {
     let mut q = first;
     let mut a = 0;
+    // Along the links of the alternatives, not over a range.
     loop {
         if another_derives(code, marks, notes, main, q, s, a == number) {
             return true;

@@ -30,6 +30,7 @@ pub fn find_end(
     }
     let x = rest_cells(code, p, s);
     let mut m = next_end(main, x, first_end(code, p, s), s.j);
+    // From one end that may do to the next.
     while k < split(code, marks, notes, main, p, s, m) {
         m = next_end(main, x, CharPlace(m.0 + 1), s.j);
     }
@@ -56,6 +57,7 @@ pub fn other_end(
     }
     let x = rest_cells(code, p, s);
     let mut l = first_end(code, p, s);
+    // From one end that may do to the next.
     while l.0 <= s.j.0 {
         let here = next_end(main, x, l, s.j);
         l = CharPlace(here.0 + 1);

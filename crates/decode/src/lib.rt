@@ -89,6 +89,7 @@ fn scan(
 {
     let mut at = from;
     let mut n = CharPlace(0);
+    // A character may take several bytes.
     while at.0 < bytes.len() {
         let i = at.0;
         let mut s = lead_of(bytes[i]);

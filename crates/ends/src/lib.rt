@@ -71,6 +71,7 @@ fn lead(code: &[u32], marks: &[u8], s: Start, q: usize) -> Spot
     let past = s.n + 1;
     let mut p = q;
     let mut x = s.m;
+    // As far as terminals stand.
     while code[CODE_COLUMNS * p] == AT_TERMINAL {
         if marks[reach::PLACE * x + p] < FITS {
             return Spot { p, x: past };
@@ -100,6 +101,7 @@ fn alternative(code: &[u32], marks: &[u8], main: &mut [u32], s: Start, q: usize)
     let mut cur = [0u32; 8];
     bits::put(&mut cur, x);
     let mut p = spot.p;
+    // As far as the alternative goes.
     while code[CODE_COLUMNS * p] != AT_END {
         let mut next = [0u32; 8];
         moves::step(

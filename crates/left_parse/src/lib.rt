@@ -57,6 +57,7 @@ fn pass(table: &[u32], item: usize) -> usize
     ensures { Passed table.now item result }
 {
     let mut p = item;
+    // A search: where it ends is what is asked.
     while symbolic(table, p) {
         p += 1;
     }

@@ -20,6 +20,7 @@ fn copy_quoted(
 {
     let mut from = p;
     let mut to = at;
+    // A doubled quote takes two characters.
     while from.0 < text.len() {
         let i = from.0;
         let j = to.0;

@@ -91,6 +91,7 @@ fn raise(
         marks.new missing.new queue.new size Always }
 {
     let mut q = p;
+    // As far back as what stands after each dot derives some text.
     while marks[q] && marks[SURE + q] {
         q -= 1;
         mark(code, size, marks, missing, queue, q);
@@ -163,6 +164,7 @@ fn drain(
         marks.new missing.new queue.new }
 {
     let mut head = 0;
+    // The queue grows as it is read.
     while head < text::wide(queue[QUEUE_TAIL]) {
         head += 1;
         let e = text::wide(queue[head]);

@@ -170,6 +170,7 @@ fn fill_column(
     let n = s.n;
     let j = s.j;
     let mut i = s.j.0;
+    // From one touched start to the next.
     while 0 < i {
         i -= 1;
         let shorter = Stretch {

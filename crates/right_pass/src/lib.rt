@@ -117,6 +117,7 @@ fn close(
     ensures { Closed code.now size marks.old work.old marks.new work.new j }
 {
     let mut head = 0;
+    // The queue grows as it is read.
     while head < text::wide(work[TAIL]) {
         head += 1;
         let x = text::wide(work[head]);

@@ -60,6 +60,7 @@ fn carry(
 {
     let mut dot = o.dot;
     let mut height = o.height;
+    // Leftward as long as heights fall.
     while put(code, marks, notes, main, queue, Offer { dot, height }, s) {
         if dot == 0 {
             return;

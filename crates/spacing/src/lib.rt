@@ -91,6 +91,7 @@ fn comment(text: &[u32], p: CharPlace, d: usize) -> Option<CharPlace>
     ensures { After-comment text.now p.0 d result }
 {
     let mut at = p;
+    // An inner comment is passed at once.
     while at.0 < text.len() {
         let i = at.0;
         let c = text[i];
@@ -115,6 +116,7 @@ pub fn skip(text: &[u32], p: CharPlace) -> Option<CharPlace>
     ensures { After-skip text.now p.0 result }
 {
     let mut at = p;
+    // A comment is passed at once.
     while at.0 < text.len() {
         let i = at.0;
         let c = text[i];

@@ -107,6 +107,7 @@ fn least_split(code: &[u32], marks: &[u8], notes: &[u32], main: &[u32], p: usize
     let x = rest_cells(code, p, s);
     let mut v = NONE;
     let mut m = first_end(code, p, s);
+    // From one end that may do to the next.
     while m.0 <= s.j.0 {
         let e = next_end(main, x, m, s.j);
         let w = split(code, marks, notes, main, p, s, e);

@@ -111,6 +111,7 @@ fn follow(
     let mut cur = [0u32; 8];
     take_row(sets, RULES + t.rule, &mut cur);
     let mut p = q;
+    // As long as places come in.
     while visit(code, sets, queue, size, p, &mut cur) {
         let mut next = [0u32; 8];
         moves::step(

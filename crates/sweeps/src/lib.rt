@@ -225,6 +225,7 @@ pub fn fill(code: &[u32], fits: &[u8], size: usize, n: usize, main: &mut [u32])
 {
     clear(main, size * ((n + 1) * (n + 2) / 2));
     let mut height = 0;
+    // Until a sweep adds nothing.
     while sweep(code, fits, size, n, height, main) {
         height += 1;
     }
