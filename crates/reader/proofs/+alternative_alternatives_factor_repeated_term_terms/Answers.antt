@@ -20,9 +20,6 @@ alternative-terms-requires t c =
     let pre = c.requires in
     (falls_at t (length args.text.now) args.p.0 args.p.0 4 3 (omega arith) pre.place c.decreases (omega arith), pre)
 
-pub alternative-shape_of-out-then-starts : goal.alternative-shape_of-out-then-starts
-alternative-shape_of-out-then-starts t c = c.terms.auto.out
-
 pub alternative-returns-then-starts : goal.alternative-returns-then-starts
 alternative-returns-then-starts t c =
     let args = c.args in
@@ -50,18 +47,10 @@ alternatives-alternative-requires t c =
       c.loop-q.invariant.room,
     )
 
-pub alternatives-shape_of-out-in_err-q : goal.alternatives-shape_of-out-in_err-q
-alternatives-shape_of-out-in_err-q t c =
-    c.alternative.auto.out ∙ c.loop-q.invariant.same
-
 pub alternatives-returns-in_err-q : goal.alternatives-returns-in_err-q
 alternatives-returns-in_err-q t c =
     let args = c.args in
     rw c.from_residual.ensures (loop-fail c.loop-q.invariant (alts-none args.d (drop c.loop-q.from.0 args.text.now) c.in_err-q.ensures))
-
-pub alternatives-shape_of-out-then-not-bar : goal.alternatives-shape_of-out-then-not-bar
-alternatives-shape_of-out-then-not-bar t c =
-    c.alternative.auto.out ∙ c.loop-q.invariant.same
 
 pub alternatives-returns-then-not-bar : goal.alternatives-returns-then-not-bar
 alternatives-returns-then-not-bar t c =
@@ -80,10 +69,6 @@ alternatives-token-requires t c =
     (tested c.peek.ensures bar (sym c.bar.ensures ∙ c.if-not-bar.false)))
     in
     (i, room-cell (room-read c.loop-q.invariant.room c.in_ok-q.ensures c.alternative.auto.out) i)
-
-pub alternatives-shape_of-out-in_err-w : goal.alternatives-shape_of-out-in_err-w
-alternatives-shape_of-out-in_err-w t c =
-    c.token.auto.out ∙ c.alternative.auto.out ∙ c.loop-q.invariant.same
 
 pub alternatives-returns-in_err-w : goal.alternatives-returns-in_err-w
 alternatives-returns-in_err-w t c =
@@ -114,9 +99,6 @@ factor-plain_factor-requires t c =
     let pre = c.requires in
     pre
 
-pub factor-shape_of-out-then-peek-ne-OPEN_ROUND : goal.factor-shape_of-out-then-peek-ne-OPEN_ROUND
-factor-shape_of-out-then-peek-ne-OPEN_ROUND t c = c.plain_factor.auto.out
-
 pub factor-returns-then-peek-ne-OPEN_ROUND : goal.factor-returns-then-peek-ne-OPEN_ROUND
 factor-returns-then-peek-ne-OPEN_ROUND t c =
     let args = c.args in
@@ -136,19 +118,11 @@ factor-token-requires t c =
     let i = (seen-in args.text.now args.p.0 c.peek.result 40 c.peek.ensures c.if-peek-ne-OPEN_ROUND.false (omega arith)) in
     (i, room-cell pre i)
 
-pub factor-shape_of-out-in_err-w : goal.factor-shape_of-out-in_err-w
-factor-shape_of-out-in_err-w t c =
-    c.token.auto.out
-
 pub factor-returns-in_err-w : goal.factor-returns-in_err-w
 factor-returns-in_err-w t c =
     let args = c.args in
     rw c.from_residual.ensures (factor-no-space args.text.now args.p.0 args.d args.out.now args.at.0 (is-ch c.peek.ensures 40 c.if-peek-ne-OPEN_ROUND.false) (args.d - 1)
     (less_one args.d c.if-d-eq0.false) c.in_err-w.ensures)
-
-pub factor-overflow_sub-d : goal.factor-overflow_sub-d
-factor-overflow_sub-d t c =
-    omega (arith, c.if-d-eq0.false)
 
 pub factor-alternatives-requires : goal.factor-alternatives-requires
 factor-alternatives-requires t c =
@@ -157,20 +131,12 @@ factor-alternatives-requires t c =
       room-read pre c.in_ok-w.ensures c.token.auto.out,
     )
 
-pub factor-shape_of-out-in_err-q : goal.factor-shape_of-out-in_err-q
-factor-shape_of-out-in_err-q t c =
-    c.alternatives.auto.out ∙ c.token.auto.out
-
 pub factor-returns-in_err-q : goal.factor-returns-in_err-q
 factor-returns-in_err-q t c =
     let args = c.args in
     rw c.from_residual-in_err-q.ensures (factor-no-alts args.text.now args.p.0 args.d args.out.now args.at.0 (is-ch c.peek.ensures 40 c.if-peek-ne-OPEN_ROUND.false) (args.d - 1)
     (less_one args.d c.if-d-eq0.false) c.token.new.out c.in_ok-w.w.0 c.in_ok-w.e.0 c.in_ok-w.ensures
     c.in_err-q.ensures)
-
-pub factor-shape_of-out-then-peek-ne-CLOSE_ROUND : goal.factor-shape_of-out-then-peek-ne-CLOSE_ROUND
-factor-shape_of-out-then-peek-ne-CLOSE_ROUND t c =
-    c.alternatives.auto.out ∙ c.token.auto.out
 
 pub factor-returns-then-peek-ne-CLOSE_ROUND : goal.factor-returns-then-peek-ne-CLOSE_ROUND
 factor-returns-then-peek-ne-CLOSE_ROUND t c =
@@ -192,10 +158,6 @@ factor-token-requires-2 t c =
           i,
     )
 
-pub factor-shape_of-out : goal.factor-shape_of-out
-factor-shape_of-out t c =
-    c.token-2.auto.out ∙ c.alternatives.auto.out ∙ c.token.auto.out
-
 pub factor-returns : goal.factor-returns
 factor-returns t c =
     let args = c.args in
@@ -210,24 +172,12 @@ repeated-after-second-requires t c =
     let pre = c.requires in
     omega (arith, (mark-in args.text.now args.p.0 args.k pre.1 pre.2))
 
-pub repeated-overflow_add-k : goal.repeated-overflow_add-k
-repeated-overflow_add-k t c =
-    omega (arith, c.requires.1)
-
-pub repeated-overflow_add-k-then-peek-k : goal.repeated-overflow_add-k-then-peek-k
-repeated-overflow_add-k-then-peek-k t c =
-    let pre = c.requires in
-    omega (arith, pre.1)
-
 pub repeated-token-requires : goal.repeated-token-requires
 repeated-token-requires t c =
     let args = c.args in
     let pre = c.requires in
     let i = (mark-in args.text.now args.p.0 args.k pre.1 pre.2) in
     (i, room-cell pre.0 i)
-
-pub repeated-shape_of-out-then-peek-k : goal.repeated-shape_of-out-then-peek-k
-repeated-shape_of-out-then-peek-k t c = c.token.auto.out
 
 pub repeated-returns-then-peek-k : goal.repeated-returns-then-peek-k
 repeated-returns-then-peek-k t c =
@@ -267,21 +217,12 @@ repeated-factor-requires t c =
       sep-room c.in_ok-w.w.0 pre.0 (rw (twice _ c.after-second.ensures c.after.ensures) at c.in_ok-w.ensures),
     )
 
-pub repeated-shape_of-out-in_err-q : goal.repeated-shape_of-out-in_err-q
-repeated-shape_of-out-in_err-q t c =
-    c.factor.auto.out
-
 pub repeated-returns-in_err-q : goal.repeated-returns-in_err-q
 repeated-returns-in_err-q t c =
     let args = c.args in
     rw c.from_residual-in_err-q.ensures (repeat-no-factor args.text.now args.p.0 args.k args.d args.out.now args.at.0
     (is-ch (rw c.after-second.ensures at c.peek.ensures) (42 + args.k) c.if-peek-k.false) c.in_ok-w.w.0 (rw (twice _ c.after-second.ensures c.after.ensures) at c.in_ok-w.ensures)
     c.in_err-q.ensures)
-
-pub repeated-overflow_add-k-2 : goal.repeated-overflow_add-k-2
-repeated-overflow_add-k-2 t c =
-    let pre = c.requires in
-    omega (arith, pre.1)
 
 pub repeated-put-end-requires : goal.repeated-put-end-requires
 repeated-put-end-requires t c =
@@ -294,10 +235,6 @@ repeated-put-end-requires t c =
           c.factor.new.out c.in_ok-q.q.0 c.in_ok-q.b.0 c.in_ok-q.ensures pre.0
           c.factor.auto.out,
     )
-
-pub repeated-shape_of-out : goal.repeated-shape_of-out
-repeated-shape_of-out t c =
-    c.put-end.auto.out ∙ c.factor.auto.out
 
 pub repeated-returns : goal.repeated-returns
 repeated-returns t c =
@@ -314,10 +251,6 @@ term-factor-requires t c =
     let pre = c.requires in
     (falls_at t (length args.text.now) args.p.0 args.p.0 2 1 (omega arith) pre.place c.decreases (omega arith), pre)
 
-pub term-shape_of-out-in_err-q : goal.term-shape_of-out-in_err-q
-term-shape_of-out-in_err-q t c =
-    c.factor.auto.out
-
 pub term-returns-in_err-q : goal.term-returns-in_err-q
 term-returns-in_err-q t c =
     let args = c.args in
@@ -329,10 +262,6 @@ term-token-requires t c =
     let pre = c.requires in
     let i = seen-in args.text.now c.in_ok-q.q.0 c.peek-c.result 63 c.peek-c.ensures c.if-c-eq-QUESTION_MARK.true (omega arith) in
     (i, room-cell (room-read pre c.in_ok-q.ensures c.factor.auto.out) i)
-
-pub term-shape_of-out-then-c-eq-QUESTION_MARK : goal.term-shape_of-out-then-c-eq-QUESTION_MARK
-term-shape_of-out-then-c-eq-QUESTION_MARK t c =
-    c.token.auto.out ∙ c.factor.auto.out
 
 pub term-returns-then-c-eq-QUESTION_MARK : goal.term-returns-then-c-eq-QUESTION_MARK
 term-returns-then-c-eq-QUESTION_MARK t c =
@@ -352,10 +281,6 @@ term-repeated-requires t c =
       ),
     )
 
-pub term-shape_of-out-then-c-eq-STAR : goal.term-shape_of-out-then-c-eq-STAR
-term-shape_of-out-then-c-eq-STAR t c =
-    c.repeated.auto.out ∙ c.factor.auto.out
-
 pub term-returns-then-c-eq-STAR : goal.term-returns-then-c-eq-STAR
 term-returns-then-c-eq-STAR t c =
     let args = c.args in
@@ -374,20 +299,12 @@ term-repeated-requires-then-c-eq-PLUS t c =
       ),
     )
 
-pub term-shape_of-out-then-c-eq-PLUS : goal.term-shape_of-out-then-c-eq-PLUS
-term-shape_of-out-then-c-eq-PLUS t c =
-    c.repeated-then-c-eq-PLUS.auto.out ∙ c.factor.auto.out
-
 pub term-returns-then-c-eq-PLUS : goal.term-returns-then-c-eq-PLUS
 term-returns-then-c-eq-PLUS t c =
     let args = c.args in
     term-plus args.text.now args.p.0 args.d args.out.now args.at.0 c.factor.new.out c.in_ok-q.q.0
     c.in_ok-q.b.0 c.in_ok-q.ensures (is-ch c.peek-c.ensures 43 c.if-c-eq-PLUS.true) c.repeated-then-c-eq-PLUS.result
     c.repeated-then-c-eq-PLUS.new.out c.repeated-then-c-eq-PLUS.ensures
-
-pub term-shape_of-out : goal.term-shape_of-out
-term-shape_of-out t c =
-    c.factor.auto.out
 
 pub term-returns : goal.term-returns
 term-returns t c =
@@ -411,18 +328,10 @@ terms-term-requires t c =
       c.loop-q.invariant.room,
     )
 
-pub terms-shape_of-out-in_err-q : goal.terms-shape_of-out-in_err-q
-terms-shape_of-out-in_err-q t c =
-    c.term.auto.out ∙ c.loop-q.invariant.same
-
 pub terms-returns-in_err-q : goal.terms-returns-in_err-q
 terms-returns-in_err-q t c =
     let args = c.args in
     rw c.from_residual.ensures (loop-fail c.loop-q.invariant (terms-none args.d (drop c.loop-q.from.0 args.text.now) c.in_err-q.ensures))
-
-pub terms-shape_of-out-then-peek-ne-COMMA : goal.terms-shape_of-out-then-peek-ne-COMMA
-terms-shape_of-out-then-peek-ne-COMMA t c =
-    c.term.auto.out ∙ c.loop-q.invariant.same
 
 pub terms-returns-then-peek-ne-COMMA : goal.terms-returns-then-peek-ne-COMMA
 terms-returns-then-peek-ne-COMMA t c =
@@ -441,10 +350,6 @@ pub terms-skip-requires : goal.terms-skip-requires
 terms-skip-requires t c =
     let args = c.args in
     omega (arith, c.after.ensures, (seen-in args.text.now c.in_ok-q.q.0 c.peek.result 44 c.peek.ensures c.if-peek-ne-COMMA.false (omega arith)))
-
-pub terms-shape_of-out-in_err-w : goal.terms-shape_of-out-in_err-w
-terms-shape_of-out-in_err-w t c =
-    c.term.auto.out ∙ c.loop-q.invariant.same
 
 pub terms-returns-in_err-w : goal.terms-returns-in_err-w
 terms-returns-in_err-w t c =

@@ -13,19 +13,11 @@ member-requires c =
     let pre = c.requires in
     listing-room _ _ _ _ _ _ _ c.loop-q.invariant (pre)
 
-pub shape_of-out-in_err-q : goal.shape_of-out-in_err-q
-shape_of-out-in_err-q c =
-    c.member.auto.out ∙ c.loop-q.invariant.len
-
 pub returns-in_err-q : goal.returns-in_err-q
 returns-in_err-q c =
     let args = c.args in
     rw c.from_residual.ensures (listing_none args.text.now args.p.0 args.out.now args.at.0 c.loop-q.out c.loop-q.from.0 c.loop-q.to.0 c.loop-q.invariant
     c.in_err-q.ensures)
-
-pub shape_of-out-then-not-bar : goal.shape_of-out-then-not-bar
-shape_of-out-then-not-bar c =
-    c.member.auto.out ∙ c.loop-q.invariant.len
 
 pub returns-then-not-bar : goal.returns-then-not-bar
 returns-then-not-bar c =
@@ -52,10 +44,6 @@ skip-requires c =
           c.in_ok-q.ensures (tested c.peek.ensures bar (sym c.bar.ensures ∙ c.if-not-bar.false)),
       c.after.ensures,
     )
-
-pub shape_of-out-in_err-w : goal.shape_of-out-in_err-w
-shape_of-out-in_err-w c =
-    c.member.auto.out ∙ c.loop-q.invariant.len
 
 pub returns-in_err-w : goal.returns-in_err-w
 returns-in_err-w c =

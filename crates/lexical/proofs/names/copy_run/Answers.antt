@@ -8,32 +8,15 @@ use Rattle.lexical.proofs.names.copy_run.Goals as goal
 pub loop-i-init : goal.loop-i-init
 loop-i-init c = copy_start run _ _ _ _ c.requires.place
 
-pub shape_of-out-then-not-name_follower : goal.shape_of-out-then-not-name_follower
-shape_of-out-then-not-name_follower c = c.loop-i.invariant.len
-
 pub returns-then-not-name_follower : goal.returns-then-not-name_follower
 returns-then-not-name_follower c =
     copy-end run _ _ _ _ _ _ _ c.loop-i.invariant 0 _ (omega arith) (omega arith)
     (run-stop _ _ c.loop-i-test.true (sym c.name_follower.ensures ∙ c.if-not-name_follower.true))
 
-pub offset_bounds-out-j : goal.offset_bounds-out-j
-offset_bounds-out-j c =
-    omega (arith, copy-room run _ _ _ _ _ _ _ c.loop-i.invariant c.requires c.loop-i-test.true, c.loop-i.invariant.len, c.well_formed.1.1.0)
-
-pub bounds-out-j : goal.bounds-out-j
-bounds-out-j c = copy-room run _ _ _ _ _ _ _ c.loop-i.invariant c.requires c.loop-i-test.true
-
-pub overflow_add-to : goal.overflow_add-to
-overflow_add-to c =
-    omega (arith, copy-room run _ _ _ _ _ _ _ c.loop-i.invariant c.requires c.loop-i-test.true, c.loop-i.invariant.len, c.well_formed.1.1.0)
-
 pub loop-i-preserved : goal.loop-i-preserved
 loop-i-preserved c =
     copy-on run _ _ _ _ _ _ _ c.loop-i.invariant _ _ (omega arith) (omega arith) (copy-room run _ _ _ _ _ _ _ c.loop-i.invariant c.requires c.loop-i-test.true)
     (run-char _ _ c.loop-i-test.true (sym c.name_follower.ensures ∙ c.if-not-name_follower.false))
-
-pub shape_of-out : goal.shape_of-out
-shape_of-out c = c.loop-i.invariant.len
 
 pub returns : goal.returns
 returns c =

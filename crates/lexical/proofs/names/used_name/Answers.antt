@@ -17,10 +17,6 @@ stops-requires c =
     let v = c.in_ok-q.ensures in
     (run_on args.text.now args.p.0 v.starts _ _ _ _ _ v.copied, v.copied.onward.within)
 
-pub overflow_sub-m : goal.overflow_sub-m
-overflow_sub-m c =
-    let v = c.in_ok-q.ensures in omega (arith, v.copied.cells)
-
 pub head-requires : goal.head-requires
 head-requires c =
     let args = c.args in
@@ -38,10 +34,6 @@ overflow_sub-result c =
     let v = c.in_ok-q.ensures in
     let h = run_on args.text.now args.p.0 v.starts _ _ _ _ _ v.copied in
     omega (arith, h, v.copied.cells, v.copied.count, pre.cells)
-
-pub overflow_sub-result-then-stops : goal.overflow_sub-result-then-stops
-overflow_sub-result-then-stops c =
-    let v = c.in_ok-q.ensures in omega (arith, v.copied.cells)
 
 pub returns-then-stops : goal.returns-then-stops
 returns-then-stops c =
