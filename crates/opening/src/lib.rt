@@ -18,8 +18,10 @@ fn take_record(record: &[u8], text: &mut [u32]) -> Result<CharPlace, Diagnostic>
     requires { length text.old ≡ record_chars }
     ensures { Takes «record».now text.new result }
 {
-    let end = decode::decode_text(record, text)
-        .map_err(|e| e.diagnostic(refusals::RECORD_NOT_UTF8, refusals::RECORD_CHARACTER))?;
+    let end = decode::decode_text(record, text).map_err(|e| e.diagnostic(
+        refusals::RECORD_NOT_UTF8,
+        refusals::RECORD_CHARACTER,
+    ))?;
     if limits::RECORD_CHARACTERS < end.0 {
         return Err(text::plain(refusals::RECORD_TOO_LONG));
     }

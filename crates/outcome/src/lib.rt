@@ -15,11 +15,7 @@ use text::{Diagnostic, refusals};
 use tidy_text::TidyError;
 
 // The answer to XML that is written, or refused.
-pub fn answer_to(
-    converted: Result<usize, ConvertError>,
-    ambiguous: bool,
-    mismatch: bool,
-) -> Answer
+pub fn answer_to(converted: Result<usize, ConvertError>, ambiguous: bool, mismatch: bool) -> Answer
     ensures { result ≡ answer_of converted ambiguous mismatch }
 {
     match converted {

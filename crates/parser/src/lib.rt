@@ -77,9 +77,7 @@ fn choose_coded(
     let mut notes = [0u32; sparse::NOTES];
     empties::note_rules(code, &mut notes, root.size);
     if !quick_reading::flag(table, text, code, marks, root) {
-        return Err(Failure::NoReading(locate(
-            table, text, code, marks, &notes, main, root,
-        )));
+        return Err(Failure::NoReading(locate(table, text, code, marks, &notes, main, root)));
     }
     let tried = quick_reading::attempt(code, marks, &notes, main, root, parse, true);
     if quick_reading::is_answer(tried) {

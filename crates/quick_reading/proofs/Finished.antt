@@ -37,7 +37,6 @@ passed-both l e = record { left = record { long = l.long; closed = l.left; only 
 pub stopped : {stops r : Bool} → (stops ≡ false → r ≡ true) → r ≡ false → stops ≡ true
 stopped {stops} f e = ⊎_elim (λ q. q) (λ q. absurd (clash e (f q))) (look stops)
 
-
 module _ {c M F : List ℕ} {size n top first : ℕ} (s : Staged c M F size n top first) where
   pub tables-of : {main : ℕ} → size * stretches n ≤ main → Tables c M F size n main
   tables-of room = record {

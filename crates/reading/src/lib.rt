@@ -107,10 +107,7 @@ fn count_only(h: Cursor) -> Cursor
     requires { h.at ≤ reading_numbers }
     ensures { result ≡ counted h }
 {
-    Cursor {
-        at: h.at + 1,
-        ..h
-    }
+    Cursor { at: h.at + 1, ..h }
 }
 
 // Enters a node of the rule on the cursor's stretch: chooses the alternative and writes its number, if there is room.

@@ -4,4 +4,3 @@ use Rattle.fault.proofs.farthest.Given as goal
 
 abbrev pub invariant-loop-i : goal.invariant-loop-i
 invariant-loop-i l = Reach l.table l.code l.text l.flags l.size l.i l.far × (l.i ≤ l.n.0 + 1)
-

@@ -5,4 +5,3 @@ use Rattle.standing.proofs.fresh.Given as goal
 
 abbrev pub invariant-loop-v : goal.invariant-loop-v
 invariant-loop-v l = Joined l.initial.sets l.sets l.row l.initial.cur × ((x : ℕ) → Has l.cur x → Has l.initial.cur x)
-
