@@ -6,7 +6,7 @@ use Rattle.plain.specs.Plain as plain
 use Rattle.layout.specs.Layout.{layout, dots_of, name_at}
 use Rattle.derive.specs.Derive.{root}
 use Rattle.derive.specs.Bound.{symbols_of}
-use Rattle.chart.specs.Code.{owner_at, after_dot, head_of, RuleOf}
+use Rattle.chart.specs.Code.{owner_at, after_dot, RuleOf}
 
 pub record Numbered (c : List ℕ) (g : Grammar) (dots : List (List Symbol)) (heads : List Symbol) (size : ℕ) : Type 0 where
   pub count : size ≡ plain.size g

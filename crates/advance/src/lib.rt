@@ -15,17 +15,13 @@ ghost use Rattle.advance.specs.Round.{Readable, Rounded};
 use chart::{AT_END, CODE_COLUMNS, CODE_GOES};
 
 // 1 where the position e names a rule: at the end of a rule's last alternative.
+#[tactic(auto, unfolding(numbering::specs::Names::is_name))]
 fn one_name(code: &[u32], e: usize) -> usize
     requires { (e < 512) × (4 * e + 4 ≤ length code.now) }
     ensures { result ≡ flag (is_name code.now e) }
 {
-    if code[CODE_COLUMNS * e] != AT_END {
-        return 0;
-    }
-    if code[CODE_COLUMNS * e + CODE_GOES] != 0 {
-        return 0;
-    }
-    1
+    let names = code[CODE_COLUMNS * e] == AT_END && code[CODE_COLUMNS * e + CODE_GOES] == 0;
+    names as usize
 }
 
 // How many rules there are, written and made.

@@ -1,16 +1,12 @@
 -- Places of cells.
-use mathlib.Core.Path.{◌≡◌, ◌∙◌}
-use mathlib.Core.List.{List}
+use mathlib.Core.Path.{◌≡◌}
 use Prim.Native.Nat.{ℕ, ◌+◌, ◌*◌, ◌/◌, ◌<◌, ◌≤◌}
 use native.Mathlib.Nat.{mul-le-mul, add-mul, mul-add}
-use native.Mathlib.Decide.{ℕ_discrete}
 use native.Mathlib.Omega.{arith}
-use lib.ListN.{length, get_or, set}
-use lib.Seq.{get_or-set_same, get_or-set_other}
 use Rattle.text.specs.Limits.{most_size, record_chars}
 use mir.Syntax.{w64}
 use mir.Val.{Fits}
-use Rattle.chart.specs.Heights.{before, stretches, cell_at, none}
+use Rattle.chart.specs.Heights.{before, stretches, cell_at}
 
 -- (j + 1) (j + 2) is j (j + 1) and twice j + 1
 next-twice : (j : ℕ) → (j + 1) * (j + 2) ≡ j * (j + 1) + 2 * (j + 1)
@@ -58,10 +54,3 @@ rows_fit p n hp hn = record { fits = omega (arith, rows-small p n hp hn) }
 
 pub before_small : (j : ℕ) → j ≤ record_chars → before j ≤ most_stretches
 before_small j h = small j (j + 1) (omega arith) (omega arith)
-
--- one cell more holds nothing
-pub clear_next : (t : List ℕ) (x : ℕ) → x < length t → ((y : ℕ) → y < x → get_or t y 0 ≡ none) → (y : ℕ) → y < x + 1 → get_or (set t x none) y 0 ≡ none
-clear_next t x h a y l = elim (ℕ_discrete y x) as (λ _. get_or (set t x none) y 0 ≡ none) [
-  | yes e ↦ rw e (get_or-set_same t x none 0 h)
-  | no e ↦ get_or-set_other t x y none 0 e ∙ a y (omega arith)
-]

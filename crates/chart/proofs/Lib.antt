@@ -1,3 +1,4 @@
 pub mod Cells
+pub mod Fills
 pub mod Says
 pub mod Users

@@ -1,5 +1,5 @@
 -- What the engine is given of a grammar and a record: four numbers for each dot position, and where terminals fit.
-use Rattle.std.specs.Prelude.{Bool, true, false, ◌≡◌, ℕ, suc, ◌+◌, ◌*◌, ◌<◌, ◌≤◌, length, get_or, drop}
+use Rattle.std.specs.Prelude.{Bool, true, false, ◌≡◌, ℕ, ◌+◌, ◌*◌, ◌<◌, ◌≤◌, length, get_or, drop}
 use mathlib.Core.List.{List, [], ◌∷◌, Memᴰ as In}
 use Rattle.text.specs.Limits.{most_size, record_chars}
 use Rattle.text.specs.Lists.{Text}

@@ -54,9 +54,7 @@ pub fn clear(main: &mut [u32], k: usize)
     requires { k ≤ length main.old }
     ensures { Clear k main.new }
 {
-    for x in 0..k {
-        main[x] = NONE;
-    }
+    main[..k].fill(NONE);
 }
 
 // The last use of each rule, and the one before each use. In the beginning all are 0.

@@ -6,13 +6,13 @@ use Prim.Native.Nat.{ℕ, ◌+◌, ◌-◌, ◌<◌, ◌≤◌}
 use native.Mathlib.Decide.{ℕ_discrete}
 use native.Mathlib.Omega.{arith}
 use lib.ListN.{length, get_or, set, length-set}
-use lib.Seq.{get_or-set_same, get_or-set_other}
+use lib.Seq.{get_or-set_other}
 use Rattle.text.proofs.Tests.{clash}
 use Rattle.chart.specs.Code.{next_kind, owner_at}
 use Rattle.chart.specs.Heights.{none}
 use Rattle.heights.specs.Filling.{total}
 use Rattle.heights.proofs.Lowering.{sum-set}
-use Rattle.sparse.specs.Cells.{empty_in, row_of, Shape}
+use Rattle.sparse.specs.Cells.{row_of, Shape}
 use Rattle.empties.specs.Empty.{offer_of, Done, Derived, Moved, Eased, Cleared, Found}
 use Rattle.empties.proofs.Derived.{lower-derived, clear-derived, all-empties}
 
@@ -81,30 +81,6 @@ from_all c size p l m = record {
   fell = m.fell;
   same = m.same;
   holds = λ e q h. m.holds e q (omega arith) h;
-}
-
--- the heights are cleared
-pub record ClearTo (size : ℕ) (F₀ F : List ℕ) (p : ℕ) : Type 0 where
-  pub bound : p ≤ size
-  pub cleared : Cleared p F₀ F
-
-pub clear-start : (size : ℕ) (F : List ℕ) → ClearTo size F F 0
-clear-start size F = record { bound = omega arith; cleared = record { long = refl; below = λ x h. refl; clear = λ p h. absurd (omega arith) } }
-
-pub clear-end : {size p : ℕ} {F₀ F : List ℕ} → ClearTo size F₀ F p → size ≤ p → Cleared size F₀ F
-clear-end w l = record { long = w.cleared.long; below = w.cleared.below; clear = λ q h. w.cleared.clear q (omega arith) }
-
-pub clear_next : {size p : ℕ} {F₀ F : List ℕ} → ClearTo size F₀ F p → length F₀ ≡ 2048 → size ≤ 512 → p < size → ClearTo size F₀ (set F (1536 + p) none) (p + 1)
-clear_next {size} {p} {F₀} {F} w long few l = record {
-  bound = omega arith;
-  cleared = record {
-    long = length-set F (1536 + p) none ∙ w.cleared.long;
-    below = λ x b. get_or-set_other F (1536 + p) x none 0 (λ z. omega arith) ∙ w.cleared.below x b;
-    clear = λ q b. elim (ℕ_discrete q p) as (λ _. empty_in (set F (1536 + p) none) q ≡ none) [
-      | yes e ↦ ap (empty_in (set F (1536 + p) none)) e ∙ get_or-set_same F (1536 + p) none 0 (omega (arith, w.cleared.long))
-      | no e ↦ get_or-set_other F (1536 + p) (1536 + q) none 0 (λ z. e (omega arith)) ∙ w.cleared.clear q (omega arith)
-    ];
-  };
 }
 
 -- the sweeps so far

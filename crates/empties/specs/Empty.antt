@@ -1,5 +1,5 @@
 -- The heights of empty stretches, found by lowering each to what the others offer it until nothing falls.
-use Rattle.std.specs.Prelude.{Bool, true, false, List, ◌≡◌, ℕ, ◌+◌, ◌-◌, ◌<◌, ◌≤◌, max, eqb, length, get_or}
+use Rattle.std.specs.Prelude.{Bool, true, false, List, ◌≡◌, ℕ, ◌+◌, ◌<◌, ◌≤◌, max, eqb, length, get_or}
 use Rattle.text.specs.Lists.{Text, pick}
 use Rattle.tree.specs.Tree.{Terminal, Grammar}
 use Rattle.plain.specs.Plain.{width}

@@ -11,7 +11,7 @@ use chart::{
     AT_END, AT_SYMBOL, AT_TERMINAL, CODE_COLUMNS, CODE_GOES, CODE_OWNER, CODE_RULE, NONE,
     USE_COLUMNS, list_uses,
 };
-use sparse::{EMPTIES, HOMES, empty_rest, larger, up};
+use sparse::{EMPTIES, HOMES, empty_rest, up};
 
 // The rule of each dot.
 fn note_homes(code: &[u32], notes: &mut [u32], size: usize)
@@ -41,7 +41,7 @@ fn offer(code: &[u32], notes: &[u32], size: usize, p: usize) -> u32
         return NONE;
     }
     let rule = text::wide(code[CODE_COLUMNS * p + CODE_RULE]);
-    larger(up(notes[EMPTIES + rule]), b)
+    up(notes[EMPTIES + rule]).max(b)
 }
 
 // Lowers the height of p to what is offered, and tells whether.
@@ -49,10 +49,8 @@ fn lower(code: &[u32], notes: &mut [u32], size: usize, p: usize) -> bool
     requires { Shape code.now size × (length notes.old ≡ 2048) × (p < size) }
     ensures { Moved code.now size (Done code.now p) notes.old result notes.new }
 {
-    if code[CODE_COLUMNS * p] == AT_END {
-        if code[CODE_COLUMNS * p + CODE_OWNER] == 0 {
-            return false;
-        }
+    if code[CODE_COLUMNS * p] == AT_END && code[CODE_COLUMNS * p + CODE_OWNER] == 0 {
+        return false;
     }
     let v = offer(code, notes, size, p);
     let x = EMPTIES + sparse::row(code, size, p);
@@ -113,8 +111,7 @@ fn sweep(code: &[u32], notes: &mut [u32], size: usize) -> bool
 {
     let mut fell = false;
     for p in (0..size).rev() {
-        let here = lower_on(code, notes, size, p);
-        fell = text::either(fell, here);
+        fell |= lower_on(code, notes, size, p);
     }
     fell
 }
@@ -124,9 +121,7 @@ fn clear_empties(notes: &mut [u32], size: usize)
     requires { (length notes.old ≡ 2048) × (size ≤ 512) }
     ensures { Cleared size notes.old notes.new }
 {
-    for p in 0..size {
-        notes[EMPTIES + p] = NONE;
-    }
+    notes[EMPTIES..EMPTIES + size].fill(NONE);
 }
 
 // Puts the heights into the notes.

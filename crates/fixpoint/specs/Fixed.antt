@@ -1,5 +1,5 @@
 -- Tables each cell of which is the least that the table gives it.
-use Rattle.std.specs.Prelude.{Bool, true, ◌⊎◌, ◌≡◌, List, ℕ, ◌+◌, ◌<◌, ◌≤◌, length, get_or}
+use Rattle.std.specs.Prelude.{◌⊎◌, ◌≡◌, List, ℕ, ◌+◌, ◌<◌, ◌≤◌, length, get_or}
 use Rattle.chart.specs.Code.{owner_at}
 use Rattle.chart.specs.Heights.{none}
 use Rattle.heights.specs.Table.{cell_of, value_of, Place}

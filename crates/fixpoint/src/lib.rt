@@ -15,7 +15,7 @@ use sweeps::Layer;
 use text::limits;
 
 // The number before `NONE`. No derivation has this height: there are fewer cells.
-const GREATEST: u32 = 4294967294;
+const GREATEST: u32 = NONE - 1;
 
 // A stretch, in a table of `size` positions and n characters.
 #[derive(Clone, Copy)]
@@ -102,10 +102,7 @@ fn end_fixed(main: &[u32], heights: &[u32], at: Stretch, p: usize) -> bool
 {
     let x = cell(at.n, p, at.i, at.j);
     let height = main[x];
-    if height == GREATEST {
-        return false;
-    }
-    height == heights[p]
+    height != GREATEST && height == heights[p]
 }
 
 // Whether the position p is as it must be, whose rules have these heights.

@@ -16,14 +16,12 @@ const FITS: u8 = 2;
 const WANTED: u8 = 2;
 
 // The flag of the dot p at the place i.
+#[tactic(auto, unfolding(crate::specs::Whole::dot_flag))]
 fn dot_flag(code: &[u32], fits: &[u8], size: usize, p: usize, i: usize) -> u8
     requires { Markable code.now fits.now size i × (p < size) }
     ensures { result ≡ dot_flag code.now fits.now p i }
 {
-    if code[CODE_COLUMNS * p] != AT_TERMINAL {
-        return FITS;
-    }
-    if fits[p * FITS_ROW + i] == 1 {
+    if code[CODE_COLUMNS * p] != AT_TERMINAL || fits[p * FITS_ROW + i] == 1 {
         return FITS;
     }
     REACHED

@@ -19,7 +19,7 @@ use Rattle.plain.specs.Written.{heads, terminals, names_in, terminals_in, within
 use Rattle.plain.specs.Plain.{symbols, alternatives, makes, weight}
 use Rattle.layout.specs.Layout.{laid, laid_alternative, laid_body}
 use Rattle.tokens.specs.Lengths.{first_number}
-use Rattle.measure.specs.Costs.{cost, costs, cost_of}
+use Rattle.measure.specs.Costs.{costs, cost_of}
 use Rattle.tokens.proofs.Walk.{by-mark}
 use Rattle.measure.proofs.Sizes.{terminal-costs}
 use Rattle.items.specs.declared.Action.TheVariants.{Skip, Push}
@@ -159,7 +159,8 @@ module _ {g : Grammar} {K : List ℕ} where
 
   members_run : {at : ℕ} {a : Abs} (ms : List Member) (S : Starts) → Ok K a → Run g K (member_tokens ms) at a a S S
   members_run [] S o = skip-run set-end S skip-end o
-  members_run {at = at} {a = a} (m ∷ ms) S o = run-then {us = member_token m ∷ []} {vs = member_tokens ms} (skip-run (member_token m) S (skip-member m) o) (members_run {at = at + length (encode (member_token m ∷ []))} ms S o)
+  members_run {at = at} {a = a} (m ∷ ms) S o =
+      run-then {us = member_token m ∷ []} {vs = member_tokens ms} (skip-run (member_token m) S (skip-member m) o) (members_run {at = at + length (encode (member_token m ∷ []))} ms S o)
 
   terminal-run : {at : ℕ} {a : Abs} (x : Terminal) (S : Starts) → Ok K a → a.depth + 1 ≤ 512 → Run g K (terminal_tokens x) at a (pushed a (entry 1 0 at) a.base) S S
   unfolding action_of

@@ -4,11 +4,10 @@ use mathlib.Core.List.{List, [], ◌∷◌, ◌++◌, Memᴰ as In}
 use mathlib.Core.List.Memᴰ.{append_cases as in-cases}
 use mathlib.Core.List.Memᴰ.{append_left as in_left}
 use mathlib.Core.List.Memᴰ.{append_right as in_right}
-use mathlib.Core.Logic.{◌⊎◌, inl, inr, ⊎_elim}
+use mathlib.Core.Logic.{inl, inr, ⊎_elim}
 use mathlib.Core.Path.{◌≡◌, refl, sym, ap, ap₂, ◌∙◌, subst}
-use Prim.Native.Nat.{ℕ, zero, suc, ◌+◌, ◌*◌, ◌-◌, ◌<◌, ◌≤◌}
+use Prim.Native.Nat.{ℕ, zero, suc, ◌+◌, ◌*◌, ◌<◌, ◌≤◌}
 use native.Mathlib.Omega.{arith}
-use lib.Dec.{T}
 use lib.ListN.{length, get_or, take, drop, length-drop}
 use lib.Seq.{get_or-take, get_or-drop, length-take-le, take-take}
 use Rattle.text.specs.Lists.{Text, pick, any, same, repeats, concat_map}
@@ -17,7 +16,7 @@ use Rattle.tree.specs.Tree.{unmarked, Symbol, nonterminal, Rule, Grammar, rules}
 use Rattle.tree.specs.Tokens.{name, mark_number}
 use Rattle.plain.specs.Written.{written, heads}
 use Rattle.plain.specs.Static.{duplicate}
-use Rattle.plain.specs.Plain.{alts, rule_for, makes, ruled, weight, size, rule_mark}
+use Rattle.plain.specs.Plain.{alts, rule_for, makes, ruled, weight, rule_mark}
 use Rattle.layout.specs.Layout.{starts_of}
 use Rattle.items.specs.declared.State.{State}
 use Rattle.items.specs.Items.{kind_at, target_at, token_at, Reads, Starts, Among, st-name, Alternatives, Items}

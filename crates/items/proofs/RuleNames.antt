@@ -12,7 +12,7 @@ use borrow.Author.Tests.{eq-eqb}
 use Rattle.text.specs.Lists.{Text, pick, any, same, concat_map}
 use Rattle.text.proofs.Tests.{is_t, same-is, clash}
 use Rattle.tree.specs.Tree.{Mark, unmarked, included, attribute, deleted, Symbol, nonterminal, Rule, Grammar}
-use Rattle.tree.specs.Tokens.{name, rule-head, mark_number, counted}
+use Rattle.tree.specs.Tokens.{rule-head, mark_number, counted}
 use Rattle.plain.specs.Plain.{rule_for, weight, size, rule_mark, over}
 use Rattle.items.specs.Items.{mark_kind, Starts, Among, Alternatives}
 use Rattle.repetitions.specs.Blocks.{kind_by}

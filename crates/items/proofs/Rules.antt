@@ -1,7 +1,7 @@
 -- The machine runs over a grammar's rules.
 use mathlib.Core.Bool.{false}
 use mathlib.Core.List.{List, [], ◌∷◌, ◌++◌, append_assoc, append-nil}
-use mathlib.Core.Logic.{◌⊎◌, inl, inr, ⊎_elim}
+use mathlib.Core.Logic.{inl, inr, ⊎_elim}
 use mathlib.Core.Path.{◌≡◌, refl, sym, ap, ◌∙◌, subst}
 use Prim.Native.Nat.{ℕ, ◌+◌, ◌*◌, ◌<◌, ◌≤◌}
 use native.Mathlib.Omega.{arith}
@@ -18,7 +18,7 @@ use Rattle.layout.specs.Layout.{laid_body, laid_rule}
 use Rattle.layout.proofs.Sums.{Own}
 use Rattle.tokens.specs.Proper.{ProperBody, ProperRules}
 use Rattle.tokens.specs.Lengths.{first_number}
-use Rattle.measure.specs.Costs.{cost, costs, cost_of, repeat_cost_of}
+use Rattle.measure.specs.Costs.{costs, cost_of, repeat_cost_of}
 use Rattle.tokens.proofs.Walk.{by-mark}
 use Rattle.measure.proofs.Sizes.{costs-append, size-costs}
 use Rattle.items.specs.declared.Action.TheVariants.{Skip, Open, Finish}

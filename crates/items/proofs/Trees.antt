@@ -13,7 +13,7 @@ use Rattle.plain.specs.Written.{within, within_alternative, within_body}
 use Rattle.plain.specs.Plain.{symbols, alternatives}
 use Rattle.layout.specs.Layout.{laid, laid_alternative, laid_body}
 use Rattle.tokens.specs.Proper.{Proper, ProperAlternative, ProperBody}
-use Rattle.measure.specs.Costs.{cost, costs}
+use Rattle.measure.specs.Costs.{costs}
 use Rattle.measure.proofs.Sizes.{costs-append}
 use Rattle.items.specs.declared.Action.TheVariants.{Close}
 use Rattle.items.specs.Items.{Starts}

@@ -59,49 +59,41 @@ module _ (T : List ℕ) (d : ℕ) (under more : List ℕ) (c : ℕ) (stacked : t
 pub three-at : (T : List ℕ) (m : ℕ) → m + 3 ≤ length T → take 3 (drop m T) ≡ nums (entry_at T m)
 three-at T m h = rw (drop-cons T m 0 (omega arith), drop-cons T (suc m) 0 (omega arith), drop-cons T (suc (suc m)) 0 (omega arith), add-one, add-two)
 
--- entries copied from the stack, one after the other
-pub record Copying (T₀ : List ℕ) (i j : ℕ) (T : List ℕ) (p q : ℕ) : Type 0 where
-  pub count : ℕ
-  pub read : q ≡ j + count
-  pub wrote : p ≡ i + count
-  pub table : T ≡ laid T₀ i (take (3 * count) (drop (14848 + 3 * j) T₀))
+-- the first k entries copied from the stack, one after the other
+pub record Copying (T₀ : List ℕ) (i j : ℕ) (T : List ℕ) (k : ℕ) : Type 0 where
+  pub table : T ≡ laid T₀ i (take (3 * k) (drop (14848 + 3 * j) T₀))
 
-module _ {T₀ : List ℕ} {i j : ℕ} {T : List ℕ} {p q : ℕ} (w : Copying T₀ i j T p q) (size : length T₀ ≡ 16384) (fits : p ≤ 512) (high : q ≤ 512) where
-  copied-length : length (take (3 * w.count) (drop (14848 + 3 * j) T₀)) ≡ 3 * w.count
-  copied-length = length-take-le (3 * w.count) (drop (14848 + 3 * j) T₀) (rw length-drop (omega (arith, w.read)))
+module _ {T₀ : List ℕ} {i j : ℕ} {T : List ℕ} {k : ℕ} (w : Copying T₀ i j T k) (size : length T₀ ≡ 16384) (fits : i + k ≤ 512) (high : j + k ≤ 512) where
+  copied-length : length (take (3 * k) (drop (14848 + 3 * j) T₀)) ≡ 3 * k
+  copied-length = length-take-le (3 * k) (drop (14848 + 3 * j) T₀) (rw length-drop (omega arith))
 
-  pub copy-next : {T' : List ℕ} → p + 1 ≤ 512 → q + 1 ≤ 512 → T' ≡ laid T p (nums (entry_at T (14848 + 3 * q))) → Copying T₀ i j T' (p + 1) (q + 1)
-  copy-next {T'} h k e =
-      let c = w.count in
-      let xs = take (3 * w.count) (drop (14848 + 3 * j) T₀) in
-      let kept : entry_at T (14848 + 3 * q) ≡ entry_at T₀ (14848 + 3 * q) = entry_kept T₀ i (take (3 * w.count) (drop (14848 + 3 * j) T₀))
-      (14848 + 3 * q) w.table (omega (arith, copied-length, w.wrote)) in
-      let more : nums (entry_at T₀ (14848 + 3 * q)) ≡ take 3 (drop (3 * w.count) (drop (14848 + 3 * j) T₀)) = sym
-      (ap (take 3) (drop-drop (3 * w.count) (14848 + 3 * j) T₀
-      ∙ ap (λ (m : ℕ). drop m T₀) (let z : 14848 + 3 * j + 3 * w.count ≡ 14848 + 3 * q = omega (arith, w.read) in
-      z)) ∙ three-at T₀ (14848 + 3 * q) (omega arith)) in
+  pub copy-next : {T' : List ℕ} → i + k < 512 → j + k < 512 → T' ≡ laid T (i + k) (nums (entry_at T (14848 + 3 * (j + k)))) → Copying T₀ i j T' (k + 1)
+  copy-next {T'} h l e =
+      let kept : entry_at T (14848 + 3 * (j + k)) ≡ entry_at T₀ (14848 + 3 * (j + k)) = entry_kept T₀ i (take (3 * k) (drop (14848 + 3 * j) T₀))
+      (14848 + 3 * (j + k)) w.table (omega (arith, copied-length)) in
+      let more : nums (entry_at T₀ (14848 + 3 * (j + k))) ≡ take 3 (drop (3 * k) (drop (14848 + 3 * j) T₀)) = sym
+      (ap (take 3) (drop-drop (3 * k) (14848 + 3 * j) T₀
+      ∙ ap (λ (m : ℕ). drop m T₀) (let z : 14848 + 3 * j + 3 * k ≡ 14848 + 3 * (j + k) = omega arith in
+      z)) ∙ three-at T₀ (14848 + 3 * (j + k)) (omega arith)) in
       record {
-        count = w.count + 1;
-        read = omega (arith, w.read);
-        wrote = omega (arith, w.wrote);
         table =
-            laid_then T₀ i p (take (3 * w.count) (drop (14848 + 3 * j) T₀)) (nums (entry_at T₀ (14848 + 3 * q))) w.table
-            (omega (arith, copied-length, w.wrote)) (e ∙ ap (λ (x : Entry). laid T p (nums x)) kept)
-            ∙ ap (λ (l : List ℕ). laid T₀ i (take (3 * w.count) (drop (14848 + 3 * j) T₀) ++ l)) more
-            ∙ ap (laid T₀ i) (sym (take-add (3 * w.count) 3 (drop (14848 + 3 * j) T₀))
-            ∙ ap (λ (m : ℕ). take m (drop (14848 + 3 * j) T₀)) (let z : 3 * w.count + 3 ≡ 3 * (w.count + 1) = omega arith in z));
+            laid_then T₀ i (i + k) (take (3 * k) (drop (14848 + 3 * j) T₀)) (nums (entry_at T₀ (14848 + 3 * (j + k)))) w.table
+            (omega (arith, copied-length)) (e ∙ ap (λ (x : Entry). laid T (i + k) (nums x)) kept)
+            ∙ ap (λ (l : List ℕ). laid T₀ i (take (3 * k) (drop (14848 + 3 * j) T₀) ++ l)) more
+            ∙ ap (laid T₀ i) (sym (take-add (3 * k) 3 (drop (14848 + 3 * j) T₀))
+            ∙ ap (λ (m : ℕ). take m (drop (14848 + 3 * j) T₀)) (let z : 3 * k + 3 ≡ 3 * (k + 1) = omega arith in z));
       }
 
-  pub copy_done : {T' : List ℕ} (depth r : ℕ) → q ≡ depth → T' ≡ laid T p (nums (entry 6 0 0)) → r ≡ p + 1 → Copied T₀ i j depth r T'
-  copy_done depth r d e n = record {
-    count = w.count;
-    deep = omega (arith, w.read);
-    table = laid_then T₀ i p (take (3 * w.count) (drop (14848 + 3 * j) T₀)) (nums (entry 6 0 0)) w.table (omega (arith, copied-length, w.wrote)) e;
-    next = omega (arith, w.wrote);
+  pub copy_done : {T' : List ℕ} {depth : ℕ} → depth ≡ j + k → T' ≡ laid T (i + k) (nums (entry 6 0 0)) → Copied T₀ i j depth (i + k + 1) T'
+  copy_done d e = record {
+    count = k;
+    deep = d;
+    table = laid_then T₀ i (i + k) (take (3 * k) (drop (14848 + 3 * j) T₀)) (nums (entry 6 0 0)) w.table (omega (arith, copied-length)) e;
+    next = omega arith;
   }
 
-pub copy_start : (T : List ℕ) (i j : ℕ) → Copying T i j T i j
-copy_start T i j = record { count = 0; read = omega arith; wrote = omega arith; table = refl }
+pub copy_start : (T : List ℕ) (i j : ℕ) → Copying T i j T 0
+copy_start T i j = record { table = refl }
 
-pub copy-size : {T₀ : List ℕ} {i j : ℕ} {T : List ℕ} {p q : ℕ} → Copying T₀ i j T p q → length T ≡ length T₀
-copy-size {T₀} {i} {j} w = ap length w.table ∙ length-sets T₀ (12288 + 3 * i) (take (3 * w.count) (drop (14848 + 3 * j) T₀))
+pub copy-size : {T₀ : List ℕ} {i j : ℕ} {T : List ℕ} {k : ℕ} → Copying T₀ i j T k → length T ≡ length T₀
+copy-size {T₀} {i} {j} {T} {k} w = ap length w.table ∙ length-sets T₀ (12288 + 3 * i) (take (3 * k) (drop (14848 + 3 * j) T₀))

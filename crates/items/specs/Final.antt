@@ -1,8 +1,8 @@
 -- How a finished table takes an item of the machine over: it keeps the item, and gives a name its kind and its target.
-use Rattle.std.specs.Prelude.{true, List, [], ◌∷◌, ◌++◌, ◌≡◌, ℕ, ◌+◌, take, drop}
+use Rattle.std.specs.Prelude.{true, List, [], ◌∷◌, ◌≡◌, ℕ, ◌+◌, take}
 use Rattle.text.specs.Lists.{Text, any, same}
 use Rattle.tree.specs.Tree.{Mark, Symbol, nonterminal, Grammar}
-use Rattle.tree.specs.Tokens.{name, encode}
+use Rattle.tree.specs.Tokens.{name}
 use Rattle.plain.specs.Written.{heads}
 use Rattle.items.specs.Items.{kind_at, target_at, token_at, Reads, Starts, Among, Stands}
 

@@ -1,5 +1,5 @@
 -- A stack machine that makes the items in one pass over the tokens: an operator stands after its operands.
-use Rattle.std.specs.Prelude.{Bool, true, false, List, [], ◌∷◌, ◌++◌, ◌≡◌, ℕ, ◌+◌, ◌*◌, ◌<◌, ◌≤◌, ltb, eqb, length, take, drop}
+use Rattle.std.specs.Prelude.{List, [], ◌∷◌, ◌++◌, ◌≡◌, ℕ, ◌+◌, ◌*◌, ◌<◌, ◌≤◌, ltb, eqb, length, take, drop}
 use Rattle.text.specs.Lists.{pick}
 use Rattle.repetitions.specs.Blocks.{Entry, entry, nums, one_block, one_count, one_first, two_block, two_count, two_first, laid}
 use Rattle.items.specs.declared.Action.{Action}

@@ -12,14 +12,12 @@ fn find(table: &[u32], rules: usize, at: usize) -> usize
     requires { Linkable table.now 0 rules }
     ensures { Found table.now rules at result }
 {
-    let mut i = 0;
-    while i < rules {
+    for i in 0..rules {
         if tokens::same_if_named(table, at, table[RULE_PLACE + RULE_COLUMNS * i] as usize) {
             return i;
         }
-        i += 1;
     }
-    i
+    rules
 }
 
 // Item p; a name gets the kind by its marks, and the first item of its rule.

@@ -10,6 +10,7 @@ use crate::{
 };
 use repetitions::{copy, item, one, put, renew, two};
 
+#[tactic(auto, unfolding(crate::specs::Machine::action_of))]
 fn action_of(k: u32) -> Action
     ensures { result ≡ action_of k }
 {
@@ -37,6 +38,7 @@ fn action_of(k: u32) -> Action
     late_action(k)
 }
 
+#[tactic(auto, unfolding(crate::specs::Machine::late_action_of))]
 fn late_action(k: u32) -> Action
     ensures { result ≡ late_action_of k }
 {
@@ -65,9 +67,8 @@ fn operate(table: &mut [u32], s: State, k: u32) -> State
         renew(table, from, DELETED, m.first as u32);
         return State {
             items: m.next,
-            rules: s.rules,
             depth: d + 1,
-            base: s.base,
+            ..s
         };
     }
     let d = s.depth - 2;
@@ -76,9 +77,8 @@ fn operate(table: &mut [u32], s: State, k: u32) -> State
     renew(table, from, DELETED, m.first as u32);
     State {
         items: m.next,
-        rules: s.rules,
         depth: d + 1,
-        base: s.base,
+        ..s
     }
 }
 
@@ -87,13 +87,12 @@ fn block(table: &mut [u32], i: usize, j: usize, depth: usize) -> usize
     requires { Space table.old i j depth }
     ensures { Copied table.old i j depth result table.new }
 {
-    let mut p = i;
-    for q in j..depth {
-        copy(table, p, STACK + ENTRY_COLUMNS * q);
-        p += 1;
+    let count = depth - j;
+    for k in 0..count {
+        copy(table, i + k, STACK + ENTRY_COLUMNS * (j + k));
     }
-    item(table, p, RULE_END, 0);
-    p + 1
+    item(table, i + count, RULE_END, 0);
+    i + count + 1
 }
 
 fn push(table: &mut [u32], s: State, kind: u32, at: usize) -> State
@@ -102,12 +101,7 @@ fn push(table: &mut [u32], s: State, kind: u32, at: usize) -> State
 {
     let d = s.depth;
     put(table, STACK + ENTRY_COLUMNS * d, kind, 0, at as u32);
-    State {
-        items: s.items,
-        rules: s.rules,
-        depth: d + 1,
-        base: s.base,
-    }
+    State { depth: d + 1, ..s }
 }
 
 // A bracket or a rule begins: its mark keeps the base of what is around it.
@@ -124,10 +118,9 @@ fn open(table: &mut [u32], s: State, at: usize) -> State
         at as u32,
     );
     State {
-        items: s.items,
-        rules: s.rules,
         depth: d + 1,
         base: d,
+        ..s
     }
 }
 
@@ -142,9 +135,9 @@ fn close(table: &mut [u32], s: State) -> State
     renew(table, STACK + ENTRY_COLUMNS * b, DELETED, n as u32);
     State {
         items: next,
-        rules: s.rules,
         depth: b + 1,
         base: old,
+        ..s
     }
 }
 

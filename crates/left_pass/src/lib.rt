@@ -5,7 +5,7 @@ ghost use Rattle.std.specs.Prelude.{◌≡◌, ◌+◌, ◌<◌, ◌≤◌, leng
 ghost use Rattle.left_pass.specs.Left.{At, AtList, Stepped, SymbolDone, EndDone, EmptyDone, Closing, Closed, Given, Shifted, Lefting, Lefted};
 
 use reach::{
-    AFTERS, BEGINS, ENDS, FIRSTS, HOME, OPEN, PLACE, Step, TAIL, WORK_LENGTH, collect, homes, lift,
+    BEGINS, DotList, ENDS, HOME, OPEN, PLACE, Step, TAIL, WORK_LENGTH, collect, homes, lift,
     list_dots, open_dots, raise, wake,
 };
 use text::CharPlace;
@@ -18,6 +18,19 @@ const REACHED: u8 = 1;
 const UNREACHED: u8 = 0;
 
 const OPEN_AFTER: usize = OPEN + 1;
+
+// A rule begins, or ends, where it was not known to; the dots of its list are reached.
+const BEGINNING: Step = Step {
+    column: BEGINS,
+    low: UNREACHED,
+    dots: UNREACHED,
+};
+
+const ENDING: Step = Step {
+    column: ENDS,
+    low: UNREACHED,
+    dots: UNREACHED,
+};
 
 // The reached dot p, if a symbol stands after it: its rule begins here, and the dot after it is reached where that rule ends.
 fn at_symbol(
@@ -38,12 +51,7 @@ fn at_symbol(
     }
     let e = text::wide(code[chart::CODE_COLUMNS * p + chart::CODE_RULE]);
     work[OPEN_AFTER + p] = 1;
-    let begins = Step {
-        column: BEGINS,
-        low: UNREACHED,
-        dots: UNREACHED,
-    };
-    wake(firsts, marks, work, size, i, e, begins);
+    wake(firsts, marks, work, size, i, e, BEGINNING);
     raise(marks, PLACE * i + p, FITS);
     if marks[PLACE * i + (ENDS + e)] == UNREACHED {
         return;
@@ -69,12 +77,7 @@ fn at_end(
         return;
     }
     let e = text::wide(work[HOME + p]);
-    let ends = Step {
-        column: ENDS,
-        low: UNREACHED,
-        dots: UNREACHED,
-    };
-    wake(afters, marks, work, size, i, e, ends);
+    wake(afters, marks, work, size, i, e, ENDING);
     raise(marks, PLACE * i + p, FITS);
 }
 
@@ -173,15 +176,10 @@ pub fn left(
     let mut firsts = [0u32; chart::USES_LENGTH];
     let mut afters = [0u32; chart::USES_LENGTH];
     homes(code, size, &mut work);
-    open_dots(code, &mut work, size, AFTERS);
-    list_dots(code, &work, size, FIRSTS, &mut firsts);
-    list_dots(code, &work, size, AFTERS, &mut afters);
-    let begins = Step {
-        column: BEGINS,
-        low: UNREACHED,
-        dots: UNREACHED,
-    };
-    wake(&firsts, marks, &mut work, size, 0, top, begins);
+    open_dots(code, &mut work, size, DotList::Afters);
+    list_dots(code, &work, size, DotList::Firsts, &mut firsts);
+    list_dots(code, &work, size, DotList::Afters, &mut afters);
+    wake(&firsts, marks, &mut work, size, 0, top, BEGINNING);
     let n = text.len();
     for i in 0..n + 1 {
         collect(marks, &mut work, size, i, UNREACHED);

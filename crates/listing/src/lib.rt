@@ -2,6 +2,7 @@
 // and the dots that hand on to longer ones. Starts that nothing touched are passed over.
 #![tactic(auto)]
 
+ghost use Rattle.std.specs.Option.{MatchOption};
 ghost use Rattle.std.specs.Prelude.{true, false, List, ◌≡◌, ℕ, ◌+◌, ◌*◌, ◌<◌, ◌≤◌, length, get_or};
 ghost use Rattle.sparse.specs.Cells.{Shape};
 ghost use Rattle.sparse.specs.Steps.{Listed};
@@ -76,10 +77,7 @@ fn vanishes(code: &[u32], notes: &[u32], size: usize, q: usize) -> bool
         return false;
     }
     let rule = text::wide(code[CODE_COLUMNS * q + CODE_RULE]);
-    if notes[EMPTIES + rule] == NONE {
-        return false;
-    }
-    true
+    notes[EMPTIES + rule] != NONE
 }
 
 // Whether the row x may lower others on its stretch: that of a rule, where nothing need follow a use of it; or that of a dot, where what
@@ -90,18 +88,9 @@ fn is_waking(code: &[u32], notes: &[u32], column: &[u32], size: usize, x: usize)
         × (result ≡ false → UnitsTo code.now notes.now size column.now → Idle code.now notes.now size x) }
 {
     if code[CODE_COLUMNS * x] == AT_END {
-        if column[UNITS + x] == 0 {
-            return false;
-        }
-        return true;
+        return column[UNITS + x] != 0;
     }
-    if code[CODE_COLUMNS * x + CODE_OWNER] != 0 {
-        return false;
-    }
-    if x == 0 {
-        return false;
-    }
-    if is_last(code, size, x) {
+    if code[CODE_COLUMNS * x + CODE_OWNER] != 0 || x == 0 || is_last(code, size, x) {
         return false;
     }
     vanishes(code, notes, size, x - 1)
@@ -120,42 +109,35 @@ fn list_wake(code: &[u32], notes: &[u32], column: &mut [u32], size: usize, k: us
     }
 }
 
-// One more than the row by which the dot x hands on; 0 where it does not.
-fn hand_row(code: &[u32], marks: &[u8], x: usize, s: Stretch) -> usize
+// The row by which the dot x hands on, if it does.
+fn hand_row(code: &[u32], marks: &[u8], x: usize, s: Stretch) -> Option<usize>
     requires { Shape code.now s.size × (1536 * s.j.0 + 1536 ≤ length marks.now) × (s.j.0 ≤ 200) × (x < s.size) }
-    ensures { (result ≡ 0 → Keeping code.now marks.now s.j.0 x)
-        × ((y : ℕ) → result ≡ y + 1 → Handing code.now marks.now s.size s.j.0 x y) }
+    ensures { MatchOption result (Keeping code.now marks.now s.j.0 x) (Handing code.now marks.now s.size s.j.0 x) }
 {
-    if code[CODE_COLUMNS * x] == AT_END {
-        return 0;
-    }
-    if code[CODE_COLUMNS * x + CODE_OWNER] != 0 {
-        return 0;
-    }
-    if x == 0 {
-        return 0;
+    if code[CODE_COLUMNS * x] == AT_END || code[CODE_COLUMNS * x + CODE_OWNER] != 0 || x == 0 {
+        return None;
     }
     if !is_last(code, s.size, x) {
-        return x + 1;
+        return Some(x);
     }
     let rule = text::wide(code[CODE_COLUMNS * x + CODE_RULE]);
     if wanted(marks, rule, s.j) {
-        return rule + 1;
+        return Some(rule);
     }
-    0
+    None
 }
 
 // The listed dot k, if it hands on.
 fn list_hand(code: &[u32], marks: &[u8], column: &mut [u32], k: usize, s: Stretch)
     requires { Shape code.now s.size × (1536 * s.j.0 + 1536 ≤ length marks.now) × (s.j.0 ≤ 200) × (length column.old ≡ 3789) × (k < 512) × (get_or column.old k 0 < s.size)
         × (get_or column.old 2050 0 ≤ k) }
-    ensures { (F : List ℕ) → k < get_or column.old 512 0 → Sorted code.now marks.now F s.size s.j.0 (k + 1) k column.old
-        → Sorted code.now marks.now F s.size s.j.0 (k + 1) (k + 1) column.new }
+    ensures { ((F : List ℕ) → k < get_or column.old 512 0 → Sorted code.now marks.now F s.size s.j.0 (k + 1) k column.old
+        → Sorted code.now marks.now F s.size s.j.0 (k + 1) (k + 1) column.new)
+        × (get_or column.new 512 0 ≡ get_or column.old 512 0) }
 {
     let x = text::wide(column[k]);
-    let row = hand_row(code, marks, x, s);
-    if row != 0 {
-        add_hand(column, x, row - 1);
+    if let Some(row) = hand_row(code, marks, x, s) {
+        add_hand(column, x, row);
     }
 }
 
@@ -167,10 +149,8 @@ pub fn list_rows(code: &[u32], marks: &[u8], notes: &[u32], column: &mut [u32], 
 {
     column[WAKE_COUNT] = 0;
     column[HAND_COUNT] = 0;
-    let mut k = 0;
-    while k < text::wide(column[LISTED]) {
+    for k in 0..text::wide(column[LISTED]) {
         list_wake(code, notes, column, s.size, k);
         list_hand(code, marks, column, k, s);
-        k += 1;
     }
 }

@@ -33,10 +33,7 @@ fn is_untouched(column: &[u32], y: usize) -> bool
     requires { y + 8 ≤ length column.now }
     ensures { result ≡ true → (k : ℕ) → k < 8 → get_or column.now (y + k) 0 ≡ 0 }
 {
-    if column[y + LAST] != 0 {
-        return false;
-    }
-    block(column, y) == 0
+    column[y + LAST] == 0 && block(column, y) == 0
 }
 
 // Starts before i that nothing touched are passed over, a block at a time: all from the one that is returned on.

@@ -1,9 +1,10 @@
 -- Laws of the rows of tests.
-use mathlib.Core.Bool.{Bool}
+use mathlib.Core.Bool.{Bool, true, false}
+use mir.Val.{bool_byte}
 use mathlib.Core.List.{List}
 use mathlib.Core.Logic.{◌⊎◌, inl, inr, ⊎_elim}
 use mathlib.Core.Path.{◌≡◌, refl, ap, ◌∙◌}
-use Prim.Native.Nat.{ℕ, ◌+◌, ◌*◌, ◌-◌, ◌<◌, ◌≤◌}
+use Prim.Native.Nat.{ℕ, ◌+◌, ◌*◌, ◌<◌, ◌≤◌}
 use native.Mathlib.Decide.{ℕ_discrete}
 use native.Mathlib.Omega.{arith}
 use lib.ListN.{length, get_or, set, drop, length-set}
@@ -18,6 +19,11 @@ use Rattle.chart.specs.Code.{next_kind, flag, fits_at, On, at-end, at-terminal, 
 use Rattle.terminals.specs.Places.{TerminalAt}
 use Rattle.rules.specs.Ready.{Token}
 use Rattle.prepare.specs.Rows.{Row, ItemRow, Rows}
+
+-- a test as a byte
+pub flag_byte : (b : Bool) → bool_byte b ≡ flag b
+flag_byte true = refl
+flag_byte false = refl
 
 -- the tests of the places before i are stored
 pub record Rowing (T R f₀ f : List ℕ) (at base i : ℕ) : Type 0 where

@@ -3,20 +3,11 @@
 
 ghost use Rattle.std.specs.Prelude.{◌≡◌, ◌<◌, length};
 ghost use Rattle.tree.specs.Tree.{Grammar};
-ghost use Rattle.chart.specs.Code.{flag, Fitting, Ruled};
+ghost use Rattle.chart.specs.Code.{Fitting, Ruled};
 ghost use Rattle.rules.specs.Ready.{Ready};
 ghost use Rattle.prepare.specs.Rows.{Row, RowReady, RowsReady, ItemRow, Rows, Given};
 
 use text::CharPlace;
-
-fn flag_of(b: bool) -> u8
-    ensures { result ≡ flag b }
-{
-    if b {
-        return 1;
-    }
-    0
-}
 
 // A terminal's tests, at every place of the record.
 fn fit_row(table: &[u32], at: usize, text: &[u32], fits: &mut [u8], base: usize)
@@ -24,10 +15,9 @@ fn fit_row(table: &[u32], at: usize, text: &[u32], fits: &mut [u8], base: usize)
     ensures { Row table.now text.now fits.old fits.new at base }
 {
     let n = text.len();
-    let mut i = CharPlace(0);
-    while i.0 <= n {
-        fits[base + i.0] = flag_of(terminals::terminal_fits(table, at, text, i));
-        i = CharPlace(i.0 + 1);
+    for i in 0..n + 1 {
+        let fit = terminals::terminal_fits(table, at, text, CharPlace(i));
+        fits[base + i] = fit as u8;
     }
 }
 

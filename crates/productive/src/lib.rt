@@ -91,7 +91,7 @@ fn raise(
         marks.new missing.new queue.new size Always }
 {
     let mut q = p;
-    while text::both(marks[q], marks[SURE + q]) {
+    while marks[q] && marks[SURE + q] {
         q -= 1;
         mark(code, size, marks, missing, queue, q);
     }
@@ -176,11 +176,7 @@ fn is_missing(code: &[u32], size: usize, missing: &[u32], p: usize) -> bool
     ensures { Answer code.now missing.now p result }
 {
     let begins = code[chart::CODE_COLUMNS * p + chart::CODE_OWNER];
-    if begins == 0 {
-        return false;
-    }
-    let e = text::wide(begins - 1);
-    missing[e] != 0
+    begins != 0 && missing[text::wide(begins - 1)] != 0
 }
 
 fn any_missing(code: &[u32], size: usize, missing: &[u32]) -> bool

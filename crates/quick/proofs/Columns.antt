@@ -15,6 +15,7 @@ use Rattle.text.proofs.Tests.{clash}
 use Rattle.tree.specs.Tree.{Grammar}
 use Rattle.derive.proofs.Levels.{Low}
 use Rattle.chart.specs.Code.{next_kind, goes_at, rule_at, owner_at, after_dot, head_of, Ruled}
+use Rattle.chart.proofs.Fills.{Fills}
 use Rattle.chart.specs.Heights.{stretches, cell_at, none}
 use Rattle.heights.specs.Table.{cell_of, up_of}
 use Rattle.heights.specs.Filling.{Only}
@@ -150,21 +151,22 @@ module _ {c : List ℕ} {x : ℕ} where
 pub in_row : {size n x j i len y : ℕ} → size ≤ most_size → n ≤ record_chars → size * stretches n ≤ len → x < size → j ≤ n → i < j → y ≡ cell_at n x 0 j → y + i < len
 in_row {size} {n} {x} {j} {i} {len} {y} a b d h l k e = in_table size n i j x len (y + i) a b d h (omega arith) l (omega arith)
 
--- one cell of a row more is cleared
-module _ (n x j : ℕ) (t : List ℕ) where
-  pub emptied-none : Emptied n x j 0 t t
-  emptied-none = record { long = refl; bare = λ k l. absurd (omega arith); other = λ y k l h h' o. refl }
+pub row_end : {size n x j len y : ℕ} → size ≤ most_size → n ≤ record_chars → size * stretches n ≤ len → x < size → j ≤ n → y ≡ cell_at n x 0 j → y + j ≤ len
+row_end {size} {n} {x} {j} {len} {y} a b d h l e = omega (arith, in_table size n j j x len (y + j) a b d h (omega arith) l (omega arith))
 
-  pub emptied-next : {u : List ℕ} (i z : ℕ) → i < j → j ≤ n → z ≡ cell_at n x i j → z < length u → Emptied n x j i t u → Emptied n x j (i + 1) t (set u z none)
-  emptied-next {u} i z l stop e room a = rw e (record {
-    long = length-set u (cell_at n x i j) none ∙ a.long;
-    bare = λ k h. elim (ℕ_discrete k i) as (λ _. cell_of n (set u (cell_at n x i j) none) x k j ≡ none) [
-      | yes d ↦ ap (λ (w : ℕ). cell_of n (set u (cell_at n x i j) none) x w j) d ∙ get_or-set_same u (cell_at n x i j) none 0 (omega arith)
-      | no d ↦ get_or-set_other u (cell_at n x i j) (cell_at n x k j) none 0 (λ w. d (omega arith)) ∙ a.bare k (omega arith)
-    ];
-    other = λ y k m h h' o. get_or-set_other u (cell_at n x i j) (cell_at n y k m) none 0
-        (λ w. let s = cell-inj n y k m x i j h h' (omega arith) stop w in o (s.same-p, s.same-j)) ∙ a.other y k m h h' o;
-  })
+-- a row is cleared
+pub emptied : {n x j y : ℕ} {t t' : List ℕ} → j ≤ n → y ≡ cell_at n x 0 j → Fills y (y + j) none t t' → Emptied n x j j t t'
+emptied {n} {x} {j} {y} {t} {t'} stop e f = record {
+  long = f.long;
+  bare = λ k h. f.inside (cell_at n x k j) (omega arith) (omega arith);
+  other = λ z k m h h' o. elim (dec_lt (cell_at n z k m) y) as (λ _. cell_of n t' z k m ≡ cell_of n t z k m) [
+    | yes b ↦ f.below (cell_at n z k m) b
+    | no b ↦ elim (dec_lt (cell_at n z k m) (y + j)) as (λ _. cell_of n t' z k m ≡ cell_of n t z k m) [
+      | yes d ↦ (let s = cell-inj n z k m x (cell_at n z k m - y) j h h' (omega arith) stop (omega arith) in absurd (o (s.same-p, s.same-j)))
+      | no d ↦ f.above (cell_at n z k m) (omega arith)
+    ]
+  ];
+}
 
 module _ (c M : List ℕ) (n j : ℕ) where
   -- one dot more is listed

@@ -1,4 +1,3 @@
-pub mod Flags
 pub mod Passing
 pub mod Columns
 pub mod Started

@@ -2,7 +2,7 @@
 // an end from the shortest on. Each is settled before it hands on to longer ones.
 #![tactic(auto)]
 
-ghost use Rattle.std.specs.Prelude.{true, false, List, ◌≡◌, ℕ, ◌+◌, ◌*◌, ◌<◌, ◌≤◌, length};
+ghost use Rattle.std.specs.Prelude.{true, false, List, ◌≡◌, ℕ, ◌+◌, ◌*◌, ◌-◌, ◌<◌, ◌≤◌, length};
 ghost use Rattle.chart.specs.Heights.{stretches};
 ghost use Rattle.sparse.specs.Cells.{Shape, Tables};
 ghost use Rattle.sparse.specs.Steps.{Empties, Listed};
@@ -29,10 +29,7 @@ fn has_row(code: &[u32], size: usize, x: usize) -> bool
     if code[CODE_COLUMNS * x] == AT_END {
         return code[CODE_COLUMNS * x + CODE_GOES] == 0;
     }
-    if code[CODE_COLUMNS * x + CODE_OWNER] != 0 {
-        return false;
-    }
-    !is_last(code, size, x)
+    code[CODE_COLUMNS * x + CODE_OWNER] == 0 && !is_last(code, size, x)
 }
 
 // The cells of the row x that end at j, but for the empty stretch, hold nothing.
@@ -41,9 +38,7 @@ fn clear_row(main: &mut [u32], x: usize, s: Stretch)
     ensures { Emptied s.n.0 x s.j.0 s.j.0 main.old main.new }
 {
     let y = cell(s.n.0, x, 0, s.j.0);
-    for i in 0..s.j.0 {
-        main[y + i] = NONE;
-    }
+    main[y..y + s.j.0].fill(NONE);
 }
 
 // Lists the dot x, if its rule is wanted at j, and clears its row.
@@ -99,9 +94,7 @@ fn untouch(column: &mut [u32], j: usize)
     ensures { Untouched j column.old column.new }
 {
     column[FULL] = 0;
-    for i in 0..j {
-        column[TOUCHED + i] = 0;
-    }
+    column[TOUCHED..TOUCHED + j].fill(0);
 }
 
 // Of no row is it known that its cells are low.
@@ -109,9 +102,7 @@ fn forget(column: &mut [u32], size: usize, j: usize)
     requires { (length column.old ≡ 3789) × (size ≤ 512) × (j ≤ 200) }
     ensures { Unnoted j size column.old column.new }
 {
-    for y in 0..size {
-        column[LOW_FROM + y] = j as u32;
-    }
+    column[LOW_FROM..LOW_FROM + size].fill(j as u32);
 }
 
 // The dots are listed, and their rows cleared: the empty stretch s hands on.
@@ -197,25 +188,16 @@ fn has_height(main: &[u32], x: usize, s: Stretch) -> bool
     requires { (s.size ≤ 512) × (s.n.0 ≤ 200) × (s.size * stretches s.n.0 ≤ length main.now) × (x < s.size) × (s.j.0 ≤ s.n.0) }
 {
     let y = cell(s.n.0, x, 0, s.j.0);
-    for i in 0..s.j.0 {
-        if main[y + i] < NONE {
-            return true;
-        }
-    }
-    false
+    main[y..y + s.j.0].iter().any(|height| *height < NONE)
 }
 
 // Whether x names a rule that is wanted to end at j.
 fn wants_rule(code: &[u32], marks: &[u8], x: usize, s: Stretch) -> bool
     requires { Shape code.now s.size × (1536 * s.j.0 + 1536 ≤ length marks.now) × (x < s.size) × (s.j.0 ≤ 200) }
 {
-    if code[CODE_COLUMNS * x] != AT_END {
-        return false;
-    }
-    if code[CODE_COLUMNS * x + CODE_GOES] != 0 {
-        return false;
-    }
-    wanted(marks, x, s.j)
+    code[CODE_COLUMNS * x] == AT_END
+        && code[CODE_COLUMNS * x + CODE_GOES] == 0
+        && wanted(marks, x, s.j)
 }
 
 // Whether rules are wanted to end at j, and none of them does on a stretch that is not empty.
@@ -234,43 +216,25 @@ fn is_idle(code: &[u32], marks: &[u8], main: &[u32], s: Stretch) -> bool
     some
 }
 
+// The empty stretch at the place that lies so far before the end of s.
+fn empty_before(s: Stretch, back: usize) -> Stretch
+    requires { back ≤ s.j.0 }
+    ensures { (result.size ≡ s.size) × (result.n.0 ≡ s.n.0) × (result.j.0 ≡ s.j.0 - back) }
+{
+    let j = CharPlace(s.j.0 - back);
+    let size = s.size;
+    let n = s.n;
+    Stretch { size, n, i: j, j }
+}
+
 // Whether the record is likely to have no reading: the two columns before j are idle. Nothing rests on the answer but time.
 fn is_doubtful(code: &[u32], marks: &[u8], main: &[u32], s: Stretch) -> bool
     requires { Shape code.now s.size × (1536 * s.n.0 + 1536 ≤ length marks.now) × (s.n.0 ≤ 200) × (s.size * stretches s.n.0 ≤ length main.now) × (s.j.0 ≤ s.n.0) }
 {
-    if s.j.0 < 2 {
+    if s.j.0 < 2 || (s.j.0 - 1) % COLUMNS_BETWEEN_LOOKS != 0 {
         return false;
     }
-    let n = s.n;
-    let j = CharPlace(s.j.0 - 1);
-    if j.0 % COLUMNS_BETWEEN_LOOKS != 0 {
-        return false;
-    }
-    if !is_idle(
-        code,
-        marks,
-        main,
-        Stretch {
-            size: s.size,
-            n,
-            i: j,
-            j,
-        },
-    ) {
-        return false;
-    }
-    let k = CharPlace(s.j.0 - 2);
-    is_idle(
-        code,
-        marks,
-        main,
-        Stretch {
-            size: s.size,
-            n,
-            i: k,
-            j: k,
-        },
-    )
+    is_idle(code, marks, main, empty_before(s, 1)) && is_idle(code, marks, main, empty_before(s, 2))
 }
 
 // Fills the main table of a record of n characters; false: it stopped at a doubt, if it may.
@@ -289,21 +253,13 @@ pub fn fill(
     let mut queue = [0u32; QUEUE];
     let mut column = [0u32; COLUMN];
     note_units(code, notes, &mut column, size);
-    let mut j = CharPlace(0);
-    while j.0 <= n.0 {
-        let s = Stretch {
-            size: size,
-            n: n,
-            i: j,
-            j: j,
-        };
-        if stops {
-            if is_doubtful(code, marks, main, s) {
-                return false;
-            }
+    for end in 0..n.0 + 1 {
+        let j = CharPlace(end);
+        let s = Stretch { size, n, i: j, j };
+        if stops && is_doubtful(code, marks, main, s) {
+            return false;
         }
         fill_column(code, marks, notes, main, &mut queue, &mut column, s);
-        j = CharPlace(j.0 + 1);
     }
     true
 }

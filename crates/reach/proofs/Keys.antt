@@ -1,4 +1,5 @@
 -- Dots by rules: keys, and lists made of them.
+use mathlib.Core.Bool.{Bool, true, false, not}
 use mathlib.Core.List.{List}
 use mathlib.Core.Logic.{◌⊎◌, inl, inr, ⊎_elim}
 use mathlib.Core.Path.{◌≡◌, refl, sym, subst, ap, ◌∙◌}
@@ -14,7 +15,11 @@ use Rattle.chart.specs.Code.{next_kind, rule_at, owner_at}
 use Rattle.chart.specs.Uses.{LastUse, Uses}
 use Rattle.reach.specs.Flags.{home_of}
 use Rattle.reach.specs.Work.{Seen, Listed, l-here, l-next}
-use Rattle.reach.specs.Lists.{use_key, after_key, end_key, key_of, Shape, HomesFrom, Keying, Opened, Members, Keyed, PutKey}
+use Rattle.std.specs.Prelude.{Option, None, Some}
+use Rattle.core.specs.Option.{is_some}
+use Rattle.std.proofs.lemmas.Bool.{false≢true}
+use mir.Val.{bool_byte}
+use Rattle.reach.specs.Lists.{use_key, after_key, end_key, key_of, rule_number, Shape, HomesFrom, Keying, Opened, Members, Keyed, PutKey}
 
 pub home-first : (c : List ℕ) (p e : ℕ) → owner_at c p ≡ e + 1 → home_of c p ≡ e
 unfolding home_of
@@ -134,6 +139,12 @@ module _ (c : List ℕ) (p : ℕ) where
   unfolding key_of
   key-use w a b d = rw (ne_eqb w 0 a, ne_eqb w 1 b, ne_eqb w 2 d) refl
 
+-- a dot without a rule is open
+pub open_flag : (r : Option ℕ) (b : Bool) → is_some r ≡ not b → rule_number r ≡ 0 → bool_byte b ≡ 1
+open_flag None true h e = refl
+open_flag None false h e = absurd (false≢true h)
+open_flag (Some x) b h e = absurd (omega arith)
+
 module _ {c : List ℕ} {size : ℕ} (s : Shape c size) where
   use-below : (p : ℕ) → p < size → use_key c p ≤ size
   use-below p h = elim (ℕ_discrete (next_kind c p) 2) as (λ _. use_key c p ≤ size) [
@@ -196,15 +207,16 @@ opening-end o h = record { long = o.long; opened = λ q a k. o.opened q (omega a
 pub put-none : {K : List ℕ} {p rule : ℕ} → rule ≡ 0 → PutKey K K p rule
 put-none z = record { long = refl; none = λ _. refl; some = λ e h. absurd (omega arith); kept = λ x h. refl }
 
-pub put_some : {K : List ℕ} {p rule : ℕ} → 4 * p + 3 < length K → (rule ≡ 0 → ⊥) → PutKey K (set (set K (4 * p) 2) (4 * p + 2) (rule - 1)) p rule
-put_some {K} {p} {rule} l n = record {
-  long = length-set (set K (4 * p) 2) (4 * p + 2) (rule - 1) ∙ length-set K (4 * p) 2;
-  none = λ z. absurd (n z);
-  some = λ e h. (
-    get_or-set_other (set K (4 * p) 2) (4 * p + 2) (4 * p) (rule - 1) 0 (λ z. omega arith) ∙ get_or-set_same K (4 * p) 2 0 (omega arith),
-    get_or-set_same (set K (4 * p) 2) (4 * p + 2) (rule - 1) 0 (omega (arith, length-set K (4 * p) 2)) ∙ (let z : rule - 1 ≡ e = omega arith in z),
+pub put_some : {K : List ℕ} {p : ℕ} (e : ℕ) → 4 * p + 3 < length K → PutKey K (set (set K (4 * p) 2) (4 * p + 2) e) p (e + 1)
+put_some {K} {p} e l = record {
+  long = length-set (set K (4 * p) 2) (4 * p + 2) e ∙ length-set K (4 * p) 2;
+  none = λ z. absurd (omega arith);
+  some = λ d h. (
+    get_or-set_other (set K (4 * p) 2) (4 * p + 2) (4 * p) e 0 (λ z. omega arith) ∙ get_or-set_same K (4 * p) 2 0 (omega arith),
+    get_or-set_same (set K (4 * p) 2) (4 * p + 2) e 0 (omega (arith, length-set K (4 * p) 2)) ∙ (let z : e ≡ d = omega arith in z),
   );
-  kept = λ x h. get_or-set_other (set K (4 * p) 2) (4 * p + 2) x (rule - 1) 0 (λ z. away x h (omega arith) (omega arith)) ∙ get_or-set_other K (4 * p) x 2 0 (λ z. away x h (omega arith) (omega arith));
+  kept = λ x h. get_or-set_other (set K (4 * p) 2) (4 * p + 2) x e 0 (λ z. away x h (omega arith) (omega arith))
+      ∙ get_or-set_other K (4 * p) x 2 0 (λ z. away x h (omega arith) (omega arith));
 }
   where
     away : (x : ℕ) → (x < 4 * p) ⊎ (4 * p + 3 < x) → 4 * p ≤ x → x ≤ 4 * p + 3 → ⊥

@@ -1,8 +1,10 @@
 -- Dots listed by rules: those that begin one, follow one, end one or use one.
-use Rattle.std.specs.Prelude.{List, ◌⊎◌, ◌≡◌, ℕ, ◌+◌, ◌*◌, ◌-◌, ◌<◌, ◌≤◌, eqb, length, get_or}
+use Rattle.std.specs.Prelude.{Option, None, Some, List, ◌⊎◌, ◌≡◌, ℕ, ◌+◌, ◌*◌, ◌-◌, ◌<◌, ◌≤◌, eqb, length, get_or}
 use Rattle.text.specs.Lists.{pick}
 use Rattle.chart.specs.Code.{next_kind, rule_at, owner_at}
 use Rattle.reach.specs.Flags.{home_of}
+use Rattle.reach.specs.declared.lists.DotList.{DotList}
+use Rattle.reach.specs.declared.lists.DotList.TheVariants.{Firsts, Afters, LastDots, Uses}
 use Rattle.reach.specs.Work.{Seen, Listed, Linked}
 
 -- the rule of a dot and 1, or 0: of the symbol after it; of the symbol before it; of which an alternative ends there
@@ -14,6 +16,17 @@ after_key c p = pick (eqb p 0) 0 (use_key c (p - 1))
 
 unfoldable pub end_key : List ℕ → ℕ → ℕ
 end_key c p = pick (eqb (next_kind c p) 0) (home_of c p + 1) 0
+
+-- a rule and 1, or 0
+abbrev pub rule_number : Option ℕ → ℕ
+rule_number None = 0
+rule_number (Some e) = e + 1
+
+abbrev pub list_number : DotList → ℕ
+list_number Firsts = 0
+list_number Afters = 1
+list_number LastDots = 2
+list_number Uses = 3
 
 -- by the number of a list: 0 of dots that begin an alternative, 1 of dots after symbols, 2 of ends, 3 of dots before symbols
 unfoldable pub key_of : List ℕ → ℕ → ℕ → ℕ

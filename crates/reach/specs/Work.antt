@@ -1,11 +1,15 @@
 -- What a pass keeps at a place: a queue of the dots that are reached there, which dots are open, and the rule of each dot.
-use Rattle.std.specs.Prelude.{List, ◌⊎◌, ◌≡◌, ℕ, zero, suc, ◌+◌, ◌*◌, ◌<◌, ◌≤◌, leb, length, get_or}
+use Rattle.std.specs.Prelude.{List, ◌⊎◌, ◌≡◌, ℕ, zero, suc, ◌+◌, ◌*◌, ◌<◌, ◌≤◌, leb, length, get_or, set}
 use Rattle.text.specs.Lists.{pick}
 use Rattle.reach.specs.Flags.{dot_at}
 
 -- the first number of the work is the place of the queue's last dot
 abbrev pub tail_of : List ℕ → ℕ
 tail_of Q = get_or Q 0 0
+
+-- the dot p is put into the queue
+abbrev pub pushed : List ℕ → ℕ → List ℕ
+pushed Q p = set (set Q 0 (tail_of Q + 1)) (tail_of Q + 1) p
 
 -- the dot p is open: no symbol is before it, or one that was met
 abbrev pub Seen : List ℕ → ℕ → Type 0

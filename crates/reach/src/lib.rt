@@ -2,7 +2,7 @@
 // looks only at what is flagged.
 #![tactic(auto)]
 
-pub use lists::{AFTERS, FIRSTS, LAST_DOTS, USES, homes, homes_from, list_dots, open_dots};
+pub use lists::{DotList, homes, homes_from, list_dots, open_dots};
 pub use work::{
     BEGINS, ENDS, HOME, OPEN, PLACE, Step, TAIL, WORK_LENGTH, collect, lift, raise, wake,
 };

@@ -2,18 +2,18 @@
 ghost use Rattle.std.specs.Prelude.{◌≡◌, ℕ, ◌+◌, ◌*◌, ◌<◌, ◌≤◌, length, get_or};
 ghost use Rattle.chart.specs.Code.{next_kind};
 ghost use Rattle.reach.specs.Flags.{home_of};
-ghost use Rattle.reach.specs.Lists.{use_key, after_key, end_key, key_of, Shape, HomesFrom, Homing, Homed, Keying, Opened, Listing, Members, Keyed, PutKey};
+ghost use Rattle.reach.specs.Lists.{use_key, after_key, end_key, key_of, rule_number, list_number, Shape, HomesFrom, Homing, Homed, Keying, Opened, Listing, Members, Keyed, PutKey};
 
 use crate::work::{HOME, OPEN};
 
-// Which list: dots that begin an alternative, dots after symbols, ends, dots before symbols.
-pub const FIRSTS: u32 = 0;
-
-pub const AFTERS: u32 = 1;
-
-pub const LAST_DOTS: u32 = 2;
-
-pub const USES: u32 = 3;
+// The lists of a rule: of dots that begin an alternative, dots after symbols, ends, dots before symbols.
+#[derive(Clone, Copy)]
+pub enum DotList {
+    Firsts,
+    Afters,
+    LastDots,
+    Uses,
+}
 
 // The rule of a dot, if `last` is that of the dot before it.
 fn home_at(code: &[u32], p: usize, last: u32) -> u32
@@ -47,86 +47,80 @@ pub fn homes(code: &[u32], size: usize, work: &mut [u32])
     homes_from(code, size, work, HOME);
 }
 
-fn use_key(code: &[u32], size: usize, p: usize) -> u32
+// The rule of the symbol after the dot p.
+#[tactic(auto, unfolding(crate::specs::Lists::use_key))]
+fn use_key(code: &[u32], size: usize, p: usize) -> Option<u32>
     requires { Shape code.now size × (p < size) }
-    ensures { result ≡ use_key code.now p }
+    ensures { rule_number result ≡ use_key code.now p }
 {
     if code[chart::CODE_COLUMNS * p] != chart::AT_SYMBOL {
-        return 0;
+        return None;
     }
-    code[chart::CODE_COLUMNS * p + chart::CODE_RULE] + 1
+    Some(code[chart::CODE_COLUMNS * p + chart::CODE_RULE])
 }
 
-fn after_key(code: &[u32], size: usize, p: usize) -> u32
+// That of the symbol before it.
+#[tactic(auto, unfolding(crate::specs::Lists::after_key))]
+fn after_key(code: &[u32], size: usize, p: usize) -> Option<u32>
     requires { Shape code.now size × (p < size) }
-    ensures { result ≡ after_key code.now p }
+    ensures { rule_number result ≡ after_key code.now p }
 {
     if p == 0 {
-        return 0;
+        return None;
     }
     use_key(code, size, p - 1)
 }
 
-fn end_key(code: &[u32], work: &[u32], size: usize, p: usize) -> u32
+// The rule of which an alternative ends there.
+fn end_key(code: &[u32], work: &[u32], size: usize, p: usize) -> Option<u32>
     requires { Keying code.now size work.now × (p < size) }
-    ensures { result ≡ end_key code.now p }
+    ensures { rule_number result ≡ end_key code.now p }
 {
     if code[chart::CODE_COLUMNS * p] != chart::AT_END {
-        return 0;
+        return None;
     }
-    work[HOME + p] + 1
+    Some(work[HOME + p])
 }
 
-fn key(code: &[u32], work: &[u32], size: usize, which: u32, p: usize) -> u32
+// The rule of the dot p in a list.
+#[tactic(auto, unfolding(crate::specs::Lists::key_of))]
+fn key(code: &[u32], work: &[u32], size: usize, which: DotList, p: usize) -> Option<u32>
     requires { Keying code.now size work.now × (p < size) }
-    ensures { result ≡ key_of code.now which p }
+    ensures { rule_number result ≡ key_of code.now (list_number which) p }
 {
-    if which == FIRSTS {
-        return code[chart::CODE_COLUMNS * p + chart::CODE_OWNER];
+    match which {
+        DotList::Firsts => code[chart::CODE_COLUMNS * p + chart::CODE_OWNER].checked_sub(1),
+        DotList::Afters => after_key(code, size, p),
+        DotList::LastDots => end_key(code, work, size, p),
+        DotList::Uses => use_key(code, size, p),
     }
-    if which == AFTERS {
-        return after_key(code, size, p);
-    }
-    if which == LAST_DOTS {
-        return end_key(code, work, size, p);
-    }
-    use_key(code, size, p)
-}
-
-fn is_zero(x: u32) -> u32
-    ensures { x ≡ 0 → result ≡ 1 }
-{
-    if x == 0 {
-        return 1;
-    }
-    0
 }
 
 // Dots without a rule in the list are open.
-pub fn open_dots(code: &[u32], work: &mut [u32], size: usize, which: u32)
+pub fn open_dots(code: &[u32], work: &mut [u32], size: usize, which: DotList)
     requires { Keying code.now size work.old }
-    ensures { Opened code.now size which work.old work.new }
+    ensures { Opened code.now size (list_number which) work.old work.new }
 {
     for p in 0..size {
-        let open = is_zero(key(code, work, size, which, p));
-        work[OPEN + p] = open;
+        let open = key(code, work, size, which, p).is_none();
+        work[OPEN + p] = open as u32;
     }
 }
 
-fn put_key(keys: &mut [u32], p: usize, rule: u32)
+fn put_key(keys: &mut [u32], p: usize, rule: Option<u32>)
     requires { (4 * p + 3 < length keys.old) × (p < 512) }
-    ensures { PutKey keys.old keys.new p rule }
+    ensures { PutKey keys.old keys.new p (rule_number rule) }
 {
-    if rule == 0 {
+    let Some(rule) = rule else {
         return;
-    }
+    };
     keys[chart::CODE_COLUMNS * p] = chart::AT_SYMBOL;
-    keys[chart::CODE_COLUMNS * p + chart::CODE_RULE] = rule - 1;
+    keys[chart::CODE_COLUMNS * p + chart::CODE_RULE] = rule;
 }
 
-fn put_keys(code: &[u32], work: &[u32], size: usize, which: u32, keys: &mut [u32])
+fn put_keys(code: &[u32], work: &[u32], size: usize, which: DotList, keys: &mut [u32])
     requires { Keying code.now size work.now × (4 * size ≤ length keys.old) × ((x : ℕ) → get_or keys.old x 0 ≡ 0) }
-    ensures { Keyed code.now size which keys.new }
+    ensures { Keyed code.now size (list_number which) keys.new }
 {
     for p in 0..size {
         put_key(keys, p, key(code, work, size, which, p));
@@ -134,9 +128,9 @@ fn put_keys(code: &[u32], work: &[u32], size: usize, which: u32, keys: &mut [u32
 }
 
 // The dots of each rule. In the beginning all links are 0.
-pub fn list_dots(code: &[u32], work: &[u32], size: usize, which: u32, list: &mut [u32])
+pub fn list_dots(code: &[u32], work: &[u32], size: usize, which: DotList, list: &mut [u32])
     requires { Listing code.now size work.now list.old }
-    ensures { Members code.now which size list.new }
+    ensures { Members code.now (list_number which) size list.new }
 {
     let mut keys = [0u32; chart::CODE_LENGTH];
     put_keys(code, work, size, which, &mut keys);

@@ -1,6 +1,6 @@
 // What both passes share: at each place of the record, a queue of the dots that are lifted there, each once.
 ghost use Rattle.std.specs.Prelude.{◌≡◌, ◌+◌, ◌<◌, ◌≤◌, length};
-ghost use Rattle.reach.specs.Work.{Kept, Lift, Spreads, Spread, Raised, Waking, Woken, Collecting, Collects, Collected};
+ghost use Rattle.reach.specs.Work.{tail_of, pushed, Kept, Lift, Spreads, Spread, Raised, Waking, Woken, Collecting, Collects, Collected};
 
 const DOTS: usize = text::limits::GRAMMAR_SIZE;
 
@@ -30,6 +30,17 @@ pub fn raise(marks: &mut [u8], x: usize, v: u8)
     }
 }
 
+// The dot p is put into the queue.
+fn push(work: &mut [u32], p: usize)
+    requires { (length work.old ≡ 1537) × (tail_of work.old < 512) × (p < 512) }
+    ensures { work.new ≡ pushed work.old p }
+{
+    let tail = work[TAIL] + 1;
+    let at = text::wide(tail);
+    work[TAIL] = tail;
+    work[at] = p as u32;
+}
+
 // The dot p is lifted above `low` at the place i, if it is open and as high as that. It is put into the queue.
 pub fn lift(marks: &mut [u8], work: &mut [u32], size: usize, i: usize, p: usize, low: u8)
     requires { Kept size low marks.old work.old i × (p < size) }
@@ -43,10 +54,7 @@ pub fn lift(marks: &mut [u8], work: &mut [u32], size: usize, i: usize, p: usize,
         return;
     }
     marks[x] = low + 1;
-    let tail = work[TAIL] + 1;
-    let at = text::wide(tail);
-    work[TAIL] = tail;
-    work[at] = p as u32;
+    push(work, p);
 }
 
 // All dots of the rule's list are.
@@ -107,10 +115,7 @@ fn gather(marks: &[u8], work: &mut [u32], size: usize, i: usize, p: usize, low: 
     if marks[PLACE * i + p] <= low {
         return;
     }
-    let tail = work[TAIL] + 1;
-    let at = text::wide(tail);
-    work[TAIL] = tail;
-    work[at] = p as u32;
+    push(work, p);
 }
 
 // All dots above `low` at the place i are, and no others.

@@ -230,6 +230,7 @@ pub fn two(table: &mut [u32], i: usize, from: usize, k: u32) -> Made
 }
 
 // The kind of an item by the first numbers of the name and of its rule's head: the mark at the use wins.
+#[tactic(auto, unfolding(crate::specs::Blocks::kind_by))]
 pub fn kind_by(used: u32, head: u32) -> u32
     ensures { result ≡ kind_by used head }
 {

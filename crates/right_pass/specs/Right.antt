@@ -1,9 +1,9 @@
 -- The pass from the right, at one place and from place to place.
-use Rattle.std.specs.Prelude.{List, ◌⊎◌, ◌≡◌, ℕ, ◌+◌, ◌*◌, ◌<◌, ◌≤◌, length, get_or}
+use Rattle.std.specs.Prelude.{List, ◌≡◌, ℕ, ◌+◌, ◌*◌, ◌<◌, ◌≤◌, length, get_or}
 use Rattle.text.specs.Lists.{Text}
 use Rattle.rules.specs.Ready.{Token}
 use Rattle.chart.specs.Code.{next_kind, goes_at, rule_at, owner_at}
-use Rattle.reach.specs.Flags.{dot_at, begin_at, end_at, Fits, Continued, Begins, Ends, Wanted, home_of, LeftClosed, RightClosed, FitsOnly}
+use Rattle.reach.specs.Flags.{begin_at, end_at, Fits, Continued, Begins, Ends, Wanted, home_of, LeftClosed, RightClosed, FitsOnly}
 use Rattle.reach.specs.Work.{Seen, Waits, Kept}
 use Rattle.reach.specs.Lists.{Shape, Homes, Members}
 use Rattle.left_pass.specs.Left.{Stir}

@@ -6,8 +6,8 @@ ghost use Rattle.right_pass.specs.Right.{At, AtList, Stepped, FirstDone, SymbolD
 ghost use Rattle.right_pass.specs.Right.{Unshifting, Unshifted, Righting, Righted};
 
 use reach::{
-    BEGINS, ENDS, OPEN, PLACE, Step, TAIL, WORK_LENGTH, collect, homes, lift, list_dots, open_dots,
-    raise, wake,
+    BEGINS, DotList, ENDS, OPEN, PLACE, Step, TAIL, WORK_LENGTH, collect, homes, lift, list_dots,
+    open_dots, raise, wake,
 };
 
 // Of a dot: reached, and after it no terminal that does not fit. Of a rule: it may begin or end; and a continued dot begins it, or it is wanted.
@@ -19,9 +19,18 @@ const MAY: u8 = 1;
 
 const WANTED: u8 = 2;
 
-const LIST_OF_ENDS: u32 = reach::LAST_DOTS;
+// A rule that may begin is begun by a continued dot, or one that may end is wanted; the dots of its list that fit are continued.
+const BEGINNING: Step = Step {
+    column: BEGINS,
+    low: MAY,
+    dots: FITS,
+};
 
-const LIST_OF_USES: u32 = reach::USES;
+const ENDING: Step = Step {
+    column: ENDS,
+    low: MAY,
+    dots: FITS,
+};
 
 // The continued dot x, if an alternative begins there: uses of its rule are continued here.
 fn at_first(
@@ -42,12 +51,7 @@ fn at_first(
         return;
     }
     let e = text::wide(owner - 1);
-    let begins = Step {
-        column: BEGINS,
-        low: MAY,
-        dots: FITS,
-    };
-    wake(uses, marks, work, size, j, e, begins);
+    wake(uses, marks, work, size, j, e, BEGINNING);
 }
 
 // The continued dot x, if a symbol stands before it: its rule is wanted here, and the dot before it continued where that rule begins.
@@ -73,12 +77,7 @@ fn after_symbol(
     }
     let e = text::wide(code[chart::CODE_COLUMNS * p + chart::CODE_RULE]);
     work[OPEN + p] = 1;
-    let wanted = Step {
-        column: ENDS,
-        low: MAY,
-        dots: FITS,
-    };
-    wake(ends, marks, work, size, j, e, wanted);
+    wake(ends, marks, work, size, j, e, ENDING);
     if marks[PLACE * j + (BEGINS + e)] < WANTED {
         return;
     }
@@ -171,16 +170,11 @@ pub fn right(table: &[u32], text: &[u32], code: &[u32], marks: &mut [u8], size: 
     let mut uses = [0u32; chart::USES_LENGTH];
     let mut ends = [0u32; chart::USES_LENGTH];
     homes(code, size, &mut work);
-    open_dots(code, &mut work, size, LIST_OF_USES);
-    list_dots(code, &work, size, LIST_OF_USES, &mut uses);
-    list_dots(code, &work, size, LIST_OF_ENDS, &mut ends);
-    let wanted = Step {
-        column: ENDS,
-        low: MAY,
-        dots: FITS,
-    };
+    open_dots(code, &mut work, size, DotList::Uses);
+    list_dots(code, &work, size, DotList::Uses, &mut uses);
+    list_dots(code, &work, size, DotList::LastDots, &mut ends);
     let n = text.len();
-    wake(&ends, marks, &mut work, size, n, top, wanted);
+    wake(&ends, marks, &mut work, size, n, top, ENDING);
     for rest in (0..n + 1).rev() {
         collect(marks, &mut work, size, rest, FITS);
         close(code, &uses, &ends, marks, &mut work, size, rest);

@@ -11,15 +11,6 @@ ghost use Rattle.rules.specs.Ready.{last_of, owner_of, Owners, Put, next_kind_of
 // The kind of the item before the item p, for p above 0.
 const KIND_BEFORE: usize = items::ITEM_KIND - items::ITEM_COLUMNS;
 
-fn less_one(x: u32) -> u32
-    ensures { result ≡ x - 1 }
-{
-    if x == 0 {
-        return 0;
-    }
-    x - 1
-}
-
 // The item that ends the rule of the item p, if `last` is that of the item after it.
 fn last_at(table: &[u32], p: usize, last: u32) -> u32
     requires { (length table.now ≡ grammar_table) × (p < 512) }
@@ -82,7 +73,8 @@ fn code_item(table: &[u32], size: usize, p: usize, code: &mut [u32])
     }
     if kind < items::ALTERNATIVE_END {
         let target = table[items::ITEM_TARGET + items::ITEM_COLUMNS * p];
-        let rule = less_one(code[chart::CODE_COLUMNS * text::wide(target) + chart::CODE_OWNER]);
+        let rule = code[chart::CODE_COLUMNS * text::wide(target)
+            + chart::CODE_OWNER].saturating_sub(1);
         put_item(code, p, chart::AT_SYMBOL, target, rule);
         return;
     }
@@ -109,5 +101,5 @@ pub fn code_rules(table: &[u32], size: usize, root: usize, code: &mut [u32]) -> 
 {
     owners(table, size, code);
     code_items(table, size, code);
-    text::wide(less_one(code[chart::CODE_COLUMNS * root + chart::CODE_OWNER]))
+    text::wide(code[chart::CODE_COLUMNS * root + chart::CODE_OWNER].saturating_sub(1))
 }

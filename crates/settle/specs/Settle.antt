@@ -1,12 +1,12 @@
 -- Settling a stretch that is not empty: what follows on it from its own heights is taken account of.
-use Rattle.std.specs.Prelude.{Bool, true, false, List, ◌⊎◌, ◌≡◌, ℕ, ◌+◌, ◌*◌, ◌<◌, ◌≤◌, max, get_or}
+use Rattle.std.specs.Prelude.{Bool, true, false, List, ◌⊎◌, ◌≡◌, ℕ, ◌+◌, ◌*◌, ◌<◌, ◌≤◌, max}
 use Rattle.chart.specs.Code.{next_kind, rule_at, owner_at}
 use Rattle.chart.specs.Heights.{none}
 use Rattle.heights.specs.Table.{up_of}
 use Rattle.heights.specs.Filling.{total, Only}
 use Rattle.reach.specs.Flags.{Wanted, home_of}
 use Rattle.sparse.specs.Cells.{is_last, empty_rest, rule_of, rest_of, Tables}
-use Rattle.sparse.specs.Steps.{toward_of, OffersAt, Fell, On, over_of, Given, LeastOn, Listed}
+use Rattle.sparse.specs.Steps.{toward_of, OffersAt, Fell, On, over_of, Given, LeastOn}
 use Rattle.queue.specs.Queue.{Pending, count_of, Queued}
 
 module _ (c M F : List ℕ) (size n i j : ℕ) where

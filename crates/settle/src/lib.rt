@@ -13,7 +13,7 @@ ghost use Rattle.settle.specs.Settle.{Ready, Offered, Put, Carried, AtLeft, Left
 use chart::{AT_END, CODE_COLUMNS, CODE_GOES, CODE_OWNER, CODE_RULE, NONE, cell};
 use queue::{COUNT, dequeue, enqueue};
 use sparse::{
-    HOMES, Offer, Stretch, WAKE_COUNT, WAKES, empty_rest, is_last, larger, lower, over, reached,
+    HOMES, Offer, Stretch, WAKE_COUNT, WAKES, empty_rest, is_last, lower, over, reached,
     rule_height, up, wanted,
 };
 
@@ -120,7 +120,7 @@ fn use_rule(
     }
     let rule = text::wide(code[CODE_COLUMNS * p + CODE_RULE]);
     let h = up(rule_height(marks, notes, main, rule, s));
-    let v = larger(h, empty_rest(code, notes, s.size, p + 1));
+    let v = h.max(empty_rest(code, notes, s.size, p + 1));
     if v == NONE {
         return;
     }
@@ -192,15 +192,14 @@ fn wake_all(
     ensures { AllWoken code.now marks.now notes.now s.size s.n.0 s.i.0 s.j.0 main.old queue.old
         main.new queue.new }
 {
-    let mut k = 0;
-    while k < text::wide(column[WAKE_COUNT]) {
+    for k in 0..text::wide(column[WAKE_COUNT]) {
         let dot = text::wide(column[WAKES + k]);
         let y = cell(s.n.0, dot, s.i.0, s.j.0);
         let height = main[y];
-        k += 1;
-        if height != NONE {
-            wake(code, marks, notes, main, queue, Offer { dot, height }, s);
+        if height == NONE {
+            continue;
         }
+        wake(code, marks, notes, main, queue, Offer { dot, height }, s);
     }
 }
 

@@ -1,6 +1,6 @@
 -- Heights of stretches in a table of which only a part is filled: rows of rules that are wanted at the stretch's end, and of dots that are
 -- reached at its beginning. The heights of empty stretches stand apart: they are the same at every place.
-use Rattle.std.specs.Prelude.{Bool, true, false, List, ◌≡◌, ℕ, ◌+◌, ◌*◌, ◌-◌, ◌<◌, ◌≤◌, max, eqb, leb, length, get_or}
+use Rattle.std.specs.Prelude.{Bool, false, List, ◌≡◌, ℕ, ◌+◌, ◌*◌, ◌-◌, ◌<◌, ◌≤◌, eqb, leb, length, get_or}
 use Rattle.text.specs.Limits.{most_size, record_chars}
 use Rattle.text.specs.Lists.{pick}
 use Rattle.chart.specs.Code.{next_kind, goes_at, rule_at, owner_at}

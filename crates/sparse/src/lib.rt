@@ -1,7 +1,7 @@
 // The part of the main table that is filled: its rows, and the heights that are read off it.
 #![tactic(auto)]
 
-ghost use Rattle.std.specs.Prelude.{◌≡◌, ℕ, ◌+◌, ◌*◌, ◌<◌, ◌≤◌, max, List, leb, length};
+ghost use Rattle.std.specs.Prelude.{◌≡◌, ℕ, ◌+◌, ◌*◌, ◌<◌, ◌≤◌, List, leb, length};
 ghost use Rattle.chart.specs.Heights.{cell_at, stretches, none};
 ghost use Rattle.heights.specs.Table.{up_of};
 ghost use Rattle.reach.specs.Flags.{dot_at, end_at};
@@ -101,34 +101,18 @@ pub fn wanted(marks: &[u8], rule: usize, j: CharPlace) -> bool
 pub fn up(h: u32) -> u32
     ensures { result ≡ up_of h }
 {
-    if h < NONE {
-        return h + 1;
-    }
-    NONE
-}
-
-// The larger of two heights.
-pub fn larger(a: u32, b: u32) -> u32
-    ensures { result ≡ max a b }
-{
-    if a < b {
-        return b;
-    }
-    a
+    h.saturating_add(1)
 }
 
 // Whether p stands before the last symbol of an alternative, and is not its first dot.
+#[tactic(auto, unfolding(crate::specs::Cells::is_last))]
 pub fn is_last(code: &[u32], size: usize, p: usize) -> bool
     requires { Shape code.now size × (p < size) }
     ensures { result ≡ is_last code.now p }
 {
-    if code[CODE_COLUMNS * p] != AT_SYMBOL {
-        return false;
-    }
-    if code[CODE_COLUMNS * (p + 1)] != AT_END {
-        return false;
-    }
-    code[CODE_COLUMNS * p + CODE_OWNER] == 0
+    code[CODE_COLUMNS * p] == AT_SYMBOL
+        && code[CODE_COLUMNS * (p + 1)] == AT_END
+        && code[CODE_COLUMNS * p + CODE_OWNER] == 0
 }
 
 // The row that the value of p lowers.
@@ -239,7 +223,7 @@ pub fn over(
         return NONE;
     }
     let rule = text::wide(code[CODE_COLUMNS * p + CODE_RULE]);
-    larger(up(notes[EMPTIES + rule]), v)
+    up(notes[EMPTIES + rule]).max(v)
 }
 
 // Lowers the cell of the row y to v if v is less, and tells whether.

@@ -1,7 +1,7 @@
 // What the coded grammar has for a dot position (crates/chart/specs), and the heights of alternatives in the filled part of a main table.
 #![tactic(auto)]
 
-ghost use Rattle.std.specs.Prelude.{◌⊎◌, ◌≡◌, ◌+◌, ◌*◌, ◌-◌, ◌<◌, ◌≤◌, min, length, get_or};
+ghost use Rattle.std.specs.Prelude.{◌⊎◌, ◌≡◌, ◌+◌, ◌*◌, ◌-◌, ◌<◌, ◌≤◌, length, get_or};
 ghost use Rattle.chart.specs.Code.{next_kind};
 ghost use Rattle.text.specs.Limits.{record_chars};
 ghost use Rattle.chart.specs.Heights.{cell_at};
@@ -9,7 +9,7 @@ ghost use Rattle.sparse.specs.Cells.{Shape};
 ghost use Rattle.splits.specs.Splits.{Ready, Position, rest_row, Barren, split_at, least_of, past_of, value_at};
 
 use chart::{CODE_COLUMNS, CODE_GOES, CODE_RULE, NONE, cell};
-use sparse::{Stretch, fits, is_last, larger, rest_height, rule_height, up};
+use sparse::{Stretch, fits, is_last, rest_height, rule_height, up};
 use text::CharPlace;
 
 // Kinds of dot positions. Any other stands before a symbol with alternatives.
@@ -55,17 +55,7 @@ pub fn split(
         p + 1,
         Stretch { size, n, i: m, j },
     );
-    larger(up(a), b)
-}
-
-// The smaller of two heights.
-fn smaller(a: u32, b: u32) -> u32
-    ensures { result ≡ min a b }
-{
-    if b < a {
-        return b;
-    }
-    a
+    up(a).max(b)
 }
 
 // Where the cells begin that hold the heights of what stands after the symbol at p, up to j: those of a last symbol's rule, or its own.
@@ -101,14 +91,12 @@ pub fn next_end(main: &[u32], x: usize, m: CharPlace, j: CharPlace) -> CharPlace
     requires { (x + j.0 ≤ length main.now) × (m.0 ≤ j.0) }
     ensures { Barren main.now x m.0 result.0 j.0 }
 {
-    let mut e = m.0;
-    while e < j.0 {
+    for e in m.0..j.0 {
         if main[x + e] != NONE {
             return CharPlace(e);
         }
-        e += 1;
     }
-    CharPlace(e)
+    j
 }
 
 // The least height of the symbol at p and what stands after it, over all places where the symbol ends.
@@ -122,7 +110,7 @@ fn least_split(code: &[u32], marks: &[u8], notes: &[u32], main: &[u32], p: usize
     while m.0 <= s.j.0 {
         let e = next_end(main, x, m, s.j);
         let w = split(code, marks, notes, main, p, s, e);
-        v = smaller(v, w);
+        v = v.min(w);
         m = CharPlace(e.0 + 1);
     }
     v

@@ -1,7 +1,7 @@
 // What a settled stretch hands on to longer ones with the same end: each dot has a height from m to j, and the symbol before it ends at m.
 #![tactic(auto)]
 
-ghost use Rattle.std.specs.Prelude.{◌≡◌, List, ℕ, ◌+◌, ◌*◌, ◌-◌, ◌<◌, ◌≤◌, length};
+ghost use Rattle.std.specs.Prelude.{true, ◌≡◌, List, ℕ, ◌+◌, ◌*◌, ◌-◌, ◌<◌, ◌≤◌, length};
 ghost use Rattle.chart.specs.Code.{next_kind, rule_at};
 ghost use Rattle.chart.specs.Heights.{none};
 ghost use Rattle.reach.specs.Flags.{Wanted};
@@ -16,7 +16,7 @@ ghost use Rattle.spread.specs.Spread.{Merging, Merged, DotSpread, Spread, AllSpr
 use chart::{AT_SYMBOL, AT_TERMINAL, CODE_COLUMNS, CODE_GOES, CODE_OWNER, CODE_RULE, NONE, cell};
 use sparse::{
     FULL, HAND_COUNT, HAND_ROWS, HANDS, LEVELS, LISTED, LOW_FROM, Offer, Stretch, TOUCHED, fits,
-    is_last, larger, lower, reached, rest_height, row, up, wanted,
+    is_last, lower, reached, rest_height, row, up, wanted,
 };
 use text::CharPlace;
 
@@ -64,21 +64,11 @@ fn spread_terminal(
 fn better(a: u32, h: u32, v: u32) -> u32
     ensures { Better a h v result }
 {
-    let m = larger(a, h);
+    let m = a.max(h);
     if m < v {
         return m + 1;
     }
     v
-}
-
-// One less; 0 of 0.
-fn less_one(b: u32) -> u32
-    ensures { result ≡ b - 1 }
-{
-    if b == 0 {
-        return 0;
-    }
-    b - 1
 }
 
 // By a symbol with the cells from x on, over a rest of the height h + 1, or 0 where h is 0, for k starts: the cells from y on.
@@ -112,10 +102,10 @@ fn both(t: u32, all: u32) -> u32
     all
 }
 
-// The starts that have a height in the cells from x on are touched; 0 unless all of them are.
-fn touch_each(main: &[u32], column: &mut [u32], x: usize, k: usize) -> u32
+// The starts that have a height in the cells from x on are touched; tells whether all of them are.
+fn touch_each(main: &[u32], column: &mut [u32], x: usize, k: usize) -> bool
     requires { (x + k ≤ length main.now) × (2563 + k ≤ length column.old) }
-    ensures { Touching main.now x k column.old column.new × ((result ≡ 0 → ⊥) → AllFlagged k column.new) }
+    ensures { Touching main.now x k column.old column.new × (result ≡ true → AllFlagged k column.new) }
 {
     let mut all = 1;
     for i in 0..k {
@@ -123,7 +113,7 @@ fn touch_each(main: &[u32], column: &mut [u32], x: usize, k: usize) -> u32
         column[TOUCHED + i] = t;
         all = both(t, all);
     }
-    all
+    all != 0
 }
 
 // The same, unless it is known that all are touched.
@@ -134,7 +124,7 @@ fn touch(main: &[u32], column: &mut [u32], x: usize, k: usize)
     if k <= text::wide(column[FULL]) {
         return;
     }
-    if touch_each(main, column, x, k) != 0 {
+    if touch_each(main, column, x, k) {
         column[FULL] = k as u32;
     }
 }
@@ -159,14 +149,12 @@ fn low_run(main: &[u32], z: usize, k: usize, h: u32) -> usize
     requires { (z + k ≤ length main.now) × (h < none) }
     ensures { LowRun main.now z k h result }
 {
-    let mut i = k;
-    while 0 < i {
-        if h + 1 < main[z + (i - 1)] {
-            return i;
+    for i in (0..k).rev() {
+        if h + 1 < main[z + i] {
+            return i + 1;
         }
-        i -= 1;
     }
-    i
+    0
 }
 
 // By the symbol at the dot, from every start from which it ends at m and that may gain by it. Cells that differ only in the start are neighbours.
@@ -183,7 +171,7 @@ fn spread_symbol(code: &[u32], main: &mut [u32], column: &mut [u32], o: Offer, s
     let x = cell(s.n.0, rule, 0, s.i.0);
     let y = row(code, s.size, o.dot);
     let z = cell(s.n.0, y, 0, s.j.0);
-    let h = less_one(o.height);
+    let h = o.height.saturating_sub(1);
     let k = high(column, y, s.i.0, h);
     touch(main, column, x, k);
     merge(main, x, z, k, h);
@@ -264,11 +252,9 @@ pub fn spread_empty(
     ensures { AllSpread code.now marks.now notes.now s.size s.n.0 s.i.0 s.j.0 main.old column.old
         main.new column.new }
 {
-    let mut k = 0;
-    while k < text::wide(column[LISTED]) {
+    for k in 0..text::wide(column[LISTED]) {
         let x = text::wide(column[k]);
         spread_dot(code, marks, notes, main, column, x, s);
-        k += 1;
     }
 }
 
@@ -323,15 +309,14 @@ pub fn spread(code: &[u32], marks: &[u8], main: &mut [u32], column: &mut [u32], 
         → AllSpread code.now marks.now F s.size s.n.0 s.i.0 s.j.0 main.old column.old
         main.new column.new }
 {
-    let mut k = 0;
-    while k < text::wide(column[HAND_COUNT]) {
+    for k in 0..text::wide(column[HAND_COUNT]) {
         let row = text::wide(column[HAND_ROWS + k]);
         let dot = text::wide(column[HANDS + k]);
         let y = cell(s.n.0, row, s.i.0, s.j.0);
         let height = main[y];
-        k += 1;
-        if height != NONE {
-            spread_row(code, marks, main, column, Offer { dot, height }, s);
+        if height == NONE {
+            continue;
         }
+        spread_row(code, marks, main, column, Offer { dot, height }, s);
     }
 }

@@ -1,5 +1,5 @@
 -- The flags of the search: 2 of a dot that does not stand, 1 of one that waits to be followed, 0 of one that was followed.
-use Rattle.std.specs.Prelude.{List, ◌⊎◌, ◌↔◌, ◌≡◌, ℕ, ◌+◌, ◌*◌, ◌<◌, ◌≤◌, length, get_or}
+use Rattle.std.specs.Prelude.{List, ◌⊎◌, ◌≡◌, ℕ, ◌+◌, ◌*◌, ◌<◌, ◌≤◌, length, get_or}
 use Rattle.chart.specs.Heights.{none}
 use Rattle.heights.specs.Filling.{total}
 use Rattle.reach.specs.Work.{Linked}

@@ -40,15 +40,6 @@ fn set_out(flags: &mut [u8], x: usize)
     }
 }
 
-fn least(a: usize, b: usize) -> usize
-    ensures { (result ≤ a) × (result ≤ b) }
-{
-    if a < b {
-        return a;
-    }
-    b
-}
-
 // The dots of the rule's list stand at the place i; the least of them, or `next`.
 fn enter(
     firsts: &[u32],
@@ -66,7 +57,7 @@ fn enter(
     let mut x = text::wide(firsts[chart::USE_COLUMNS * rule]);
     while 0 < x {
         let q = x - 1;
-        low = least(low, q);
+        low = low.min(q);
         set_out(flags, at + q);
         x = text::wide(firsts[chart::USE_COLUMNS * x - 1]);
     }

@@ -141,7 +141,3 @@ module _ (c f : List ℕ) (size n h : ℕ) (t : List ℕ) (p i j x : ℕ) (at : 
 
   pub took-dot : get_or t x 0 ≡ none → (r : Bool) → Offered c f size n h t p i j r → r ≡ true → DotAdded c f size n h t p i j (set t x h)
   took-dot b r o e = subst (λ (z : ℕ). DotAdded c f size n h t p i j (set t z h)) (sym at) (dot-added (sym here-is ∙ b) (o.yes e).0 (o.yes e).1)
-
--- the flag under another name
-pub told : {c f : List ℕ} {size n h : ℕ} {A : ℕ → ℕ → Type 0} {P : List ℕ → Type 0} {t u : List ℕ} {q r : Bool} → q ≡ r → Passed c f size n h A P t r u → Passed c f size n h A P t q u
-told {c} {f} {size} {n} {h} {A} {P} {t} {u} e a = subst (λ (b : Bool). Passed c f size n h A P t b u) (sym e) a

@@ -176,8 +176,7 @@ fn stretch(code: &[u32], fits: &[u8], main: &mut [u32], layer: Layer, i: usize, 
 {
     let mut added = false;
     for p in (0..layer.size).rev() {
-        let here = visit(code, fits, main, layer, p, i, j);
-        added = text::either(added, here);
+        added |= visit(code, fits, main, layer, p, i, j);
     }
     added
 }
@@ -192,8 +191,7 @@ fn column(code: &[u32], fits: &[u8], main: &mut [u32], layer: Layer, j: usize) -
 {
     let mut added = false;
     for i in (0..j + 1).rev() {
-        let here = stretch(code, fits, main, layer, i, j);
-        added = text::either(added, here);
+        added |= stretch(code, fits, main, layer, i, j);
     }
     added
 }
@@ -215,8 +213,7 @@ pub fn sweep(
     let layer = Layer { size, n, height };
     let mut added = false;
     for j in 0..n + 1 {
-        let here = column(code, fits, main, layer, j);
-        added = text::either(added, here);
+        added |= column(code, fits, main, layer, j);
     }
     added
 }

@@ -2,7 +2,7 @@
 use mathlib.Core.Bool.{Bool, true, false, not, ◌&&◌}
 use mathlib.Core.List.{List, [], ◌∷◌, ◌++◌, append-nil}
 use mathlib.Core.Path.{◌≡◌, refl, sym, ap, ◌∙◌}
-use Prim.Native.Nat.{ℕ, ◌+◌, ◌-◌, ◌<◌, ◌≤◌}
+use Prim.Native.Nat.{ℕ, ◌+◌, ◌<◌, ◌≤◌}
 use native.Mathlib.Omega.{arith}
 use lib.Dec.{eqb, leb, ltb}
 use lib.ListN.{length, get_or, take, drop, length-append, length-drop}
@@ -11,7 +11,7 @@ use borrow.Author.Tests.{eq-eqb, ne_eqb, lt-ltb, le-ltb, le-leb, lt-leb}
 use Rattle.text.specs.Lists.{Text, pick, any, among, begins}
 use Rattle.category.specs.Category.{classes, in_class, letters, place}
 use Rattle.category.proofs.Classes.{place-below, listed}
-use Rattle.tree.specs.Tree.{Mark, string, hex, Member, class, Terminal, literal, inclusion, exclusion, insertion}
+use Rattle.tree.specs.Tree.{Mark, string, hex, Member, Terminal, literal, inclusion, exclusion, insertion}
 use Rattle.tree.specs.Tokens.{numbers, encode, member_token, member_tokens, terminal_tokens, capped, mark_number}
 use Rattle.plain.specs.Plain.{is_member, fits, width}
 use Rattle.plain.specs.Written.{members_in}

@@ -1,12 +1,11 @@
 -- Terminals and members at places of the table, and what their numbers say.
-use Rattle.std.specs.Prelude.{Bool, true, false, not, ◌&&◌, List, [], ◌∷◌, ◌++◌, ◌≡◌, ℕ, ◌+◌, ◌*◌, ◌-◌, ◌<◌, ◌≤◌, ltb, leb, eqb, length, get_or, take, drop}
+use Rattle.std.specs.Prelude.{Bool, true, false, not, ◌&&◌, List, [], ◌∷◌, ◌++◌, ◌≡◌, ℕ, ◌+◌, ◌<◌, ◌≤◌, ltb, leb, eqb, length, get_or, take, drop}
 use Rattle.text.specs.Limits.{grammar_table, record_chars}
 use Rattle.text.specs.Lists.{Text, pick, begins, among}
 use Rattle.category.specs.Category.{classes, in_class, letters, place}
 use Rattle.tree.specs.Tree.{Member, Terminal}
-use Rattle.tree.specs.Tokens.{encode, numbers, member_token, member_tokens, terminal_tokens}
-use Rattle.plain.specs.Plain.{fits}
-use Rattle.terminals.specs.Sound.{SoundMember, SoundMembers, SoundTerminal}
+use Rattle.tree.specs.Tokens.{encode, member_tokens, terminal_tokens}
+use Rattle.terminals.specs.Sound.{SoundMembers, SoundTerminal}
 
 -- by the numbers of a member's token: whether it matches a character
 unfoldable pub match_of : List ℕ → ℕ → Bool

@@ -1,5 +1,5 @@
 -- Terminals whose tokens tell what they match: no hex number above 10FFFF, ends of ranges of one character, known classes.
-use Rattle.std.specs.Prelude.{true, List, [], ◌∷◌, ◌≡◌, ℕ, ◌<◌}
+use Rattle.std.specs.Prelude.{true, List, [], ◌∷◌, ◌≡◌, ◌<◌}
 use Rattle.category.specs.Category.{is_class}
 use Rattle.tree.specs.Tree.{Chars, string, hex, Member, chars, range, class, Terminal, literal, inclusion, exclusion, insertion}
 use Rattle.tokens.specs.Proper.{ProperEnd}

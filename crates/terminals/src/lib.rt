@@ -18,15 +18,7 @@ fn spells(table: &[u32], at: usize, n: usize, text: &[u32], i: CharPlace) -> boo
     requires { Beside table.now at n text.now i.0 }
     ensures { result ≡ begins (take n (drop at table.now)) (drop i.0 text.now) }
 {
-    if text.len() - i.0 < n {
-        return false;
-    }
-    for k in 0..n {
-        if table[at + k] != text[i.0 + k] {
-            return false;
-        }
-    }
-    true
+    text[i.0..].starts_with(&table[at..at + n])
 }
 
 // The character is one of those at a place of the table.
@@ -34,15 +26,10 @@ fn is_among(table: &[u32], at: usize, n: usize, c: u32) -> bool
     requires { Stretch table.now at n }
     ensures { result ≡ among c (take n (drop at table.now)) }
 {
-    for k in 0..n {
-        if table[at + k] == c {
-            return true;
-        }
-    }
-    false
+    table[at..at + n].contains(&c)
 }
 
-// The member at a place matches a character.
+// The member at a place matches a character. The kinds are told apart in place: no enum of a member is made for each test.
 fn member_matches(table: &[u32], at: usize, c: u32) -> bool
     requires { MemberHere table.now at }
     ensures { result ≡ match_of (drop at table.now) c }

@@ -16,12 +16,7 @@ fn all_known(table: &[u32], at: usize, n: usize) -> bool
     requires { Stretch table.now at n }
     ensures { result ≡ all Known (take n (drop at table.now)) }
 {
-    for k in 0..n {
-        if !alphabet::known(table[at + k]) {
-            return false;
-        }
-    }
-    true
+    table[at..at + n].iter().all(|code| alphabet::known(*code))
 }
 
 // Some character is.
@@ -29,12 +24,7 @@ fn some_known(table: &[u32], at: usize, n: usize) -> bool
     requires { Stretch table.now at n }
     ensures { result ≡ any Known (take n (drop at table.now)) }
 {
-    for k in 0..n {
-        if alphabet::known(table[at + k]) {
-            return true;
-        }
-    }
-    false
+    table[at..at + n].iter().any(|code| alphabet::known(*code))
 }
 
 // The member at a place matches a known character.

@@ -8,7 +8,7 @@ ghost use Rattle.terminals.specs.Marks.{Spanned, Placed, Adds, MarkMember, MarkM
 
 use text::alphabet;
 
-// The numbers from `from` on, before `past`.
+// The numbers from `from` on, before `past`. There are none where `past` is first, which `fill` of a part would not take.
 fn mark(marks: &mut [bool], from: usize, past: usize)
     requires { past ≤ length marks.old }
     ensures { Spanned marks.old marks.new from past }

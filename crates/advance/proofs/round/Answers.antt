@@ -7,30 +7,6 @@ use Rattle.advance.proofs.Readies.{few-rounds, round-late, round_by}
 use native.Mathlib.Omega.{arith}
 use Rattle.advance.proofs.round.Goals as goal
 
-pub prepare-requires : goal.prepare-requires
-prepare-requires c =
-    record {
-      grammar = c.requires.grammar;
-      ready = c.requires.ready;
-      long = c.requires.long;
-      small = c.requires.small;
-      short = c.requires.short;
-      room = omega (arith, c.requires.small);
-      fits-room = omega (arith, c.requires.small);
-    }
-
-pub count_rules-requires : goal.count_rules-requires
-count_rules-requires c =
-    (c.requires.small, omega (arith, c.requires.small, c.prepare.auto.code))
-
-pub overflow_mul-most : goal.overflow_mul-most
-overflow_mul-most c =
-    omega (
-      arith,
-      few-rounds c.count_rules.result (length c.args.text.now + 1) (omega (arith, c.count_rules.ensures.1, c.requires.small))
-          (omega (arith, c.requires.short)),
-    )
-
 pub returns-then-most-done : goal.returns-then-most-done
 returns-then-most-done c =
     λ g ready. round-late c.prepare.new.fits (c.prepare.ensures g ready) ready c.requires.small
@@ -48,10 +24,6 @@ advance-requires c =
       few-rounds c.count_rules.result (length c.args.text.now + 1)
           (omega (arith, c.count_rules.ensures.1, c.requires.small)) (omega (arith, c.requires.short)),
     )
-
-pub shape_of-main : goal.shape_of-main
-shape_of-main c =
-    c.advance.auto.main
 
 pub returns : goal.returns
 returns c =

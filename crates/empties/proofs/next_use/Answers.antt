@@ -2,16 +2,6 @@ use native.Mathlib.Omega.{arith}
 use Rattle.sparse.proofs.Rows.{owner-size}
 use Rattle.empties.proofs.next_use.Goals as goal
 
-pub overflow_mul-owner : goal.overflow_mul-owner
-overflow_mul-owner c =
-    let a = c.args in
-    let p = c.requires in omega (arith, c.wide-owner.ensures, owner-size p.0 a.p p.2, p.0.small)
-
-pub offset_bounds-notes-owner : goal.offset_bounds-notes-owner
-offset_bounds-notes-owner c =
-    let a = c.args in
-    let p = c.requires in omega (arith, c.wide-owner.ensures, owner-size p.0 a.p p.2, p.0.small)
-
 pub bounds-notes-owner : goal.bounds-notes-owner
 bounds-notes-owner c =
     let a = c.args in

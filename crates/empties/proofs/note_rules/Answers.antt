@@ -2,12 +2,6 @@ use native.Mathlib.Omega.{arith}
 use Rattle.empties.proofs.Noted.{noted_of}
 use Rattle.empties.proofs.note_rules.Goals as goal
 
-pub list_uses-requires : goal.list_uses-requires
-list_uses-requires c =
-    let pre = c.requires in
-    let shape = pre.0 in
-    (shape.small, shape.room, omega (arith, pre.1, shape.small), λ p h z. (shape.names p h z).0, pre.2)
-
 pub returns : goal.returns
 returns c =
     let pre = c.requires in

@@ -1,6 +1,5 @@
 use mathlib.Core.Path.{sym, ap, ◌∙◌}
 use Prim.Native.Nat.{ℕ, max}
-use native.Mathlib.Omega.{arith}
 use Rattle.heights.specs.Table.{up_of}
 use Rattle.sparse.specs.Cells.{empty_in}
 use Rattle.empties.proofs.Offers.{offer-end, offer-terminal, offer-taking, offer-symbol, offer-other}
@@ -10,10 +9,6 @@ pub returns-then-kind-eq-AT_END : goal.returns-then-kind-eq-AT_END
 returns-then-kind-eq-AT_END c =
     let a = c.args in
     sym (offer-end a.code.now a.notes.now a.p c.if-kind-eq-AT_END.true)
-
-pub empty_rest-b-requires : goal.empty_rest-b-requires
-empty_rest-b-requires c =
-    (c.requires.0, c.requires.1, c.requires.0.nexts c.args.p c.requires.2 c.if-kind-eq-AT_END.false)
 
 pub returns-then-code-p-eq0 : goal.returns-then-code-p-eq0
 returns-then-code-p-eq0 c =
@@ -30,21 +25,9 @@ returns-then-kind-ne-AT_SYMBOL c =
     let a = c.args in
     sym (offer-other a.code.now a.notes.now a.p c.if-kind-eq-AT_END.false c.if-kind-eq-AT_TERMINAL.false c.if-kind-ne-AT_SYMBOL.true)
 
-pub overflow_add-rule : goal.overflow_add-rule
-overflow_add-rule c =
-    omega (arith, c.wide-rule.ensures, c.requires.0.small, (c.requires.0.names c.args.p c.requires.2 c.if-kind-ne-AT_SYMBOL.false).0)
-
-pub offset_bounds-notes-rule : goal.offset_bounds-notes-rule
-offset_bounds-notes-rule c =
-    omega (arith, c.wide-rule.ensures, c.requires.0.small, (c.requires.0.names c.args.p c.requires.2 c.if-kind-ne-AT_SYMBOL.false).0)
-
-pub bounds-notes-rule : goal.bounds-notes-rule
-bounds-notes-rule c =
-    omega (arith, c.wide-rule.ensures, c.requires.0.small, c.requires.1, (c.requires.0.names c.args.p c.requires.2 c.if-kind-ne-AT_SYMBOL.false).0)
-
 pub returns : goal.returns
 returns c =
     let a = c.args in
     let e = c.up.ensures ∙ ap (λ (x : ℕ). up_of (empty_in a.notes.now x)) c.wide-rule.ensures in
     let d = c.empty_rest-b.ensures in
-    c.larger.ensures ∙ (λ ι. max (e ι) (d ι)) ∙ sym (offer-symbol a.code.now a.notes.now a.p c.if-kind-ne-AT_SYMBOL.false)
+    c.max.ensures ∙ (λ ι. max (e ι) (d ι)) ∙ sym (offer-symbol a.code.now a.notes.now a.p c.if-kind-ne-AT_SYMBOL.false)

@@ -1,4 +1,4 @@
-use Prim.Native.Nat.{ℕ, ◌+◌, ◌-◌}
+use Prim.Native.Nat.{ℕ, ◌+◌}
 use Rattle.fixpoint.specs.Fixed.{DotsFixed}
 use Rattle.tells.proofs.Tells.{not_so}
 use Rattle.fixpoint.proofs.Tests.{and-here, none-missed, all-hit}

@@ -1,4 +1,4 @@
-use Prim.Native.Nat.{ℕ, ◌+◌, ◌-◌}
+use Prim.Native.Nat.{ℕ, ◌+◌}
 use Rattle.fixpoint.specs.Fixed.{StartsFixed}
 use Rattle.tells.proofs.Tells.{not_so, hit, miss}
 use Rattle.fixpoint.proofs.Tests.{and-here, ends-fixed, fixed-ends}

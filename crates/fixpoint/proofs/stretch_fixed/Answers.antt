@@ -1,4 +1,4 @@
-use Prim.Native.Nat.{ℕ, ◌-◌}
+use Prim.Native.Nat.{ℕ}
 use lib.ListN.{length-replicate}
 use Rattle.fixpoint.specs.Fixed.{Fixed}
 use Rattle.tells.proofs.Tells.{not_so}

@@ -1,15 +1,10 @@
-use native.Mathlib.Omega.{arith}
 use mathlib.Core.Path.{refl}
-use Prim.Native.Nat.{◌-◌}
 use Rattle.items.proofs.Finals.{scanned-linkable, scanned-built, scanned-tokens}
 use Rattle.items.proofs.build_items.Goals as goal
 
 pub link-requires : goal.link-requires
 link-requires c =
     scanned-linkable (c.scan-s.ensures c.requires.tree c.requires.readable)
-
-pub overflow_cast-result : goal.overflow_cast-result
-overflow_cast-result c = omega (arith, c.type_inv.table 13825)
 
 pub returns : goal.returns
 returns c =

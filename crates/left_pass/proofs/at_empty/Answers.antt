@@ -1,11 +1,5 @@
-use Rattle.left_pass.proofs.Steps.{stepped-none, empty-after, empty-kept, empty-stepped, empty-done}
+use Rattle.left_pass.proofs.Steps.{empty-after, empty-kept, empty-stepped, empty-done}
 use Rattle.left_pass.proofs.at_empty.Goals as goal
-
-pub returns-then-code-p-ne-AT_TERMINAL : goal.returns-then-code-p-ne-AT_TERMINAL
-returns-then-code-p-ne-AT_TERMINAL c = (stepped-none c.requires, λ k. absurd (c.if-code-p-ne-AT_TERMINAL.true k))
-
-pub returns-then-code-p-ne0 : goal.returns-then-code-p-ne0
-returns-then-code-p-ne0 c = (stepped-none c.requires, λ k z. absurd (c.if-code-p-ne0.true z))
 
 pub lift-requires : goal.lift-requires
 lift-requires c = (

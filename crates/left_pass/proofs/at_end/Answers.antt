@@ -1,9 +1,6 @@
 use mathlib.Core.Path.{◌∙◌}
-use Rattle.left_pass.proofs.Steps.{stepped-none, end-home, end-waking, end-stepped, end-done}
+use Rattle.left_pass.proofs.Steps.{end-home, end-waking, end-stepped, end-done}
 use Rattle.left_pass.proofs.at_end.Goals as goal
-
-pub returns-then-code-p-ne-AT_END : goal.returns-then-code-p-ne-AT_END
-returns-then-code-p-ne-AT_END c = (stepped-none c.requires.at, λ k. absurd (c.if-code-p-ne-AT_END.true k))
 
 pub wake-requires : goal.wake-requires
 wake-requires c = rw (c.wide-e.ensures ∙ end-home c.requires

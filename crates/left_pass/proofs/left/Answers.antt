@@ -1,21 +1,10 @@
 use native.Mathlib.Omega.{arith}
-use Prim.Native.Nat.{ℕ, ◌-◌, ◌≤◌}
-use mathlib.Core.Path.{refl, ◌∙◌}
+use Prim.Native.Nat.{ℕ, ◌≤◌}
+use mathlib.Core.Path.{refl}
 use lib.ListN.{length, length-replicate}
 use Rattle.chart.proofs.Users.{all-zero}
-use Rattle.left_pass.proofs.Places.{keying-next, root-waking, place-start, place-collects, place-closing, place-given, place-next, place_end}
+use Rattle.left_pass.proofs.Places.{keying-next, root-waking, place-start, place-closing, place-next, place_end}
 use Rattle.left_pass.proofs.left.Goals as goal
-
-pub homes-requires : goal.homes-requires
-homes-requires c = record { shape = c.requires.given.shape; long = length-replicate {A = ℕ} 1537 0 }
-
-pub open_dots-requires : goal.open_dots-requires
-open_dots-requires c = record {
-  shape = c.requires.given.shape;
-  long = c.homes.ensures.long ∙
-      length-replicate {A = ℕ} 1537 0;
-  homes = c.homes.ensures.homes;
-}
 
 pub list_dots-requires : goal.list_dots-requires
 list_dots-requires c =
@@ -46,10 +35,6 @@ loop-i-init c =
     let p = place-start c.requires c.homes.ensures c.open_dots.ensures (all-zero 1537) (length-replicate {A = ℕ} 1537 0) c.list_dots.ensures c.wake.ensures in
     (p, omega arith, refl)
 
-pub collect-requires : goal.collect-requires
-collect-requires c = place-collects c.requires.given c.loop-i.invariant.0
-    (omega (arith, c.loop-i-test.true, c.loop-i.invariant.2))
-
 pub close-requires : goal.close-requires
 close-requires c = place-closing c.requires.given
     c.loop-i.invariant.0 (omega (
@@ -58,24 +43,6 @@ close-requires c = place-closing c.requires.given
       c.loop-i.invariant.2,
     ))
     c.list_dots.ensures c.list_dots-2.ensures c.collect.ensures
-
-pub shift-requires : goal.shift-requires
-shift-requires c =
-    let on : c.loop-i.i ≤ length
-    c.args.text.now =
-    omega (
-      arith,
-      c.loop-i-test.true,
-      c.loop-i.invariant.2,
-    ) in (
-      place-given c.requires.given c.loop-i.invariant.0 on
-          c.list_dots.ensures c.list_dots-2.ensures
-          c.collect.ensures c.close.ensures,
-      on,
-    )
-
-pub loop-i-smaller : goal.loop-i-smaller
-loop-i-smaller c = omega (arith, c.loop-i-test.true)
 
 pub loop-i-preserved : goal.loop-i-preserved
 loop-i-preserved c =
@@ -91,43 +58,6 @@ loop-i-preserved c =
       omega (arith, c.loop-i-test.true),
       c.loop-i.invariant.2,
     )
-
-pub overflow_mul-result : goal.overflow_mul-result
-overflow_mul-result c = omega (
-  arith,
-  c.loop-i.invariant.2,
-  c.requires.given.short,
-)
-
-pub overflow_add-result : goal.overflow_add-result
-overflow_add-result c = omega (
-  arith,
-  c.requires.inside,
-  c.requires.given.shape.small,
-)
-
-pub overflow_add-result-2 : goal.overflow_add-result-2
-overflow_add-result-2 c = omega (
-  arith,
-  c.loop-i.invariant.2,
-  c.requires.given.short,
-  c.requires.inside,
-  c.requires.given.shape.small,
-)
-
-pub bounds-marks-n : goal.bounds-marks-n
-bounds-marks-n c = omega (
-  arith,
-  c.loop-i.invariant.2,
-  c.requires.given.short,
-  c.requires.inside,
-  c.requires.given.shape.small,
-  c.loop-i.invariant.0.long,
-  c.loop-i.invariant.0.room,
-)
-
-pub shape_of-marks : goal.shape_of-marks
-shape_of-marks c = c.loop-i.invariant.0.long ∙ c.wake.ensures.long
 
 pub returns : goal.returns
 returns c = place_end c.loop-i.invariant.0 c.loop-i.invariant.2 (omega (arith, c.loop-i-test.false))

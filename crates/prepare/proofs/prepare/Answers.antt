@@ -2,11 +2,6 @@ use Rattle.rules.proofs.Whole.{here}
 use Rattle.prepare.proofs.Rows.{fitted}
 use Rattle.prepare.proofs.prepare.Goals as goal
 
-pub code_rules-top-requires : goal.code_rules-top-requires
-code_rules-top-requires c =
-    let pre = c.requires in
-    record { grammar = pre.grammar; ready = pre.ready; long = pre.long; small = pre.small; room = pre.room }
-
 pub fit_rows-requires : goal.fit_rows-requires
 fit_rows-requires c =
     let pre = c.requires in

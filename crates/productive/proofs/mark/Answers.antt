@@ -12,10 +12,6 @@ pub returns-then-owner-eq0 : goal.returns-then-owner-eq0
 returns-then-owner-eq0 c =
     mark-old c.requires.0 c.requires.1 (λ e o. absurd (omega (arith, c.if-owner-eq0.true)))
 
-pub offset_bounds-missing-e : goal.offset_bounds-missing-e
-offset_bounds-missing-e c =
-    omega (arith, c.wide-e.ensures, owner-below c.requires.0.shape c.requires.1 c.if-owner-eq0.false)
-
 pub bounds-missing-e : goal.bounds-missing-e
 bounds-missing-e c =
     omega (arith, c.wide-e.ensures, owner-below c.requires.0.shape c.requires.1 c.if-owner-eq0.false, c.requires.0.missing-long)
@@ -24,14 +20,6 @@ pub returns-then-missing-e-eq0 : goal.returns-then-missing-e-eq0
 returns-then-missing-e-eq0 c =
     mark-old c.requires.0 c.requires.1
     (λ e o. subst (Done c.args.missing.now) (let z : c.wide-e.result ≡ e = omega (arith, c.wide-e.ensures) in z) c.if-missing-e-eq0.true)
-
-pub offset_bounds-missing-e-2 : goal.offset_bounds-missing-e-2
-offset_bounds-missing-e-2 c =
-    omega (arith, c.wide-e.ensures, owner-below c.requires.0.shape c.requires.1 c.if-owner-eq0.false)
-
-pub bounds-missing-e-2 : goal.bounds-missing-e-2
-bounds-missing-e-2 c =
-    omega (arith, c.wide-e.ensures, owner-below c.requires.0.shape c.requires.1 c.if-owner-eq0.false, c.requires.0.missing-long)
 
 pub bounds-queue-at : goal.bounds-queue-at
 bounds-queue-at c =

@@ -21,10 +21,6 @@ drain-requires c =
       pending = whole-pending c.requires c.begin.ensures;
     }
 
-pub any_missing-requires : goal.any_missing-requires
-any_missing-requires c =
-    record { shape = c.requires.shape; room = c.requires.room; long = c.drain.ensures.moved.kept.missing-long }
-
 pub returns : goal.returns
 returns c =
     whole-end c.requires c.begin.ensures c.drain.ensures c.any_missing.ensures

@@ -5,11 +5,6 @@ use Rattle.productive.proofs.Items.{all-blank}
 use Rattle.productive.proofs.Model.{agrees, shape_of, here_of}
 use Rattle.productive.proofs.some_unproductive.Goals as goal
 
-pub code_rules-requires : goal.code_rules-requires
-code_rules-requires c =
-    let s = c.requires in
-    record { grammar = s.grammar; ready = s.ready; long = s.long; small = s.small; room = omega (arith, s.small) }
-
 pub mark_live-requires : goal.mark_live-requires
 mark_live-requires c =
     let s = c.requires in
@@ -23,9 +18,6 @@ mark_live-requires c =
       },
       all-blank 1024,
     )
-
-pub some_missing-requires : goal.some_missing-requires
-some_missing-requires c = c.mark_live.ensures.fresh
 
 pub returns : goal.returns
 returns c =

@@ -1,4 +1,3 @@
-use Prim.Native.Nat.{◌-◌}
 use Rattle.productive.proofs.Visits.{Visits}
 use Rattle.productive.proofs.visit.Given as goal
 

@@ -1,4 +1,4 @@
-use Prim.Native.Nat.{◌-◌, ◌≤◌}
+use Prim.Native.Nat.{◌≤◌}
 use Rattle.quick.specs.Quick.{AfterDots, ListedTo, ClearedTo}
 use Rattle.quick.proofs.list_column.Given as goal
 
@@ -6,4 +6,3 @@ abbrev pub invariant-loop-x : goal.invariant-loop-x
 invariant-loop-x l =
     (l.x ≤ l.s.size) × ListedTo l.code l.marks l.s.n.0 l.s.j.0 l.x l.column × ClearedTo l.code l.marks l.s.n.0 l.s.j.0 l.x l.initial.main l.main
     × AfterDots l.initial.column l.column
-

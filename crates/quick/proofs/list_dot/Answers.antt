@@ -1,12 +1,12 @@
-use mathlib.Core.Path.{refl, sym, ap, subst, ◌∙◌}
+use mathlib.Core.Path.{sym, ap, subst, ◌∙◌}
 use Prim.Native.Nat.{ℕ, ◌+◌}
 use native.Mathlib.Omega.{arith}
 use lib.Dec.{leb}
 use lib.ListN.{set}
 use Rattle.reach.specs.Flags.{end_at}
-use Rattle.sparse.proofs.Rows.{flagged, unflagged, home-size}
+use Rattle.sparse.proofs.Rows.{flagged, home-size}
 use Rattle.quick.specs.Quick.{AfterDots, ListedTo}
-use Rattle.quick.proofs.Columns.{listed-skip, listed-add, after-added, dot-same, dot-cleared}
+use Rattle.quick.proofs.Columns.{listed-add, after-added, dot-same, dot-cleared}
 use Rattle.quick.proofs.list_dot.Goals as goal
 
 pub wanted-requires : goal.wanted-requires
@@ -17,13 +17,6 @@ wanted-requires c =
       omega (arith, c.wide.ensures, g.noted.homes a.x c.requires.2, home-size g.shape a.x c.requires.2, g.shape.small),
       omega (arith, c.requires.1, g.short),
     )
-
-pub returns-then-not-wanted : goal.returns-then-not-wanted
-returns-then-not-wanted c =
-    let a = c.args in
-    let h = c.wide.ensures ∙ c.requires.0.noted.homes a.x c.requires.2 in
-    let w = unflagged _ _ (c.wanted.ensures ∙ ap (λ (z : ℕ). leb 2 (end_at a.marks.now z a.s.j.0)) h) c.if-not-wanted.true in
-    (listed-skip _ _ _ _ w c.requires.3, dot-same _ _ _ _ (λ y _. w y), λ z h. refl)
 
 pub returns-then-has_row : goal.returns-then-has_row
 returns-then-has_row c =

@@ -1,6 +1,6 @@
 use native.Mathlib.Omega.{arith}
 use mathlib.Core.Path.{sym, ap, ◌∙◌}
-use Prim.Native.Nat.{◌+◌, ◌-◌}
+use Prim.Native.Nat.{◌+◌}
 use Rattle.repetitions.specs.Blocks.{Entry, entry_at, star_block, once_block, laid}
 use Rattle.repetitions.proofs.Stores.{laid_then, entry_kept}
 use Rattle.repetitions.proofs.Operators.{is-option, is-star, is-plus, least-count}

@@ -1,7 +1,7 @@
 use native.Mathlib.Omega.{arith}
 use mathlib.Core.List.{◌++◌}
 use mathlib.Core.Path.{sym, ap, ◌∙◌}
-use Prim.Native.Nat.{◌+◌, ◌-◌}
+use Prim.Native.Nat.{◌+◌}
 use Rattle.repetitions.specs.Blocks.{Entry, entry, nums, entry_at, both_ends, list_block, laid}
 use Rattle.repetitions.proofs.Stores.{laid_then, entry_kept}
 use Rattle.repetitions.proofs.Operators.{is-list, is-maybe, least-two}

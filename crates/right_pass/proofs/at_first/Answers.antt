@@ -2,21 +2,8 @@ use native.Mathlib.Omega.{arith}
 use Prim.Native.Nat.{◌-◌, ◌+◌}
 use mathlib.Core.Path.{◌≡◌}
 use Rattle.chart.specs.Code.{owner_at}
-use Rattle.right_pass.proofs.Back.{back_none, first-waking, first-stepped, first_done}
-use Rattle.right_pass.proofs.Drains.{no-first}
+use Rattle.right_pass.proofs.Back.{first-stepped, first_done}
 use Rattle.right_pass.proofs.at_first.Goals as goal
-
-pub returns-then-owner-eq0 : goal.returns-then-owner-eq0
-returns-then-owner-eq0 c = (
-  back_none c.requires.at,
-  no-first c.args.code.now
-      c.args.marks.now c.args.j
-      c.args.x c.if-owner-eq0.true,
-)
-
-pub wake-requires : goal.wake-requires
-wake-requires c = rw c.wide-e.ensures (first-waking c.requires
-    (owner_at c.args.code.now c.args.x - 1) (omega (arith, c.if-owner-eq0.false)))
 
 pub returns : goal.returns
 returns c =

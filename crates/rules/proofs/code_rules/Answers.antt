@@ -29,4 +29,4 @@ bounds-code-root c =
 
 pub returns : goal.returns
 returns c =
-    λ g w. coded-rules w c.owners.ensures c.code_items.ensures c.wide.result (c.wide.ensures ∙ c.less_one.ensures)
+    λ g w. coded-rules w c.owners.ensures c.code_items.ensures c.wide.result (c.wide.ensures ∙ c.saturating_sub.ensures)

@@ -1,4 +1,3 @@
-use Prim.Native.Nat.{◌-◌}
 use Rattle.settle.proofs.Carrying.{Carrying}
 use Rattle.settle.proofs.carry.Given as goal
 

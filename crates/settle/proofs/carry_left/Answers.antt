@@ -1,18 +1,5 @@
-use mathlib.Core.Path.{sym, ◌∙◌}
-use Rattle.settle.proofs.Carrying.{left-first, left-none, left-offer-at, left-carried}
+use Rattle.settle.proofs.Carrying.{left-offer-at, left-carried}
 use Rattle.settle.proofs.carry_left.Goals as goal
-
--- src/lib.rt:104:9
-pub returns-then-x-eq0 : goal.returns-then-x-eq0
-returns-then-x-eq0 c =
-    let a = c.args in let s = a.s in let p = c.requires in left-first a.code.now a.marks.now a.notes.now s.size s.n.0 s.i.0 s.j.0 p.0.tables.shape
-    p.0.wide p.0.stop p.1 p.0.queued c.if-x-eq0.true
-
--- src/lib.rt:109:9
-pub returns-then-height : goal.returns-then-height
-returns-then-height c =
-    let a = c.args in let s = a.s in let p = c.requires in left-none a.code.now a.marks.now a.notes.now s.size s.n.0 s.i.0 s.j.0 p.0.tables.shape
-    p.0.wide p.0.stop p.1 c.if-x-eq0.false p.0.queued (sym c.over-height.ensures ∙ c.if-height.true)
 
 -- src/lib.rt:111:5
 pub carry-requires : goal.carry-requires

@@ -1,4 +1,3 @@
-use Prim.Native.Nat.{◌-◌}
 use Rattle.settle.proofs.Using.{Revisiting}
 use Rattle.settle.proofs.revisit.Given as goal
 

@@ -28,29 +28,14 @@ returns-then-not-wanted c =
     use-unwanted a.code.now a.marks.now a.notes.now s.size s.n.0 s.i.0 s.j.0 p.0.tables.shape p.0.wide p.0.stop a.p p.1 p.2
     p.0.queued (λ w. no (subst (λ (z : ℕ). Wanted a.marks.now z s.j.0) (sym home) w))
 
--- src/lib.rt:134:16
-pub rule_height-requires : goal.rule_height-requires
-rule_height-requires c =
-    let a = c.args in let s = a.s in let p = c.requires in let x = p.0.tables in let n = x.shape.names a.p p.1 p.2 in (
-      record { small = x.shape.small; noted-long = x.noted.long; short = x.short; marks-long = x.marks-long; room = x.room },
-      omega (arith, n.0, c.wide-rule.ensures),
-      omega (arith, p.0.wide),
-      p.0.stop,
-    )
-
--- src/lib.rt:135:23
-pub empty_rest-requires : goal.empty_rest-requires
-empty_rest-requires c =
-    let a = c.args in let s = a.s in let p = c.requires in let x = p.0.tables in (x.shape, x.noted.long, x.shape.nexts a.p p.1 (λ z. omega (arith, p.2)))
-
 -- src/lib.rt:137:9
 pub returns-then-v : goal.returns-then-v
 returns-then-v c =
     let a = c.args in let s = a.s in let p = c.requires in let x = p.0.tables in let one = c.up-h.ensures ∙ ap up_of
     (c.rule_height.ensures a.code.now ∙ ap (λ (z : ℕ). rule_of a.code.now a.marks.now a.notes.now s.n.0 a.main.now z s.i.0 s.j.0)
-    c.wide-rule.ensures) in let rest = c.empty_rest.ensures in let v = c.larger-v.ensures ∙ (λ ι. max (one ι) (rest ι)) in use-none a.code.now
+    c.wide-rule.ensures) in let rest = c.empty_rest.ensures in let v = c.max-v.ensures ∙ (λ ι. max (one ι) (rest ι)) in use-none a.code.now
     a.marks.now a.notes.now s.size s.n.0 s.i.0 s.j.0 p.0.tables.shape p.0.wide p.0.stop a.p p.1 p.2 a.main.now
-    c.larger-v.result v p.0.queued c.if-v.true
+    c.max-v.result v p.0.queued c.if-v.true
 
 -- src/lib.rt:144:9
 pub carry_left-requires : goal.carry_left-requires
@@ -59,12 +44,12 @@ carry_left-requires c =
     c.reached.ensures c.if-not-reached.false in let w = subst (λ (z : ℕ). Wanted a.marks.now z s.j.0) home
     (flagged _ _ c.wanted.ensures c.if-not-wanted.false) in let one = c.up-h.ensures ∙ ap up_of
     (c.rule_height.ensures a.code.now ∙ ap (λ (z : ℕ). rule_of a.code.now a.marks.now a.notes.now s.n.0 a.main.now z s.i.0 s.j.0)
-    c.wide-rule.ensures) in let rest = c.empty_rest.ensures in let v = c.larger-v.ensures ∙ (λ ι. max (one ι) (rest ι)) in let some = use-some
+    c.wide-rule.ensures) in let rest = c.empty_rest.ensures in let v = c.max-v.ensures ∙ (λ ι. max (one ι) (rest ι)) in let some = use-some
     a.code.now a.marks.now a.notes.now s.size s.n.0 s.i.0 s.j.0 p.0.tables.shape p.0.wide p.0.stop a.p p.1 p.2 a.main.now
-    c.larger-v.result v (omega (arith, c.type_inv.notes (1536 + (a.p + 1)))) c.if-v.false in (
+    c.max-v.result v (omega (arith, c.type_inv.notes (1536 + (a.p + 1)))) c.if-v.false in (
       p.0,
       use-left a.code.now a.marks.now a.notes.now s.size s.n.0 s.i.0 s.j.0 p.0.tables.shape p.0.wide p.0.stop a.p p.1 p.2
-          a.main.now c.larger-v.result v (sym c.is_last.ensures ∙ c.if-is_last.true) u w some,
+          a.main.now c.max-v.result v (sym c.is_last.ensures ∙ c.if-is_last.true) u w some,
     )
 
 -- src/lib.rt:145:9
@@ -72,9 +57,9 @@ pub returns-then-is_last : goal.returns-then-is_last
 returns-then-is_last c =
     let a = c.args in let s = a.s in let p = c.requires in let x = p.0.tables in let one = c.up-h.ensures ∙ ap up_of
     (c.rule_height.ensures a.code.now ∙ ap (λ (z : ℕ). rule_of a.code.now a.marks.now a.notes.now s.n.0 a.main.now z s.i.0 s.j.0)
-    c.wide-rule.ensures) in let rest = c.empty_rest.ensures in let v = c.larger-v.ensures ∙ (λ ι. max (one ι) (rest ι)) in used-last a.code.now
+    c.wide-rule.ensures) in let rest = c.empty_rest.ensures in let v = c.max-v.ensures ∙ (λ ι. max (one ι) (rest ι)) in used-last a.code.now
     a.marks.now a.notes.now s.size s.n.0 s.i.0 s.j.0 p.0.tables.shape p.0.wide p.0.stop a.p p.1 p.2 a.main.now
-    c.larger-v.result v (sym c.is_last.ensures ∙ c.if-is_last.true) c.carry_left.ensures
+    c.max-v.result v (sym c.is_last.ensures ∙ c.if-is_last.true) c.carry_left.ensures
 
 -- src/lib.rt:147:5
 pub carry-requires : goal.carry-requires
@@ -83,12 +68,12 @@ carry-requires c =
     c.reached.ensures c.if-not-reached.false in let w = subst (λ (z : ℕ). Wanted a.marks.now z s.j.0) home
     (flagged _ _ c.wanted.ensures c.if-not-wanted.false) in let one = c.up-h.ensures ∙ ap up_of
     (c.rule_height.ensures a.code.now ∙ ap (λ (z : ℕ). rule_of a.code.now a.marks.now a.notes.now s.n.0 a.main.now z s.i.0 s.j.0)
-    c.wide-rule.ensures) in let rest = c.empty_rest.ensures in let v = c.larger-v.ensures ∙ (λ ι. max (one ι) (rest ι)) in let some = use-some
+    c.wide-rule.ensures) in let rest = c.empty_rest.ensures in let v = c.max-v.ensures ∙ (λ ι. max (one ι) (rest ι)) in let some = use-some
     a.code.now a.marks.now a.notes.now s.size s.n.0 s.i.0 s.j.0 p.0.tables.shape p.0.wide p.0.stop a.p p.1 p.2 a.main.now
-    c.larger-v.result v (omega (arith, c.type_inv.notes (1536 + (a.p + 1)))) c.if-v.false in (
+    c.max-v.result v (omega (arith, c.type_inv.notes (1536 + (a.p + 1)))) c.if-v.false in (
       p.0,
       use-offer a.code.now a.marks.now a.notes.now s.size s.n.0 s.i.0 s.j.0 p.0.tables.shape p.0.wide p.0.stop a.p p.1 p.2
-          a.main.now c.larger-v.result v (sym c.is_last.ensures ∙ c.if-is_last.false) u w some,
+          a.main.now c.max-v.result v (sym c.is_last.ensures ∙ c.if-is_last.false) u w some,
     )
 
 -- src/lib.rt:115:1
@@ -96,6 +81,6 @@ pub returns : goal.returns
 returns c =
     let a = c.args in let s = a.s in let p = c.requires in let x = p.0.tables in let one = c.up-h.ensures ∙ ap up_of
     (c.rule_height.ensures a.code.now ∙ ap (λ (z : ℕ). rule_of a.code.now a.marks.now a.notes.now s.n.0 a.main.now z s.i.0 s.j.0)
-    c.wide-rule.ensures) in let rest = c.empty_rest.ensures in let v = c.larger-v.ensures ∙ (λ ι. max (one ι) (rest ι)) in used-carried
+    c.wide-rule.ensures) in let rest = c.empty_rest.ensures in let v = c.max-v.ensures ∙ (λ ι. max (one ι) (rest ι)) in used-carried
     a.code.now a.marks.now a.notes.now s.size s.n.0 s.i.0 s.j.0 p.0.tables.shape p.0.wide p.0.stop a.p p.1 p.2 a.main.now
-    c.larger-v.result v (sym c.is_last.ensures ∙ c.if-is_last.false) c.carry.ensures
+    c.max-v.result v (sym c.is_last.ensures ∙ c.if-is_last.false) c.carry.ensures

@@ -1,6 +1,5 @@
 use mathlib.Core.Path.{sym, ap, ◌∙◌}
 use Prim.Native.Nat.{ℕ, max}
-use native.Mathlib.Omega.{arith}
 use Rattle.heights.specs.Table.{up_of}
 use Rattle.sparse.specs.Cells.{empty_in}
 use Rattle.sparse.proofs.Rows.{flagged, unflagged, over-away, over-terminal, over-misfit, over-taking, over-symbol, over-other}
@@ -38,25 +37,10 @@ returns-then-kind-ne-AT_SYMBOL c =
     let w = flagged _ _ c.reached.ensures c.if-not-reached.false in
     sym (over-other a.code.now a.marks.now a.notes.now a.p a.i.0 a.v w c.if-kind-eq-AT_TERMINAL.false c.if-kind-ne-AT_SYMBOL.true)
 
-pub overflow_add-rule : goal.overflow_add-rule
-overflow_add-rule c =
-    let g = c.requires.0 in
-    omega (arith, c.wide-rule.ensures, g.small, (g.names c.args.p c.requires.3 c.if-kind-ne-AT_SYMBOL.false).0)
-
-pub offset_bounds-notes-rule : goal.offset_bounds-notes-rule
-offset_bounds-notes-rule c =
-    let g = c.requires.0 in
-    omega (arith, c.wide-rule.ensures, g.small, (g.names c.args.p c.requires.3 c.if-kind-ne-AT_SYMBOL.false).0)
-
-pub bounds-notes-rule : goal.bounds-notes-rule
-bounds-notes-rule c =
-    let g = c.requires.0 in
-    omega (arith, c.wide-rule.ensures, g.small, c.requires.1, (g.names c.args.p c.requires.3 c.if-kind-ne-AT_SYMBOL.false).0)
-
 pub returns : goal.returns
 returns c =
     let a = c.args in
     let w = flagged _ _ c.reached.ensures c.if-not-reached.false in
-    c.larger.ensures
+    c.max.ensures
     ∙ ap (λ (x : ℕ). max x a.v) (c.up.ensures ∙ ap (λ (x : ℕ). up_of (empty_in a.notes.now x)) c.wide-rule.ensures)
     ∙ sym (over-symbol a.code.now a.marks.now a.notes.now a.p a.i.0 a.v w c.if-kind-ne-AT_SYMBOL.false)

@@ -1,14 +1,9 @@
 use Prim.Native.Nat.{◌+◌, ◌-◌}
-use mathlib.Core.Path.{◌≡◌, sym}
+use mathlib.Core.Path.{◌≡◌}
 use native.Mathlib.Omega.{arith}
 use Rattle.chart.specs.Code.{owner_at}
-use Rattle.sparse.proofs.Rows.{row-inner, row_first}
+use Rattle.sparse.proofs.Rows.{row_first}
 use Rattle.sparse.proofs.row.Goals as goal
-
-pub returns-then-owner-eq0 : goal.returns-then-owner-eq0
-returns-then-owner-eq0 c =
-    let a = c.args in
-    (sym (row-inner a.code.now a.p (omega (arith, c.wide-owner.ensures, c.if-owner-eq0.true))), c.requires.1)
 
 pub returns : goal.returns
 returns c =

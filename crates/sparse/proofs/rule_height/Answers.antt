@@ -1,9 +1,8 @@
 use mathlib.Core.List.{List}
 use mathlib.Core.Path.{sym, ap, ◌∙◌}
 use Prim.Native.Nat.{ℕ}
-use native.Mathlib.Omega.{arith}
 use lib.ListN.{get_or}
-use Rattle.sparse.proofs.Rows.{flagged, unflagged, in_table, rule-empty, rule-cell, rule-none}
+use Rattle.sparse.proofs.Rows.{flagged, unflagged, rule-empty, rule-cell, rule-none}
 use Rattle.sparse.proofs.rule_height.Goals as goal
 
 pub returns-then-s : goal.returns-then-s
@@ -16,16 +15,6 @@ returns-then-not-wanted c =
     let a = c.args in
     let w = unflagged _ _ c.wanted.ensures c.if-not-wanted.true in
     λ (o : List ℕ). sym (rule-none o a.marks.now a.notes.now a.s.n.0 a.main.now a.rule a.s.i.0 a.s.j.0 c.if-s.false w)
-
-pub offset_bounds-main-x : goal.offset_bounds-main-x
-offset_bounds-main-x c =
-    let g = c.requires.0 in
-    omega (arith, in_table _ _ _ _ _ _ _ g.small g.short g.room c.requires.1 c.requires.2 c.requires.3 c.cell-x.ensures)
-
-pub bounds-main-x : goal.bounds-main-x
-bounds-main-x c =
-    let g = c.requires.0 in
-    in_table _ _ _ _ _ _ _ g.small g.short g.room c.requires.1 c.requires.2 c.requires.3 c.cell-x.ensures
 
 pub returns : goal.returns
 returns c =

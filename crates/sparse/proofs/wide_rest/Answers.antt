@@ -6,7 +6,7 @@ use lib.ListN.{get_or}
 use Rattle.heights.specs.Table.{up_of}
 use Rattle.reach.specs.Flags.{end_at}
 use Rattle.sparse.specs.Cells.{rule_of}
-use Rattle.sparse.proofs.Rows.{flagged, unflagged, in_table, last-is, home-size, wide-last, wide_row, wide-none}
+use Rattle.sparse.proofs.Rows.{flagged, unflagged, last-is, home-size, wide-last, wide_row, wide-none}
 use Rattle.sparse.proofs.wide_rest.Goals as goal
 
 pub rule_height-requires : goal.rule_height-requires
@@ -45,16 +45,6 @@ returns-then-not-wanted c =
     let w = unflagged _ _ (c.wanted.ensures ∙ ap (λ (x : ℕ). leb 2 (end_at a.marks.now x a.s.j.0)) h) c.if-not-wanted.true in
     sym (wide-none a.code.now a.marks.now a.notes.now a.s.n.0 a.main.now a.p a.s.i.0 a.s.j.0
     (sym c.is_last.ensures ∙ c.if-is_last.false) w)
-
-pub offset_bounds-main-x : goal.offset_bounds-main-x
-offset_bounds-main-x c =
-    let g = c.requires.0 in
-    omega (arith, in_table _ _ _ _ _ _ _ g.shape.small g.short g.room c.requires.1 c.requires.2 c.requires.3 c.cell-x.ensures)
-
-pub bounds-main-x : goal.bounds-main-x
-bounds-main-x c =
-    let g = c.requires.0 in
-    in_table _ _ _ _ _ _ _ g.shape.small g.short g.room c.requires.1 c.requires.2 c.requires.3 c.cell-x.ensures
 
 pub returns : goal.returns
 returns c =

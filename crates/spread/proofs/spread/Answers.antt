@@ -1,6 +1,6 @@
 use mathlib.Core.List.{List, []}
 use mathlib.Core.Path.{sym, ap, subst, ◌∙◌}
-use Prim.Native.Nat.{ℕ, ◌+◌, ◌-◌, ◌<◌}
+use Prim.Native.Nat.{ℕ, ◌+◌, ◌<◌}
 use native.Mathlib.Omega.{arith}
 use lib.ListN.{get_or}
 use Rattle.sparse.specs.Column.{Hands}
@@ -9,70 +9,15 @@ use Rattle.spread.proofs.Handing.{done_next, spread_none, spread_join}
 use Rattle.spread.proofs.Listed.{listing-kept, row-idle, rows_on}
 use Rattle.spread.proofs.spread.Goals as goal
 
-pub loop-k-init : goal.loop-k-init
-loop-k-init c =
-    let a = c.args in
-    (omega arith, λ (F : List ℕ). (spread_none _ _ _ _ _ _ _ a.main.now a.column.now, λ q l. absurd (omega arith)))
-
-pub bounds-column-2050 : goal.bounds-column-2050
-bounds-column-2050 c =
-    omega (arith, (c.loop-k.invariant.1 []).0.long, c.requires.0.column)
-
-pub overflow_add-k : goal.overflow_add-k
-overflow_add-k c =
-    let p = c.requires in
-    omega (arith, c.loop-k-test.true, c.wide.ensures, (c.loop-k.invariant.1 []).0.before 2050 (omega arith), p.2.count)
-
-pub offset_bounds-column-k : goal.offset_bounds-column-k
-offset_bounds-column-k c =
-    let p = c.requires in
-    omega (arith, c.loop-k-test.true, c.wide.ensures, (c.loop-k.invariant.1 []).0.before 2050 (omega arith), p.2.count)
-
-pub bounds-column-k : goal.bounds-column-k
-bounds-column-k c =
-    let p = c.requires in
-    omega (arith, c.loop-k-test.true, c.wide.ensures, (c.loop-k.invariant.1 []).0.before 2050 (omega arith), p.2.count, (c.loop-k.invariant.1 []).0.long, p.0.column)
-
-pub overflow_add-k-in-loop-k : goal.overflow_add-k-in-loop-k
-overflow_add-k-in-loop-k c =
-    let p = c.requires in
-    omega (arith, c.loop-k-test.true, c.wide.ensures, (c.loop-k.invariant.1 []).0.before 2050 (omega arith), p.2.count)
-
-pub offset_bounds-column-k-in-loop-k : goal.offset_bounds-column-k-in-loop-k
-offset_bounds-column-k-in-loop-k c =
-    let p = c.requires in
-    omega (arith, c.loop-k-test.true, c.wide.ensures, (c.loop-k.invariant.1 []).0.before 2050 (omega arith), p.2.count)
-
-pub bounds-column-k-in-loop-k : goal.bounds-column-k-in-loop-k
-bounds-column-k-in-loop-k c =
-    let p = c.requires in
-    omega (arith, c.loop-k-test.true, c.wide.ensures, (c.loop-k.invariant.1 []).0.before 2050 (omega arith), p.2.count, (c.loop-k.invariant.1 []).0.long, p.0.column)
-
 pub cell-y-requires : goal.cell-y-requires
 cell-y-requires c =
     let p = c.requires in
     let a = c.args in
     let w = (c.loop-k.invariant.1 []).0 in
-    let l : c.loop-k.k < get_or a.column.now 2050 0 = omega (arith, c.loop-k-test.true, c.wide.ensures, w.before 2050 (omega arith)) in
+    let l : c.loop-k.k < get_or a.column.now 2050 0 = omega (arith, c.loop-k-test.true, c.wide-k-end.ensures, w.before 2050 (omega arith)) in
     let e = p.2.each c.loop-k.k l in
     let y = c.wide-row.ensures ∙ w.before (1537 + c.loop-k.k) (omega (arith, l, p.2.count)) in
     (p.0.short, omega (arith, e.row, y, p.0.shape.small), omega (arith, p.0.wide), p.0.stop)
-
-pub offset_bounds-main-y : goal.offset_bounds-main-y
-offset_bounds-main-y c =
-    let p = c.requires in
-    let a = c.args in
-    let s = a.s in
-    let w = (c.loop-k.invariant.1 []).0 in
-    let l : c.loop-k.k < get_or a.column.now 2050 0 = omega (arith, c.loop-k-test.true, c.wide.ensures, w.before 2050 (omega arith)) in
-    let e = p.2.each c.loop-k.k l in
-    let y = c.wide-row.ensures ∙ w.before (1537 + c.loop-k.k) (omega (arith, l, p.2.count)) in
-    omega (
-      arith,
-      w.fell.long,
-      in_table s.size s.n.0 s.i.0 s.j.0 c.wide-row.result _ _ p.0.shape.small p.0.short p.0.room (omega (arith, e.row, y)) (omega
-          (arith, p.0.wide)) p.0.stop c.cell-y.ensures,
-    )
 
 pub bounds-main-y : goal.bounds-main-y
 bounds-main-y c =
@@ -80,7 +25,7 @@ bounds-main-y c =
     let a = c.args in
     let s = a.s in
     let w = (c.loop-k.invariant.1 []).0 in
-    let l : c.loop-k.k < get_or a.column.now 2050 0 = omega (arith, c.loop-k-test.true, c.wide.ensures, w.before 2050 (omega arith)) in
+    let l : c.loop-k.k < get_or a.column.now 2050 0 = omega (arith, c.loop-k-test.true, c.wide-k-end.ensures, w.before 2050 (omega arith)) in
     let e = p.2.each c.loop-k.k l in
     let y = c.wide-row.ensures ∙ w.before (1537 + c.loop-k.k) (omega (arith, l, p.2.count)) in
     omega (
@@ -90,18 +35,13 @@ bounds-main-y c =
           (arith, p.0.wide)) p.0.stop c.cell-y.ensures,
     )
 
-pub overflow_add-k-in-loop-k-2 : goal.overflow_add-k-in-loop-k-2
-overflow_add-k-in-loop-k-2 c =
-    let p = c.requires in
-    omega (arith, c.loop-k-test.true, c.wide.ensures, (c.loop-k.invariant.1 []).0.before 2050 (omega arith), p.2.count)
-
 pub spread_row-requires : goal.spread_row-requires
 spread_row-requires c =
     let p = c.requires in
     let a = c.args in
     let s = a.s in
     let w = (c.loop-k.invariant.1 []).0 in
-    let l : c.loop-k.k < get_or a.column.now 2050 0 = omega (arith, c.loop-k-test.true, c.wide.ensures, w.before 2050 (omega arith)) in
+    let l : c.loop-k.k < get_or a.column.now 2050 0 = omega (arith, c.loop-k-test.true, c.wide-k-end.ensures, w.before 2050 (omega arith)) in
     let y = c.wide-row.ensures ∙ w.before (1537 + c.loop-k.k) (omega (arith, l, p.2.count)) in
     let x = c.wide-dot.ensures ∙ w.before (1025 + c.loop-k.k) (omega (arith, l, p.2.count)) in (
       listing-kept p.0 w,
@@ -114,16 +54,12 @@ spread_row-requires c =
       ),
     )
 
-pub loop-k-smaller-then-height : goal.loop-k-smaller-then-height
-loop-k-smaller-then-height c =
-    omega (arith, c.loop-k-test.true, c.wide.ensures, (c.loop-k.invariant.1 []).0.before 2050 (omega arith))
-
-pub loop-k-preserved-then-height : goal.loop-k-preserved-then-height
-loop-k-preserved-then-height c =
+pub loop-k-preserved : goal.loop-k-preserved
+loop-k-preserved c =
     let p = c.requires in
     let a = c.args in
     let w = (c.loop-k.invariant.1 []).0 in
-    let l : c.loop-k.k < get_or a.column.now 2050 0 = omega (arith, c.loop-k-test.true, c.wide.ensures, w.before 2050 (omega arith)) in
+    let l : c.loop-k.k < get_or a.column.now 2050 0 = omega (arith, c.loop-k-test.true, c.wide-k-end.ensures, w.before 2050 (omega arith)) in
     let x = c.wide-dot.ensures ∙ w.before (1025 + c.loop-k.k) (omega (arith, l, p.2.count)) in (
       omega (arith, l),
       λ (F : List ℕ). let v = c.loop-k.invariant.1 F in
@@ -133,17 +69,13 @@ loop-k-preserved-then-height c =
           ),
     )
 
-pub loop-k-smaller : goal.loop-k-smaller
-loop-k-smaller c =
-    omega (arith, c.loop-k-test.true, c.wide.ensures, (c.loop-k.invariant.1 []).0.before 2050 (omega arith))
-
-pub loop-k-preserved : goal.loop-k-preserved
-loop-k-preserved c =
+pub loop-k-preserved-then-height : goal.loop-k-preserved-then-height
+loop-k-preserved-then-height c =
     let p = c.requires in
     let a = c.args in
     let s = a.s in
     let w = (c.loop-k.invariant.1 []).0 in
-    let l : c.loop-k.k < get_or a.column.now 2050 0 = omega (arith, c.loop-k-test.true, c.wide.ensures, w.before 2050 (omega arith)) in
+    let l : c.loop-k.k < get_or a.column.now 2050 0 = omega (arith, c.loop-k-test.true, c.wide-k-end.ensures, w.before 2050 (omega arith)) in
     let y = c.wide-row.ensures ∙ w.before (1537 + c.loop-k.k) (omega (arith, l, p.2.count)) in
     let x = c.wide-dot.ensures ∙ w.before (1025 + c.loop-k.k) (omega (arith, l, p.2.count)) in
     let h = subst (λ (z : ℕ). Hands a.code.now a.marks.now s.size s.j.0 z c.wide-row.result) (sym x)
@@ -154,17 +86,9 @@ loop-k-preserved c =
         done_next _ _ _ _ _ _ _ (omega (arith, p.0.wide)) p.0.stop (λ (q : ℕ). get_or a.column.now (1025 + q) 0) (spread_none _ _ _ _ _ _ _ c.loop-k.main
             c.loop-k.column) v.1 x
             (row-idle p.0 F c.loop-k.main c.wide-dot.result c.wide-row.result _ h (ap (λ (z : ℕ). get_or c.loop-k.main z 0) c.cell-y.ensures)
-            c.if-height.false),
+            c.if-height.true),
       ),
     )
-
-pub shape_of-main : goal.shape_of-main
-shape_of-main c =
-    (c.loop-k.invariant.1 []).0.fell.long
-
-pub shape_of-column : goal.shape_of-column
-shape_of-column c =
-    (c.loop-k.invariant.1 []).0.long
 
 pub returns : goal.returns
 returns c =
@@ -173,5 +97,5 @@ returns c =
     λ (F : List ℕ). let v = c.loop-k.invariant.1 F in
     record {
       spread = v.0;
-      on = rows_on p.0 F _ p.2 (λ k h. v.1 k (omega (arith, c.loop-k-test.false, c.wide.ensures, w.before 2050 (omega arith))));
+      on = rows_on p.0 F _ p.2 (λ k h. v.1 k (omega (arith, c.loop-k-test.false, c.wide-k-end.ensures, w.before 2050 (omega arith))));
     }

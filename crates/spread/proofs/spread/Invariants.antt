@@ -1,5 +1,5 @@
 use mathlib.Core.List.{List}
-use Prim.Native.Nat.{ℕ, ◌+◌, ◌-◌, ◌≤◌}
+use Prim.Native.Nat.{ℕ, ◌+◌, ◌≤◌}
 use lib.ListN.{get_or}
 use Rattle.spread.specs.Spread.{Spread}
 use Rattle.spread.proofs.Handing.{Done}
@@ -9,6 +9,3 @@ abbrev pub invariant-loop-k : goal.invariant-loop-k
 invariant-loop-k l =
     (l.k ≤ get_or l.initial.column 2050 0) × ((F : List ℕ) → Spread l.code l.marks F l.s.size l.s.n.0 l.s.i.0 l.s.j.0 l.initial.main l.initial.column l.main l.column
     × Done l.code l.marks F l.s.size l.s.n.0 l.s.i.0 l.s.j.0 (λ (q : ℕ). get_or l.initial.column (1025 + q) 0) l.k l.main)
-
-abbrev pub decreases-loop-k : goal.decreases-loop-k
-decreases-loop-k l = get_or l.initial.column 2050 0 - l.k

@@ -1,33 +1,9 @@
 use mathlib.Core.List.{List}
-use mathlib.Core.Path.{subst}
-use Prim.Native.Nat.{ℕ, ◌-◌}
+use Prim.Native.Nat.{ℕ}
 use native.Mathlib.Omega.{arith}
-use Rattle.reach.specs.Flags.{Fits}
-use Rattle.sparse.proofs.Rows.{flagged, unflagged}
-use Rattle.spread.proofs.Handing.{astray, terminal-low, terminal-kept}
+use Rattle.sparse.proofs.Rows.{flagged}
+use Rattle.spread.proofs.Handing.{terminal-low, terminal-kept}
 use Rattle.spread.proofs.spread_terminal.Goals as goal
-
-pub returns-then-width-eq0 : goal.returns-then-width-eq0
-returns-then-width-eq0 c =
-    let a = c.args in
-    λ (F : List ℕ) o.
-    astray a.code.now a.marks.now F a.s.size a.s.n.0 a.s.i.0 a.s.j.0 o c.requires.1
-    (λ i l f g. omega (arith, c.wide-width.ensures, c.if-width-eq0.true))
-
-pub returns-then-s-width : goal.returns-then-s-width
-returns-then-s-width c =
-    let a = c.args in
-    λ (F : List ℕ) o.
-    astray a.code.now a.marks.now F a.s.size a.s.n.0 a.s.i.0 a.s.j.0 o c.requires.1
-    (λ i l f g. omega (arith, c.wide-width.ensures, c.if-s-width.true))
-
-pub returns-then-not-fits : goal.returns-then-not-fits
-returns-then-not-fits c =
-    let a = c.args in
-    λ (F : List ℕ) o.
-    astray a.code.now a.marks.now F a.s.size a.s.n.0 a.s.i.0 a.s.j.0 o c.requires.1
-    (λ i l f g. unflagged _ _ c.fits.ensures c.if-not-fits.true
-    (subst (λ (z : ℕ). Fits a.marks.now a.o.dot z) (omega (arith, c.wide-width.ensures, c.if-s-width.false)) f))
 
 pub returns-then-lower : goal.returns-then-lower
 returns-then-lower c =

@@ -1,14 +1,10 @@
-use Prim.Native.Nat.{◌+◌, ◌*◌, ◌-◌}
+use Prim.Native.Nat.{◌-◌}
 use native.Mathlib.Omega.{arith}
 use Rattle.chart.specs.Code.{owner_at}
 use Rattle.heights.proofs.Cells.{at_room, owner-place}
 use Rattle.sweeps.specs.Layers.{no-rule, rule-above}
 use Rattle.sweeps.proofs.Visits.{held-rule, took-rule}
 use Rattle.sweeps.proofs.add_rule.Goals as goal
-
-pub overflow_cast-owner : goal.overflow_cast-owner
-overflow_cast-owner c =
-    omega (arith, c.type_inv.code (4 * c.args.p + 3))
 
 pub returns-then-owner-eq0 : goal.returns-then-owner-eq0
 returns-then-owner-eq0 c = no-rule c.if-owner-eq0.true
@@ -40,19 +36,6 @@ returns-then-main-x c =
 
 pub returns-then-layer-value : goal.returns-then-layer-value
 returns-then-layer-value c = rule-above (omega (arith, c.value.ensures, c.if-layer-value.true))
-
-pub offset_bounds-main-x-2 : goal.offset_bounds-main-x-2
-offset_bounds-main-x-2 c =
-    omega (
-      arith,
-      at_room c.requires.0.cells (owner-place c.requires.0 c.requires.1 (owner_at c.args.code.now c.args.p - 1)
-          (omega (arith, c.if-owner-eq0.false))) c.cell-x.ensures,
-    )
-
-pub bounds-main-x-2 : goal.bounds-main-x-2
-bounds-main-x-2 c =
-    at_room c.requires.0.cells (owner-place c.requires.0 c.requires.1 (owner_at c.args.code.now c.args.p - 1)
-    (omega (arith, c.if-owner-eq0.false))) c.cell-x.ensures
 
 pub returns : goal.returns
 returns c =

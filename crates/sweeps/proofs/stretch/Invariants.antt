@@ -1,5 +1,5 @@
 use mathlib.Core.Path.{◌≡◌}
-use Prim.Native.Nat.{◌-◌, ◌≤◌}
+use Prim.Native.Nat.{◌≤◌}
 use lib.ListN.{length}
 use Rattle.heights.specs.Filling.{Only}
 use Rattle.sweeps.specs.Layers.{Running, Passed}
@@ -11,4 +11,3 @@ invariant-loop-p l =
     (l.p ≤ l.layer.size) × (length l.main ≡ length l.initial.main)
     × (Running l.code l.fits l.layer.size l.layer.n l.layer.height l.initial.main
     → Passed l.code l.fits l.layer.size l.layer.n l.layer.height (Only l.i l.j) (FromDot l.code l.fits l.layer.size l.layer.n l.layer.height l.i l.j l.p) l.initial.main l.added l.main)
-

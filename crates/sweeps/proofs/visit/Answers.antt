@@ -1,10 +1,6 @@
 use Rattle.sweeps.proofs.Visits.{visited}
 use Rattle.sweeps.proofs.visit.Goals as goal
 
-pub add_rule-requires : goal.add_rule-requires
-add_rule-requires c =
-    (rw c.add_dot.auto.main c.requires.0.shape, c.requires.1)
-
 pub returns : goal.returns
 returns c =
     let a = c.args in

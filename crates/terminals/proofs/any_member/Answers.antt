@@ -1,12 +1,7 @@
 use native.Mathlib.Omega.{arith}
 use mathlib.Core.Path.{◌∙◌}
-use Prim.Native.Nat.{◌-◌}
-use Rattle.terminals.proofs.MemberPlaces.{go-start, go-end, members-some, go-head, go-found, go-next, head-here, head-inside, head-steps, head-match}
-use Rattle.plain.specs.Plain.{is_member}
+use Rattle.terminals.proofs.MemberPlaces.{go-end, members-some, go-head, go-found, go-next, head-here, head-inside, head-steps, head-match}
 use Rattle.terminals.proofs.any_member.Goals as goal
-
-pub loop-at-init : goal.loop-at-init
-loop-at-init c = go-start (is_member c.args.c) c.requires
 
 pub offset_bounds-table-at : goal.offset_bounds-table-at
 offset_bounds-table-at c = omega (arith, members-some c.loop-at.invariant.here.members c.loop-at.invariant.here.are, c.loop-at.invariant.here.small)

@@ -1,13 +1,6 @@
-use native.Mathlib.Omega.{arith}
-use mathlib.Core.Path.{refl, subst}
-use Prim.Native.Nat.{◌-◌, ◌≤◌}
-use Rattle.items.specs.Machine.{Abs}
-use Rattle.items.proofs.Reps.{rep-closed, block-bounds, closed-items, mark-old}
+use mathlib.Core.Path.{refl}
+use Rattle.items.proofs.Reps.{rep-closed, block-bounds, closed-items}
 use Rattle.items.proofs.machine.close.Goals as goal
-
-pub overflow_cast-old : goal.overflow_cast-old
-overflow_cast-old c =
-    omega (arith, mark-old c.requires.rep c.requires.act.block, subst (λ (z : Abs). z.base ≤ 512) c.requires.act.result c.requires.fit.base)
 
 pub block-next-requires : goal.block-next-requires
 block-next-requires c =

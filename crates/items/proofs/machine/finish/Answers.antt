@@ -1,16 +1,10 @@
 use native.Mathlib.Omega.{arith}
-use mathlib.Core.Path.{◌≡◌, ap, refl, subst}
-use Prim.Native.Nat.{ℕ, suc, ◌+◌, ◌*◌, ◌-◌, ◌≤◌}
+use mathlib.Core.Path.{◌≡◌, ap, refl}
+use Prim.Native.Nat.{ℕ, suc, ◌+◌, ◌*◌}
 use lib.ListN.{length-set}
 use lib.ListN.{set, get_or}
-use Rattle.items.specs.Machine.{Abs}
-use Rattle.items.proofs.Reps.{rep-finished, block-bounds, finished-items, mark-old}
-use borrow.Author.Rules.{rules}
+use Rattle.items.proofs.Reps.{rep-finished, block-bounds, finished-items}
 use Rattle.items.proofs.machine.finish.Goals as goal
-
-pub overflow_cast-old : goal.overflow_cast-old
-overflow_cast-old c =
-    omega (arith, mark-old c.requires.rep c.requires.act.block, subst (λ (z : Abs). z.base ≤ 512) c.requires.act.result c.requires.fit.base)
 
 pub block-next-requires : goal.block-next-requires
 block-next-requires c =

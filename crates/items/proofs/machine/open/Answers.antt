@@ -1,14 +1,11 @@
 use native.Mathlib.Omega.{arith}
 use mathlib.Core.Path.{ap, ◌∙◌, refl}
-use Prim.Native.Nat.{ℕ, ◌+◌, ◌*◌, ◌-◌}
+use Prim.Native.Nat.{ℕ, ◌+◌, ◌*◌}
 use lib.Seq.{sets}
 use Rattle.repetitions.specs.Blocks.{entry, nums}
 use Rattle.items.specs.Machine.{Abs}
 use Rattle.items.proofs.Reps.{rep-pushed}
 use Rattle.items.proofs.machine.open.Goals as goal
-
-pub overflow_cast-s : goal.overflow_cast-s
-overflow_cast-s c = omega (arith, c.requires.rep.base, c.requires.rep.has.fit.base)
 
 pub put-requires : goal.put-requires
 put-requires c =

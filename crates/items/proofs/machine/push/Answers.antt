@@ -1,6 +1,5 @@
 use native.Mathlib.Omega.{arith}
 use mathlib.Core.Path.{ap, refl}
-use Prim.Native.Nat.{◌-◌}
 use Rattle.repetitions.specs.Blocks.{entry}
 use Rattle.items.specs.Machine.{Abs}
 use Rattle.items.proofs.Reps.{rep-pushed}

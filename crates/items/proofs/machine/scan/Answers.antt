@@ -1,6 +1,5 @@
 use native.Mathlib.Omega.{arith}
-use mathlib.Core.Path.{refl, sym, ◌∙◌}
-use Prim.Native.Nat.{◌-◌}
+use mathlib.Core.Path.{refl}
 use Rattle.items.proofs.Scans.{going_start, going_done, front, front-ready, front-inside, front_length, front-forward, front-next}
 use Rattle.items.proofs.machine.scan.Goals as goal
 
@@ -40,9 +39,6 @@ loop-at-preserved c =
           front-next c.loop-at-test.true p.inside i.1 k (e k.from k.to k.rep k.act k.fit) c.token_end-at.result c.token_end-at.ensures,
       (e f.from f.to f.rep f.act f.fit).has.size,
     )
-
-pub shape_of-table : goal.shape_of-table
-shape_of-table c = c.loop-at.invariant.1 ∙ sym c.requires.size
 
 pub returns : goal.returns
 returns c =

@@ -4,14 +4,6 @@ use Rattle.items.specs.Machine.{Abs, Rep}
 use Rattle.items.proofs.Reps.{ready-as, act-as}
 use Rattle.items.proofs.machine.step.Goals as goal
 
-pub push-requires : goal.push-requires
-push-requires c =
-    ready-as (sym c.action_of.ensures ∙ c.in-Push.is) c.requires (omega (arith, c.requires.place)) (λ a b act. act)
-
-pub open-requires : goal.open-requires
-open-requires c =
-    ready-as (sym c.action_of.ensures ∙ c.in-Open.is) c.requires (omega (arith, c.requires.place)) (λ a b act. act)
-
 pub operate-requires : goal.operate-requires
 operate-requires c =
     ready-as (sym c.action_of.ensures ∙ c.in-Operator.is) c.requires (omega (arith, c.requires.place)) (λ a b act. act)

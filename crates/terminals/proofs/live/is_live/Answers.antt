@@ -5,77 +5,22 @@ use lib.ListN.{take, drop}
 use Rattle.text.specs.Lists.{all}
 use Rattle.text.specs.Utf8.{known}
 use Rattle.plain.specs.Written.{members_in}
-use Rattle.terminals.proofs.Places.{term-two, term-counted, term-members}
+use Rattle.terminals.proofs.Places.{term-members}
 use Rattle.terminals.proofs.LiveTerminals.{live-quoted, live-insertion, live-hex, live-inclusion, live-exclusion}
 use Rattle.terminals.proofs.live.is_live.Goals as goal
-
-pub offset_bounds-table-at : goal.offset_bounds-table-at
-offset_bounds-table-at c = omega (arith, c.requires.small, term-two c.requires.here.is)
-
-pub bounds-table-at : goal.bounds-table-at
-bounds-table-at c = omega (arith, c.requires.small, term-two c.requires.here.is)
-
-pub overflow_add-at : goal.overflow_add-at
-overflow_add-at c =
-    omega (arith, c.requires.small, term-two c.requires.here.is, term-counted c.requires.here.is c.if-kind-lt-CODED.true)
-
-pub overflow_add-at-then-kind-lt-CODED : goal.overflow_add-at-then-kind-lt-CODED
-overflow_add-at-then-kind-lt-CODED c =
-    omega (arith, c.requires.small, term-two c.requires.here.is, term-counted c.requires.here.is c.if-kind-lt-CODED.true)
-
-pub offset_bounds-table-at-then-kind-lt-CODED : goal.offset_bounds-table-at-then-kind-lt-CODED
-offset_bounds-table-at-then-kind-lt-CODED c =
-    omega (arith, c.requires.small, term-two c.requires.here.is, term-counted c.requires.here.is c.if-kind-lt-CODED.true)
-
-pub bounds-table-at-then-kind-lt-CODED : goal.bounds-table-at-then-kind-lt-CODED
-bounds-table-at-then-kind-lt-CODED c =
-    omega (arith, c.requires.small, term-two c.requires.here.is, term-counted c.requires.here.is c.if-kind-lt-CODED.true)
-
-pub all_known-requires : goal.all_known-requires
-all_known-requires c =
-    record { small = c.requires.small; inside = rw c.wide.ensures (term-counted c.requires.here.is c.if-kind-lt-CODED.true) }
 
 pub returns-then-kind-lt-CODED : goal.returns-then-kind-lt-CODED
 returns-then-kind-lt-CODED c =
     λ x w. c.all_known.ensures ∙ ap (λ (n : ℕ). all known (take n (drop (c.args.at + 2) c.args.table.now))) c.wide.ensures ∙ live-quoted w
     c.if-kind-lt-CODED.true
 
-pub overflow_add-at-then-kind-lt-INCLUDE : goal.overflow_add-at-then-kind-lt-INCLUDE
-overflow_add-at-then-kind-lt-INCLUDE c =
-    omega (arith, c.requires.small, term-two c.requires.here.is)
-
-pub offset_bounds-table-at-then-kind-lt-INCLUDE : goal.offset_bounds-table-at-then-kind-lt-INCLUDE
-offset_bounds-table-at-then-kind-lt-INCLUDE c =
-    omega (arith, c.requires.small, term-two c.requires.here.is)
-
-pub bounds-table-at-then-kind-lt-INCLUDE : goal.bounds-table-at-then-kind-lt-INCLUDE
-bounds-table-at-then-kind-lt-INCLUDE c =
-    omega (arith, c.requires.small, term-two c.requires.here.is)
-
 pub returns-then-kind-lt-INCLUDE : goal.returns-then-kind-lt-INCLUDE
 returns-then-kind-lt-INCLUDE c = λ x w. c.known.ensures ∙ live-hex w c.if-kind-lt-CODED.false (omega (arith, c.if-kind-lt-INCLUDE.true)) c.if-kind-lt-INCLUDE.true
-
-pub overflow_add-at-then-kind-lt-EXCLUDE : goal.overflow_add-at-then-kind-lt-EXCLUDE
-overflow_add-at-then-kind-lt-EXCLUDE c =
-    omega (arith, c.requires.small, term-two c.requires.here.is)
-
-pub some_member_is_live-requires : goal.some_member_is_live-requires
-some_member_is_live-requires c =
-    record
-    { small = c.requires.small; members = members_in c.requires.here.terminal; are = term-members c.requires.here.is c.if-kind-lt-INCLUDE.false (omega (arith, c.if-kind-lt-EXCLUDE.true)) }
 
 pub returns-then-kind-lt-EXCLUDE : goal.returns-then-kind-lt-EXCLUDE
 returns-then-kind-lt-EXCLUDE c =
     λ x w. c.some_member_is_live.ensures (members_in x) (term-members w c.if-kind-lt-INCLUDE.false (omega (arith, c.if-kind-lt-EXCLUDE.true))) ∙ live-inclusion w c.if-kind-lt-CODED.false
     (omega (arith, c.if-kind-lt-EXCLUDE.true)) c.if-kind-lt-INCLUDE.false c.if-kind-lt-EXCLUDE.true
-
-pub overflow_add-at-then-kind-lt-RULE_HEAD : goal.overflow_add-at-then-kind-lt-RULE_HEAD
-overflow_add-at-then-kind-lt-RULE_HEAD c =
-    omega (arith, c.requires.small, term-two c.requires.here.is)
-
-pub exclusion_is_live-requires : goal.exclusion_is_live-requires
-exclusion_is_live-requires c =
-    record { small = c.requires.small; members = members_in c.requires.here.terminal; are = term-members c.requires.here.is c.if-kind-lt-INCLUDE.false c.if-kind-lt-RULE_HEAD.true }
 
 pub returns-then-kind-lt-RULE_HEAD : goal.returns-then-kind-lt-RULE_HEAD
 returns-then-kind-lt-RULE_HEAD c =

@@ -1,13 +1,8 @@
 use native.Mathlib.Omega.{arith}
 use mathlib.Core.Path.{◌∙◌}
-use Prim.Native.Nat.{◌-◌}
-use Rattle.plain.specs.Live.{live_member}
-use Rattle.terminals.proofs.MemberPlaces.{go-start, go-end, members-some, go-head, go-found, go-next, head-here, head-inside, head-steps}
+use Rattle.terminals.proofs.MemberPlaces.{go-end, members-some, go-head, go-found, go-next, head-here, head-inside, head-steps}
 use Rattle.terminals.proofs.LiveTerminals.{head_live}
 use Rattle.terminals.proofs.live.some_member_is_live.Goals as goal
-
-pub loop-at-init : goal.loop-at-init
-loop-at-init c = go-start live_member c.requires
 
 pub offset_bounds-table-at : goal.offset_bounds-table-at
 offset_bounds-table-at c = omega (arith, members-some c.loop-at.invariant.here.members c.loop-at.invariant.here.are, c.loop-at.invariant.here.small)

@@ -1,12 +1,7 @@
 use native.Mathlib.Omega.{arith}
-use mathlib.Core.Path.{sym, ◌∙◌}
-use Prim.Native.Nat.{◌-◌}
 use Rattle.terminals.proofs.MemberPlaces.{members-some, head-here, head-inside, head-steps}
-use Rattle.terminals.proofs.Marking.{marking-start, marking-head, marking-next, marking-end}
+use Rattle.terminals.proofs.Marking.{marking-head, marking-next, marking-end}
 use Rattle.terminals.proofs.marks.mark_members.Goals as goal
-
-pub loop-at-init : goal.loop-at-init
-loop-at-init c = marking-start c.requires.here c.requires.marks
 
 pub offset_bounds-table-at : goal.offset_bounds-table-at
 offset_bounds-table-at c = omega (arith, members-some c.loop-at.invariant.here.members c.loop-at.invariant.here.are, c.loop-at.invariant.here.small)
@@ -30,12 +25,6 @@ loop-at-smaller c =
 pub loop-at-preserved : goal.loop-at-preserved
 loop-at-preserved c =
     rw c.token_end-at.ensures (marking-next c.loop-at.invariant c.loop-at-test.true c.mark_member.ensures)
-
-pub shape_of-places : goal.shape_of-places
-shape_of-places c = c.loop-at.invariant.marks.places ∙ sym c.requires.marks.places
-
-pub shape_of-categories : goal.shape_of-categories
-shape_of-categories c = c.loop-at.invariant.marks.categories ∙ sym c.requires.marks.categories
 
 pub returns : goal.returns
 returns c = marking-end c.loop-at.invariant c.loop-at-test.false
