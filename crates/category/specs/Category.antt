@@ -1,7 +1,7 @@
 -- Categories of code points, and classes.
 use Rattle.std.specs.Prelude.{Bool, true, false, ◌&&◌, List, [], ◌∷◌, ◌++◌, ◌≡◌, ℕ, ◌+◌, ◌%◌, ◌≤◌, leb, ltb, eqb}
 use Prim.Native.String.{String}
-use Rattle.text.specs.Lists.{Text, chars, pick, any, same, begins, among, Span, span, inside}
+use Rattle.text.specs.Lists.{Text, chars, pick, any, same, begins, Span, span, inside}
 
 -- the thirty two-letter Unicode categories; the place in this list is a category's number
 unfoldable pub categories : List Text

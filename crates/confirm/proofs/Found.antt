@@ -11,7 +11,7 @@ use Rattle.text.specs.Lists.{Text, all}
 use Rattle.text.specs.Utf8.{known}
 use Rattle.tree.specs.Tree.{Terminal, Symbol, terminal, Grammar}
 use Rattle.plain.specs.Plain.{alts, width}
-use Rattle.derive.specs.Derive.{Row, end, Derives, d-end, d-leaf, d-node, alternative, root}
+use Rattle.derive.specs.Derive.{Row, Derives, d-end, d-leaf, d-node, alternative, root}
 use Rattle.derive.specs.Yield.{productive, unproductive}
 use Rattle.derive.proofs.Symbols.{Inside, alternative-of, root-inside}
 use Rattle.derive.proofs.Rows.{forward}

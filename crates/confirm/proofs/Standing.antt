@@ -11,7 +11,6 @@ use Rattle.tree.specs.Tree.{Symbol, Grammar}
 use Rattle.plain.specs.Plain.{alts, width}
 use Rattle.derive.specs.Derive.{Row, end, leaf, node, Derives, d-end, d-leaf, d-node, alternative, root}
 use Rattle.derive.specs.Yield.{productive, unproductive}
-use Rattle.derive.proofs.Symbols.{root-inside}
 use Rattle.viable.specs.Stands.{Stands, at-root, into}
 use Rattle.viable.specs.Stands as sees
 use Rattle.chart.specs.Code.{next_kind, goes_at, rule_at, after_dot, head_of, On, at-end, at-terminal, at_symbol, Ruled}

@@ -20,7 +20,7 @@ use Rattle.answer.proofs.Noted.{value-skip}
 use Rattle.answer.proofs.Stages.{stage-15}
 use Rattle.load.specs.Loaded.{Turned}
 use Rattle.accept.specs.declared.Rules.{Rules}
-use Rattle.accept.specs.Accepted.{Kept, Accepts}
+use Rattle.accept.specs.Accepted.{Kept}
 use Rattle.opening.specs.declared.Start.{Start}
 use Rattle.opening.specs.Stages.{Takes, Opened, lending, need_of, Small, NotBegun, Opens, BeginsBy}
 

@@ -1,7 +1,6 @@
 -- From what the stages of the search promise to the place of the fault.
 use mathlib.Core.Bool.{Bool, true, false}
-use mathlib.Core.List.{List, [], ◌∷◌}
-use mathlib.Core.Logic.{◌⊎◌, ⊎_elim}
+use mathlib.Core.List.{List}
 use mathlib.Core.Path.{◌≡◌, refl, sym, subst}
 use Prim.Native.Nat.{ℕ, ◌+◌, ◌*◌, ◌≤◌}
 use native.Mathlib.Omega.{arith}
@@ -24,7 +23,7 @@ use Rattle.sparse.proofs.Coded.{shape_of}
 use Rattle.reading.specs.declared.Found.{Found}
 use Rattle.reading.specs.declared.Unread.{Unread}
 use Rattle.reading.specs.declared.Unread.TheVariants as unread
-use Rattle.reading.specs.Answer.{IsLong, NotRead, no-reading, too_long, Answers}
+use Rattle.reading.specs.Answer.{IsLong, NotRead, no-reading, too_long}
 use Rattle.fault.specs.Firsts.{Tokened}
 use Rattle.chooser.specs.Choose.{Choosable}
 use Rattle.parser.specs.Choose.{Coded, Blank, LocatableAnew}

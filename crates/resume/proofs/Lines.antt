@@ -20,7 +20,7 @@ use Rattle.answer.proofs.Lines.{one-topmost, first-topmost}
 use Rattle.answer.proofs.Agree.{grammar-agrees, need-agrees, tree-known, tree-sound, one-grammar, one-record, same_test}
 use Rattle.answer.proofs.Stages.{stage-lent}
 use Rattle.opening.specs.declared.Start.{Start}
-use Rattle.std.specs.Prelude.{Result, Ok, Err}
+use Rattle.std.specs.Prelude.{Result, Err}
 use Rattle.opening.specs.Stages.{Opened, Started, Opens, lending, need_of}
 use Rattle.opening.proofs.Starts.{need-is}
 use Rattle.state.specs.State.{Keeps}

@@ -23,7 +23,6 @@ use Rattle.rounds.proofs.Says.{after-says}
 use Rattle.advance.specs.Round.{Rounded}
 use Rattle.advance.proofs.Turns.{flag-most}
 use Rattle.state.specs.State.{rounds_of, FinishedBy, Keeps, Counted}
-use Rattle.exported.specs.declared.Answer.{Answer}
 use Rattle.exported.specs.Exported.{shown, refusal_of}
 use Rattle.resume.specs.declared.Progress.{Progress}
 use Rattle.resume.specs.Resume.{later_lines, Belongs, StartedAs, Counts, RoundedAs, EndedAs, early, altered, as-uncut}

@@ -1,5 +1,5 @@
 -- Reading in rounds: what the calls answer, and what they leave in table and state.
-use Rattle.std.specs.Prelude.{Bool, true, false, ◌≡◌, ◌⊎◌, List, [], ◌∷◌, ℕ, ◌+◌, ◌<◌}
+use Rattle.std.specs.Prelude.{Bool, false, ◌≡◌, ◌⊎◌, List, [], ◌∷◌, ℕ, ◌+◌, ◌<◌}
 use Rattle.text.specs.Limits.{grammar_table}
 use Rattle.text.specs.Stages.{plainly}
 use Rattle.text.specs.declared.Diagnostic.{Diagnostic}

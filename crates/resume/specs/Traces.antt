@@ -4,7 +4,7 @@ use Rattle.answer.specs.Answer.{Job, job, of_job, Reads, Converts}
 use Rattle.answer.specs.Answer as defined
 use Rattle.rounds.specs.Rounds.{most_rounds}
 use Rattle.rounds.specs.After.{TableSays, Ends}
-use Rattle.state.specs.State.{rounds_of, FinishedBy, Keeps}
+use Rattle.state.specs.State.{rounds_of, FinishedBy}
 use Rattle.exported.specs.Exported.{shown}
 use Rattle.resume.specs.declared.Progress.{Progress}
 use Rattle.resume.specs.Resume.{StartedAs, RoundedAs, EndedAs}

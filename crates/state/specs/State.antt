@@ -1,5 +1,5 @@
 -- The state of a read in rounds: an array of numbers that keeps grammar and record whole.
-use Rattle.std.specs.Prelude.{Bool, true, List, ◌⊎◌, ◌≡◌, ℕ, ◌+◌, ◌<◌, ◌≤◌, length, get_or, set}
+use Rattle.std.specs.Prelude.{List, ◌⊎◌, ◌≡◌, ℕ, ◌+◌, ◌<◌, ◌≤◌, length, get_or, set}
 
 -- eight numbers, then a number for each byte: 4,096 of a grammar, and four for each character of a record
 abbrev pub state_length : ℕ

@@ -1,4 +1,3 @@
-use Prim.Native.Nat.{◌-◌}
 use Rattle.bits.proofs.Laws.{beyond-of}
 use Rattle.bits.proofs.beyond.Goals as goal
 

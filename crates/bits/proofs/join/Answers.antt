@@ -1,4 +1,3 @@
-use Prim.Native.Nat.{◌-◌}
 use Rattle.bits.proofs.Laws.{union-of}
 use Rattle.bits.proofs.join.Goals as goal
 

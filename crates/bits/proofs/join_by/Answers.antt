@@ -1,4 +1,3 @@
-use Prim.Native.Nat.{◌-◌}
 use Rattle.bits.proofs.Laws.{masking-of}
 use Rattle.bits.proofs.join_by.Goals as goal
 

@@ -1,4 +1,3 @@
-use Prim.Native.Nat.{◌-◌}
 use Rattle.bits.proofs.Laws.{lit-shifted, shifted-lit}
 use borrow.Author.Tests.{eqb-true, eq-eqb}
 use Rattle.bits.proofs.lit.Goals as goal

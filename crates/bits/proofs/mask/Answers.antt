@@ -1,6 +1,5 @@
-use mathlib.Core.Bool.{true, false, true≢false}
+use mathlib.Core.Bool.{true≢false}
 use mathlib.Core.Path.{refl, sym, ◌∙◌}
-use Prim.Native.Nat.{◌-◌}
 use Rattle.bits.proofs.mask.Goals as goal
 
 pub returns-then-lit : goal.returns-then-lit

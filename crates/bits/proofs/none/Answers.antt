@@ -1,6 +1,5 @@
 use native.Mathlib.Omega.{arith}
 use borrow.Author.Tests.{eqb-true}
-use Prim.Native.Nat.{◌-◌}
 use Rattle.bits.proofs.Laws.{none-next, lit-zero}
 use Rattle.bits.proofs.none.Goals as goal
 

@@ -1,4 +1,4 @@
-use Prim.Native.Nat.{ℕ, ◌-◌, ◌/◌, ◌%◌, ◌<◌}
+use Prim.Native.Nat.{ℕ, ◌/◌, ◌%◌, ◌<◌}
 use Rattle.bits.specs.Bits.{Lit, Has}
 use Rattle.bits.proofs.none.Given as goal
 

@@ -1,5 +1,4 @@
 use mathlib.Core.Path.{refl}
-use Prim.Native.Nat.{◌-◌}
 use Rattle.bits.proofs.Laws.{put-adds}
 use Rattle.bits.proofs.put.Goals as goal
 

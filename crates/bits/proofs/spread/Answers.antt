@@ -1,6 +1,5 @@
 use native.Mathlib.Omega.{arith}
 use mathlib.Core.Path.{refl, ◌∙◌}
-use Prim.Native.Nat.{◌-◌}
 use lib.ListN.{length-set}
 use Rattle.bits.proofs.Laws.{masked-next, spread-next}
 use Rattle.bits.proofs.spread.Goals as goal

@@ -1,7 +1,7 @@
 use native.Mathlib.Omega.{arith}
 use mathlib.Core.Path.{sym, ap, ◌∙◌}
-use mathlib.Core.Bool.{true, false, ◌||◌}
-use Prim.Native.Nat.{ℕ, ◌-◌}
+use mathlib.Core.Bool.{false, ◌||◌}
+use Prim.Native.Nat.{ℕ}
 use lib.ListN.{get_or}
 use borrow.Author.Count.{below_more}
 use Rattle.category.proofs.Agree.{table, by_place}

@@ -1,6 +1,4 @@
 use native.Mathlib.Omega.{arith}
-use mathlib.Core.Bool.{true, false}
-use Prim.Native.Nat.{◌-◌}
 use Rattle.confirm.proofs.Reaches.{best-start, words-best, row_next, row-end}
 use Rattle.confirm.proofs.far_row.Goals as goal
 

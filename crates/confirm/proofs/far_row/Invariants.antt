@@ -1,5 +1,5 @@
 use mathlib.Core.Path.{◌≡◌}
-use Prim.Native.Nat.{◌-◌, ◌/◌, ◌<◌}
+use Prim.Native.Nat.{◌/◌, ◌<◌}
 use Rattle.confirm.specs.Find.{Best}
 use Rattle.confirm.proofs.far_row.Given as goal
 

@@ -1,4 +1,3 @@
-use Prim.Native.Nat.{◌-◌}
 use Rattle.confirm.specs.Find.{Words}
 use Rattle.confirm.proofs.far_word.Given as goal
 

@@ -1,6 +1,4 @@
 use native.Mathlib.Omega.{arith}
-use mathlib.Core.Bool.{true, false}
-use Prim.Native.Nat.{◌-◌}
 use Rattle.confirm.proofs.Reaches.{best-start, rows_next, rows_end}
 use Rattle.confirm.proofs.sure.Goals as goal
 

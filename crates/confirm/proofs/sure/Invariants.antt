@@ -1,4 +1,4 @@
-use Prim.Native.Nat.{◌-◌, ◌<◌}
+use Prim.Native.Nat.{◌<◌}
 use Rattle.confirm.specs.Find.{Best}
 use Rattle.confirm.proofs.sure.Given as goal
 

@@ -1,4 +1,4 @@
-use Prim.Native.Nat.{◌-◌, ◌≤◌}
+use Prim.Native.Nat.{◌≤◌}
 use Rattle.ends.specs.Table.{Opened}
 use Rattle.ends.proofs.begin.Given as goal
 

@@ -1,6 +1,4 @@
 use native.Mathlib.Omega.{arith}
-use mathlib.Core.Bool.{true}
-use Prim.Native.Nat.{◌-◌}
 use Rattle.ends.proofs.Laws.{opened-none, opened-clear}
 use Rattle.ends.proofs.begin_at.Goals as goal
 

@@ -1,6 +1,4 @@
 use native.Mathlib.Omega.{arith}
-use mathlib.Core.Bool.{true, false}
-use Prim.Native.Nat.{◌-◌}
 use Rattle.moves.proofs.Cells.{column-on, cell-inside}
 use Rattle.ends.proofs.Cells.{clear-start, clear_step, clear-end}
 use Rattle.ends.proofs.clear_row.Goals as goal

@@ -1,4 +1,4 @@
-use Prim.Native.Nat.{◌+◌, ◌-◌, ◌/◌, ◌≤◌}
+use Prim.Native.Nat.{◌/◌, ◌≤◌}
 use Rattle.ends.proofs.Cells.{Clearing}
 use Rattle.ends.proofs.clear_row.Given as goal
 

@@ -1,7 +1,5 @@
 use native.Mathlib.Omega.{arith}
-use mathlib.Core.Bool.{true, false}
 use mathlib.Core.Path.{refl}
-use Prim.Native.Nat.{◌-◌}
 use Rattle.ends.proofs.Reach.{link_here, link-less, link-next}
 use Rattle.ends.proofs.Laws.{ground-as}
 use Rattle.ends.proofs.Rounds.{trials-start, trials-next, trials-end}

@@ -1,6 +1,6 @@
 use native.Mathlib.Omega.{arith}
 use mathlib.Core.Path.{refl, sym, subst, ◌∙◌}
-use Prim.Native.Nat.{ℕ, ◌*◌, ◌-◌, ◌≤◌}
+use Prim.Native.Nat.{ℕ, ◌*◌, ◌≤◌}
 use Rattle.chart.specs.Heights.{stretches}
 use Rattle.ends.proofs.Laws.{ground-as}
 use Rattle.ends.proofs.Rounds.{exact_none, opened-sound, exact-closed, exact-empty, exact-filled}

@@ -1,7 +1,5 @@
 use mathlib.Core.Path.{refl}
 use native.Mathlib.Omega.{arith}
-use mathlib.Core.Bool.{true, false}
-use Prim.Native.Nat.{◌-◌}
 use Rattle.moves.proofs.Cells.{column-on, cell-inside}
 use Rattle.ends.proofs.Cells.{finish-start, finish-step, finish-end}
 use borrow.Author.Tests.{eqb-true, eqb-false, not-true, not-false}

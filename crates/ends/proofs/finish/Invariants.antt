@@ -1,4 +1,4 @@
-use Prim.Native.Nat.{◌+◌, ◌-◌, ◌/◌, ◌≤◌}
+use Prim.Native.Nat.{◌/◌, ◌≤◌}
 use Rattle.ends.proofs.Cells.{Finishing}
 use Rattle.ends.proofs.finish.Given as goal
 

@@ -1,5 +1,4 @@
 use native.Mathlib.Omega.{arith}
-use Prim.Native.Nat.{◌-◌}
 use Rattle.ends.proofs.Terminals.{led-start, led-next, led-nowhere}
 use Rattle.ends.proofs.lead.Goals as goal
 

@@ -1,6 +1,4 @@
 use native.Mathlib.Omega.{arith}
-use mathlib.Core.Bool.{false}
-use Prim.Native.Nat.{◌-◌}
 use Rattle.ends.proofs.push_begun.Goals as goal
 
 pub bounds-marks-m : goal.bounds-marks-m

@@ -1,6 +1,6 @@
 use native.Mathlib.Omega.{arith}
 use mathlib.Core.Path.{refl, subst}
-use Prim.Native.Nat.{ℕ, ◌-◌}
+use Prim.Native.Nat.{ℕ}
 use Rattle.ends.specs.Table.{Rounded}
 use Rattle.ends.proofs.Laws.{settling-as}
 use Rattle.ends.proofs.Rounds.{rounded-start, rounded-next}

@@ -1,4 +1,4 @@
-use Prim.Native.Nat.{◌-◌, ◌≤◌}
+use Prim.Native.Nat.{◌≤◌}
 use Rattle.ends.specs.Table.{Rounded}
 use Rattle.ends.proofs.round.Given as goal
 

@@ -1,6 +1,3 @@
-use native.Mathlib.Omega.{arith}
-use mathlib.Core.Bool.{true, false}
-use Prim.Native.Nat.{◌-◌}
 use Rattle.ends.proofs.Laws.{settled-start, settled-join, settling-as}
 use Rattle.ends.proofs.settle.Goals as goal
 

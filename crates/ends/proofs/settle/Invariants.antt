@@ -1,4 +1,3 @@
-use Prim.Native.Nat.{◌-◌}
 use Rattle.ends.specs.Table.{Settled}
 use Rattle.ends.proofs.settle.Given as goal
 

@@ -1,6 +1,4 @@
 use native.Mathlib.Omega.{arith}
-use mathlib.Core.Bool.{false}
-use Prim.Native.Nat.{◌-◌}
 use Rattle.ends.proofs.Laws.{settled-start}
 use Rattle.ends.proofs.turn.Goals as goal
 

@@ -1,6 +1,4 @@
 use native.Mathlib.Omega.{arith}
-use mathlib.Core.Bool.{true}
-use Prim.Native.Nat.{◌-◌}
 use Rattle.ends.proofs.wake.Goals as goal
 
 pub overflow_mul-rule : goal.overflow_mul-rule

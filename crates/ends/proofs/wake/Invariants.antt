@@ -1,4 +1,4 @@
-use Prim.Native.Nat.{◌-◌, ◌≤◌}
+use Prim.Native.Nat.{◌≤◌}
 use Rattle.ends.proofs.wake.Given as goal
 
 abbrev pub invariant-loop-x : goal.invariant-loop-x

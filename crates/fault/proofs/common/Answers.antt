@@ -1,5 +1,4 @@
 use native.Mathlib.Omega.{arith}
-use Prim.Native.Nat.{◌-◌}
 use Rattle.fault.proofs.Alike.{agreeing-start, agreeing-next, agreeing-end}
 use Rattle.fault.proofs.common.Goals as goal
 

@@ -1,5 +1,4 @@
 use native.Mathlib.Omega.{arith}
-use Prim.Native.Nat.{◌-◌}
 use Rattle.fault.proofs.Ranges.{reach-none, reach-join, reach-end, ranging-at}
 use Rattle.fault.proofs.farthest.Goals as goal
 

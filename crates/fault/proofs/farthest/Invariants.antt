@@ -1,4 +1,4 @@
-use Prim.Native.Nat.{◌+◌, ◌-◌, ◌≤◌}
+use Prim.Native.Nat.{◌+◌, ◌≤◌}
 use Rattle.fault.specs.Far.{Reach}
 use Rattle.fault.proofs.farthest.Given as goal
 

@@ -1,5 +1,4 @@
 use native.Mathlib.Omega.{arith}
-use Prim.Native.Nat.{◌-◌}
 use Rattle.fault.proofs.Ranges.{ranged-none, ranged-join, ranged-end}
 use Rattle.fault.proofs.farthest_at.Goals as goal
 

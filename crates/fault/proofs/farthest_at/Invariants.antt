@@ -1,4 +1,4 @@
-use Prim.Native.Nat.{◌-◌, ◌≤◌}
+use Prim.Native.Nat.{◌≤◌}
 use Rattle.fault.specs.Far.{Ranged}
 use Rattle.fault.proofs.farthest_at.Given as goal
 

@@ -1,6 +1,5 @@
 use native.Mathlib.Omega.{arith}
-use mathlib.Core.Bool.{true, false}
-use Prim.Native.Nat.{◌*◌, ◌-◌}
+use Prim.Native.Nat.{◌*◌}
 use Rattle.moves.proofs.Cells.{column-on, lanes-inside, masked-word, masked-next}
 use Rattle.bits.proofs.Laws.{adds_none, adds-as}
 use Rattle.moves.proofs.add_ends.Goals as goal

@@ -1,4 +1,4 @@
-use Prim.Native.Nat.{◌+◌, ◌-◌, ◌/◌, ◌<◌, ◌≤◌}
+use Prim.Native.Nat.{◌/◌, ◌<◌, ◌≤◌}
 use Rattle.bits.specs.Bits.{Adds}
 use Rattle.moves.specs.Moves.{Masked}
 use Rattle.moves.proofs.add_ends.Given as goal

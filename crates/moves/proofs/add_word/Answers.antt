@@ -1,5 +1,4 @@
-use mathlib.Core.Bool.{true}
-use Prim.Native.Nat.{ℕ, ◌-◌}
+use Prim.Native.Nat.{ℕ}
 use lib.ListN.{length-replicate}
 use Rattle.moves.proofs.Cells.{masks-of, word-adds}
 use Rattle.bits.proofs.Laws.{adds_none, lit-zero}

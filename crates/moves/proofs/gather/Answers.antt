@@ -1,7 +1,6 @@
 use native.Mathlib.Omega.{arith}
-use mathlib.Core.Bool.{true, false}
 use mathlib.Core.Path.{subst}
-use Prim.Native.Nat.{ℕ, ◌-◌}
+use Prim.Native.Nat.{ℕ}
 use Rattle.moves.specs.Moves.{Gathered}
 use Rattle.moves.proofs.Cells.{gathered_none, gathered_next}
 use Rattle.moves.proofs.gather.Goals as goal

@@ -1,4 +1,4 @@
-use Prim.Native.Nat.{◌-◌, ◌≤◌}
+use Prim.Native.Nat.{◌≤◌}
 use Rattle.moves.specs.Moves.{Gathered}
 use Rattle.moves.proofs.gather.Given as goal
 

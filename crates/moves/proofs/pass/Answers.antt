@@ -1,6 +1,4 @@
 use native.Mathlib.Omega.{arith}
-use mathlib.Core.Bool.{true, false}
-use Prim.Native.Nat.{◌-◌}
 use Rattle.moves.proofs.Cells.{passed_start, passed-next, passed-end}
 use Rattle.moves.proofs.pass.Goals as goal
 

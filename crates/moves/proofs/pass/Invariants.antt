@@ -1,4 +1,3 @@
-use Prim.Native.Nat.{◌+◌, ◌-◌}
 use Rattle.bits.specs.Bits.{Adds}
 use Rattle.moves.proofs.Cells.{PassedTo}
 use Rattle.moves.proofs.pass.Given as goal

@@ -1,6 +1,4 @@
 use native.Mathlib.Omega.{arith}
-use mathlib.Core.Bool.{true, false}
-use Prim.Native.Nat.{◌-◌}
 use Rattle.moves.proofs.Cells.{shifted_start, shifted_next, shifted_end}
 use Rattle.moves.proofs.shift.Goals as goal
 

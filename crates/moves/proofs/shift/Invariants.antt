@@ -1,4 +1,3 @@
-use Prim.Native.Nat.{◌+◌, ◌-◌}
 use Rattle.bits.specs.Bits.{Adds}
 use Rattle.moves.proofs.Cells.{ShiftedTo}
 use Rattle.moves.proofs.shift.Given as goal

@@ -1,7 +1,6 @@
 use native.Mathlib.Omega.{arith}
-use mathlib.Core.Bool.{true, false}
 use mathlib.Core.Path.{◌≡◌}
-use Prim.Native.Nat.{◌+◌, ◌*◌, ◌-◌}
+use Prim.Native.Nat.{◌+◌, ◌*◌}
 use Rattle.bits.proofs.Laws.{adds_none, lit-zero}
 use Rattle.moves.proofs.Cells.{landed-start, landed-next, landed-end}
 use Rattle.moves.proofs.shift_word.Goals as goal

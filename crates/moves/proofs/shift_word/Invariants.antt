@@ -1,4 +1,4 @@
-use Prim.Native.Nat.{◌-◌, ◌≤◌}
+use Prim.Native.Nat.{◌≤◌}
 use Rattle.bits.specs.Bits.{Adds}
 use Rattle.moves.proofs.Cells.{LandedTo}
 use Rattle.moves.proofs.shift_word.Given as goal

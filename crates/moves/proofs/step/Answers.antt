@@ -1,6 +1,4 @@
 use native.Mathlib.Omega.{arith}
-use mathlib.Core.Bool.{true, false}
-use Prim.Native.Nat.{◌-◌}
 use Rattle.moves.proofs.Cells.{row_of, stepped-terminal, stepped-symbol, stepped-end}
 use Rattle.moves.proofs.step.Goals as goal
 

@@ -1,6 +1,4 @@
-use native.Mathlib.Omega.{arith}
-use Prim.Native.Nat.{◌-◌}
-use Rattle.rules.proofs.Arrays.{code-start, code-next, code-end}
+use Rattle.rules.proofs.Arrays.{code-next}
 use Rattle.rules.proofs.code_items.Goals as goal
 
 pub loop-p-preserved : goal.loop-p-preserved

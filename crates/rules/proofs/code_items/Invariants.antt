@@ -1,4 +1,3 @@
-use Prim.Native.Nat.{◌-◌}
 use Rattle.rules.proofs.Arrays.{Coding}
 use Rattle.rules.proofs.code_items.Given as goal
 

@@ -1,6 +1,6 @@
 use native.Mathlib.Omega.{arith}
 use Prim.Native.Nat.{◌-◌}
-use Rattle.rules.proofs.Arrays.{own-start, own-small, own-next, own-end}
+use Rattle.rules.proofs.Arrays.{own-small, own-next}
 use Rattle.rules.proofs.owners.Goals as goal
 
 pub owner_at-requires : goal.owner_at-requires

@@ -1,4 +1,3 @@
-use Prim.Native.Nat.{◌-◌}
 use Rattle.rules.proofs.Arrays.{Owning}
 use Rattle.rules.proofs.owners.Given as goal
 

@@ -1,6 +1,4 @@
 use native.Mathlib.Omega.{arith}
-use mathlib.Core.Bool.{true}
-use Prim.Native.Nat.{◌-◌}
 use Rattle.ends.proofs.Reach.{list_inside, link_here, link-less, link-next}
 use Rattle.standing.proofs.Laws.{ran-start, ran-one}
 use Rattle.standing.proofs.follow_all.Goals as goal

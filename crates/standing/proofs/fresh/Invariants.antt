@@ -1,4 +1,4 @@
-use Prim.Native.Nat.{ℕ, ◌-◌}
+use Prim.Native.Nat.{ℕ}
 use Rattle.bits.specs.Bits.{Has}
 use Rattle.standing.specs.Sets.{Joined}
 use Rattle.standing.proofs.fresh.Given as goal

@@ -1,7 +1,5 @@
 use native.Mathlib.Omega.{arith}
-use mathlib.Core.Bool.{true, false}
 use mathlib.Core.Path.{refl}
-use Prim.Native.Nat.{◌-◌}
 use Rattle.standing.proofs.Rows.{merge-start, merge_step, merge-end}
 use borrow.Author.Tests.{eqb-true, eqb-false, not-true, not-false}
 use Rattle.standing.proofs.join_row.Goals as goal

@@ -1,4 +1,3 @@
-use Prim.Native.Nat.{◌-◌}
 use Rattle.standing.proofs.Rows.{Merging}
 use Rattle.standing.proofs.join_row.Given as goal
 

@@ -1,6 +1,6 @@
 use native.Mathlib.Omega.{arith}
 use mathlib.Core.Path.{refl}
-use Prim.Native.Nat.{ℕ, ◌-◌}
+use Prim.Native.Nat.{ℕ}
 use lib.ListN.{length-replicate}
 use Rattle.ends.proofs.Reach.{link_here, link-less, link-next}
 use Rattle.standing.proofs.Closing.{rulings-start, rulings-next, rulings-end}

@@ -1,4 +1,4 @@
-use Prim.Native.Nat.{ℕ, ◌-◌, ◌≤◌}
+use Prim.Native.Nat.{ℕ, ◌≤◌}
 use Rattle.reach.specs.Work.{Listed}
 use Rattle.ends.specs.Spans.{OnList}
 use Rattle.standing.proofs.Closing.{Rulings}

@@ -1,6 +1,6 @@
 use native.Mathlib.Omega.{arith}
 use mathlib.Core.Path.{refl, subst}
-use Prim.Native.Nat.{ℕ, ◌-◌}
+use Prim.Native.Nat.{ℕ}
 use Rattle.standing.specs.Sets.{Rounded}
 use Rattle.standing.proofs.Closing.{rounded-start, rounded-next}
 use Rattle.standing.proofs.round.Goals as goal

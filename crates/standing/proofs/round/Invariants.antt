@@ -1,4 +1,4 @@
-use Prim.Native.Nat.{◌-◌, ◌≤◌}
+use Prim.Native.Nat.{◌≤◌}
 use Rattle.standing.specs.Sets.{Rounded}
 use Rattle.standing.proofs.round.Given as goal
 

@@ -1,6 +1,3 @@
-use native.Mathlib.Omega.{arith}
-use mathlib.Core.Bool.{true, false}
-use Prim.Native.Nat.{◌-◌}
 use Rattle.standing.proofs.Laws.{ran-start, ran-join}
 use Rattle.standing.proofs.run.Goals as goal
 

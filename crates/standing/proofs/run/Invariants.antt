@@ -1,4 +1,3 @@
-use Prim.Native.Nat.{◌-◌}
 use Rattle.standing.specs.Sets.{Ran}
 use Rattle.standing.proofs.run.Given as goal
 

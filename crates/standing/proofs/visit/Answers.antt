@@ -1,7 +1,6 @@
 use native.Mathlib.Omega.{arith}
-use mathlib.Core.Bool.{true, false}
 use mathlib.Core.Path.{refl, ap, ◌∙◌}
-use Prim.Native.Nat.{ℕ, ◌+◌, ◌-◌}
+use Prim.Native.Nat.{ℕ, ◌+◌}
 use Rattle.text.proofs.Tests.{clash}
 use Rattle.standing.specs.Stood.{entering}
 use Rattle.standing.proofs.Laws.{told-dot, told-rule}

@@ -1,4 +1,3 @@
-use Prim.Native.Nat.{◌-◌}
 use Rattle.state.proofs.Cells.{upto_next, bytes-differ, bytes-all}
 use native.Mathlib.Omega.{arith}
 use Rattle.state.proofs.bytes_at.Goals as goal

@@ -1,4 +1,4 @@
-use Prim.Native.Nat.{◌-◌, ◌≤◌}
+use Prim.Native.Nat.{◌≤◌}
 use lib.ListN.{length}
 use Rattle.state.proofs.Cells.{Upto}
 use Rattle.state.proofs.bytes_at.Given as goal

@@ -1,4 +1,3 @@
-use Prim.Native.Nat.{◌-◌}
 use Rattle.state.proofs.Cells.{keeping_start, keeping-next, keeping-end}
 use native.Mathlib.Omega.{arith}
 use Rattle.state.proofs.keep.Goals as goal

@@ -1,5 +1,3 @@
-use Prim.Native.Nat.{◌-◌}
-use lib.ListN.{length}
 use Rattle.state.proofs.Cells.{Keeping}
 use Rattle.state.proofs.keep.Given as goal
 

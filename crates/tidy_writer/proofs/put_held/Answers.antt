@@ -3,7 +3,7 @@ use mathlib.Core.Logic.{inl, inr}
 use Prim.Native.Nat.{◌<◌}
 use native.Mathlib.Omega.{arith}
 use Rattle.tokens.specs.Lengths.{form_number}
-use Rattle.tokens.proofs.Forms.{first-in, sized, length-text, length-range, length-class}
+use Rattle.tokens.proofs.Forms.{first-in, sized, length-range, length-class}
 use Rattle.text.specs.Lists.{concat_map}
 use Rattle.tidy.specs.Tidy.{quoted_text}
 use Rattle.encode.specs.Out.{spelt}

@@ -1,5 +1,4 @@
 use mathlib.Core.Path.{sym, ◌∙◌}
-use Prim.Native.Nat.{◌-◌}
 use native.Mathlib.Omega.{arith}
 use Rattle.candidates.proofs.Searches.{unmet, unmet-next, end-ahead, end-found}
 use Rattle.candidates.proofs.alternatives.alternative_end.Goals as goal

@@ -1,5 +1,5 @@
 use mathlib.Core.Path.{◌≡◌, subst}
-use Prim.Native.Nat.{ℕ, ◌-◌, ◌<◌, ◌≤◌}
+use Prim.Native.Nat.{ℕ, ◌<◌, ◌≤◌}
 use native.Mathlib.Omega.{arith}
 use Rattle.candidates.proofs.AlongRules.{along-position, along-ends, along-few, trying, try-follows, try-next, try-done}
 use Rattle.candidates.proofs.alternatives.find_alternative.Goals as goal

@@ -1,6 +1,5 @@
 use native.Mathlib.Omega.{arith}
 use mathlib.Core.Logic.{⊎_elim}
-use Prim.Native.Nat.{◌-◌}
 use Rattle.candidates.proofs.Searches.{unmet-next, ahead, only_end}
 use Rattle.splits.proofs.Values.{after-symbol, rest_in}
 use Rattle.candidates.proofs.Passing.{unmet-from, unmet-barren}

@@ -1,6 +1,5 @@
 use native.Mathlib.Omega.{arith}
 use mathlib.Core.Path.{sym, ◌∙◌}
-use Prim.Native.Nat.{◌-◌}
 use Rattle.candidates.proofs.Searches.{unmet-next, ahead, tells-yes, tells-no, no_other}
 use Rattle.splits.proofs.Values.{after-symbol, rest_in}
 use Rattle.candidates.proofs.Passing.{unmet-from, unmet-barren}
