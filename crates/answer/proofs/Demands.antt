@@ -1,7 +1,7 @@
 -- The laws of specs/Demands.antt hold.
 use mathlib.Core.Bool.{Bool, true, false, not, ◌||◌}
 use mathlib.Core.Path.{◌≡◌, refl, sym, subst, ap, ◌∙◌}
-use mathlib.Core.Logic.{◌↔◌, ⊎_elim}
+use mathlib.Core.Logic.{◌⊎◌, ◌↔◌, ⊎_elim}
 use mathlib.Core.List.{List, [], ◌∷◌, ◌++◌}
 use Prim.Native.Nat.{ℕ, ◌<◌, ◌≤◌}
 use native.Mathlib.Omega.{arith}
@@ -10,6 +10,7 @@ use lib.ListN.{length, drop}
 use Rattle.text.specs.Limits.{reading_numbers}
 use Rattle.text.specs.Lists.{Text, all, among}
 use Rattle.text.specs.Utf8.{Utf8}
+use Rattle.text.specs.Decode.{text}
 use Rattle.text.proofs.Tests.{split}
 use Rattle.tree.specs.Tree.{Grammar}
 use Rattle.derive.specs.Derive.{Row, left_parse, Derivation}

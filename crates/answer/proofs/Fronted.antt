@@ -8,7 +8,7 @@ use lib.ListN.{length}
 use Rattle.text.specs.Limits.{grammar_bytes, most_size}
 use Rattle.text.specs.Lists.{Text, all}
 use Rattle.text.specs.Utf8.{unmarked, known}
-use Rattle.text.specs.Decode.{Decoded, decode, break_of}
+use Rattle.text.specs.Decode.{Decoded, text, decode, break_of}
 use Rattle.text.specs.Faults.{every, after_mark}
 use Rattle.text.proofs.Tests.{clash}
 use Rattle.text.proofs.Decode.{decode-complete}

@@ -1,5 +1,5 @@
 -- The answers of the calls: the table of refusals in its order, and what a call leaves in its answer and its buffer.
-use Rattle.std.specs.Prelude.{Bool, false, not, ◌≡◌, ◌⊎◌, ◌↔◌, List, [], ◌∷◌, ◌++◌, ℕ, ◌+◌, ◌*◌, ◌/◌, ◌<◌, T, length, drop}
+use Rattle.std.specs.Prelude.{Bool, true, false, not, ◌&&◌, ◌||◌, ◌≡◌, ◌⊎◌, ◌↔◌, List, [], ◌∷◌, ◌++◌, ℕ, ◌+◌, ◌*◌, ◌/◌, ◌<◌, T, length, drop}
 use Rattle.text.specs.Limits.{grammar_bytes, most_size, record_chars, grammar_table, reading_numbers}
 use Rattle.text.specs.Lists.{Text, all}
 use Rattle.text.specs.Utf8.{Utf8, unmarked, known}

@@ -1,5 +1,5 @@
 -- The derivation that a list of numbers names, computed.
-use Rattle.std.specs.Prelude.{true, false, List, [], ◌∷◌, ℕ, zero, suc, ◌+◌, ltb, eqb, length, drop}
+use Rattle.std.specs.Prelude.{Bool, true, false, List, [], ◌∷◌, ℕ, zero, suc, ◌+◌, ltb, eqb, length, drop}
 use Rattle.text.specs.Lists.{Text}
 use Rattle.tree.specs.Tree.{Terminal, Symbol, Grammar}
 use Rattle.plain.specs.Written.{terminals_in}

@@ -1,5 +1,5 @@
 -- What the program writes for two files.
-use Rattle.std.specs.Prelude.{Bool, true, false, ◌≡◌, List, [], ◌∷◌, ◌++◌, ℕ, ◌+◌, ◌/◌, ◌%◌, ltb, eqb, length, take, replicate}
+use Rattle.std.specs.Prelude.{Bool, true, false, ◌||◌, ◌≡◌, List, [], ◌∷◌, ◌++◌, ℕ, ◌+◌, ◌/◌, ◌%◌, ltb, eqb, length, take, replicate}
 use Rattle.text.specs.Limits.{grammar_table, program_table, program_bytes, file_bytes}
 use Rattle.text.specs.Lists.{Text, chars, pick}
 use Rattle.xml.specs.Bytes.{state_with}

@@ -2,7 +2,7 @@
 use Rattle.std.specs.Prelude.{Bool, true, false, not, ◌||◌, ◌≡◌, List, [], ◌∷◌, ◌++◌, ℕ, T, eqb, take}
 use Rattle.text.specs.Lists.{Text, chars, any, all, among}
 use Rattle.text.specs.Utf8.{utf8s}
-use Rattle.tree.specs.Tree.{Mark, unmarked, included, attribute, deleted, Terminal, literal, inclusion, exclusion, insertion, Rule, Grammar, rules}
+use Rattle.tree.specs.Tree.{Mark, unmarked, included, attribute, deleted, Terminal, literal, inclusion, exclusion, insertion, Symbol, Rule, Grammar, rules}
 use Rattle.plain.specs.Written.{Kind, atom, named, made, kind, written}
 use Rattle.derive.specs.Derive.{Row, root, Derivation}
 use Rattle.xml.specs.Document.{document, value, is_attribute, misnamed, not_one}

@@ -1,6 +1,6 @@
 -- Tags that nest and match: the productions of XML 1.0 for elements (39 to 44), as far as they are used here, over bytes.
 use Rattle.std.specs.Prelude.{Bool, false, not, ◌≡◌, List, [], ◌∷◌, ◌++◌, ℕ, T}
-use Rattle.text.specs.Lists.{chars, all, among}
+use Rattle.text.specs.Lists.{Text, chars, all, among}
 use Rattle.xml.specs.Document.{Xml, misnamed, not_one}
 use Rattle.xml.specs.Bytes.{bytes}
 use Rattle.xml.specs.References.{Reference}

@@ -1,5 +1,5 @@
 -- The starred cases of document 01, in one table, and some of the place of a fault.
-use Rattle.std.specs.Prelude.{Bool, true, false, List, [], ◌∷◌, ◌++◌, ℕ, length, drop, replicate}
+use Rattle.std.specs.Prelude.{Bool, true, false, ◌≡◌, List, [], ◌∷◌, ◌++◌, ℕ, length, drop, replicate}
 use Prim.Native.String.{String}
 use Rattle.text.specs.Lists.{chars}
 use Rattle.answer.specs.Answer.{Job, Answer, Checks, Reads, Converts}

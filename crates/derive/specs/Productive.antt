@@ -1,6 +1,6 @@
 -- Rules that derive some text, and grammars with a rule that derives none.
 use mathlib.Core.List.{[], ◌∷◌, Memᴰ as In}
-use Rattle.std.specs.Prelude.{T, length}
+use Rattle.std.specs.Prelude.{ℕ, T, length}
 use Rattle.text.specs.Lists.{Text, all}
 use Rattle.text.specs.Utf8.{known}
 use Rattle.tree.specs.Tree.{Symbol, Grammar}

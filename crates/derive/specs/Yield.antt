@@ -1,5 +1,5 @@
 -- Which rules derive some text, computed.
-use Rattle.std.specs.Prelude.{Bool, not, ◌||◌, ℕ, zero, suc, length}
+use Rattle.std.specs.Prelude.{Bool, not, ◌||◌, List, ℕ, zero, suc, length}
 use Rattle.text.specs.Lists.{any, all}
 use Rattle.tree.specs.Tree.{Symbol, Grammar}
 use Rattle.plain.specs.Written.{terminals_in}

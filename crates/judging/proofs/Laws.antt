@@ -23,7 +23,7 @@ use Rattle.xml.specs.Document.{document, mark_of, twice, misnamed, unwritable, i
 use Rattle.answer.specs.Answer.{Line, line, Topmost, Job, GrammarTree, of_job, of_reading, of_source, chosen, given, Names, as_numbers, as_xml, Answer, Reads, Judges}
 use Rattle.answer.specs.Answer.{grammar_lines, need_lines, record_lines, list_lines, document_lines, document_lines_of, too_long, too_long_by, scratch_need, ResultBy}
 use Rattle.answer.specs.Demands.{None}
-use Rattle.answer.proofs.Lines.{listed, head-given, none-given, passed, begun, given as given-only}
+use Rattle.answer.proofs.Lines.{numbers, listed, head-given, none-given, passed, begun, given as given-only}
 use Rattle.answer.proofs.Agree.{one-grammar}
 use Rattle.answer.proofs.Demands.{demands-hold}
 use Rattle.judging.specs.Laws.{Admits, SameTexts, OwnReading, Laws}

@@ -1,5 +1,7 @@
 -- The laws of judging, over every answer that its definition allows. Statements alone: proofs/Laws.antt has their proof, `laws-hold`.
-use Rattle.std.specs.Prelude.{◌≡◌, ◌↔◌, false, ◌&&◌, ◌||◌, List, [], ℕ, T, leb, take}
+use Rattle.std.specs.Prelude.{◌≡◌, ◌↔◌, false, ◌&&◌, ◌||◌, List, [], ℕ, ◌≤◌, T, leb, length, take}
+use Rattle.text.specs.Lists.{Text}
+use Rattle.tree.specs.Tree.{Grammar}
 use Rattle.derive.specs.Derive.{Row}
 use Rattle.answer.specs.Answer.{Job, of_job, of_reading, Names, grammar_lines, need_lines, scratch_need, as_xml, Answer, Reads, Converts, Judges}
 use Rattle.answer.specs.Demands.{None}

@@ -3,7 +3,7 @@ use native.Mathlib.Omega.{arith}
 use mathlib.Core.Bool.{Bool, true, false, not, ◌||◌}
 use mathlib.Core.Path.{◌≡◌, refl, sym, ap, ap₂, subst, ◌∙◌}
 use mathlib.Core.List.{List, [], ◌∷◌, ◌++◌, append-nil}
-use Prim.Native.Nat.{ℕ, ◌-◌, ◌≤◌}
+use Prim.Native.Nat.{ℕ, ◌+◌, ◌-◌, ◌≤◌}
 use native.Mathlib.Decide.{ℕ_discrete}
 use lib.Dec.{T, eqb, ltb}
 use lib.ListN.{length}
@@ -12,7 +12,7 @@ use Rattle.text.specs.Lists.{Text, any, same, repeats, concat_map}
 use Rattle.text.proofs.Lists.{any-concat, any-ext, or-false, concat-append, concat-concat}
 use Rattle.text.proofs.Tests.{clash, T_true}
 use Rattle.tree.specs.Tree.{string, hex, Member, chars, range, class, Terminal, literal, inclusion, exclusion, insertion, Rule, Grammar}
-use Rattle.tree.specs.Tree.{Symbol}
+use Rattle.tree.specs.Tree.{Symbol, terminal, group, option, repeat0, repeat1, repeat0sep, repeat1sep}
 use Rattle.tree.specs.Tokens.{member_token, member_tokens, terminal_tokens}
 use Rattle.plain.specs.Written.{within_body, written, names_in, terminals_in, members_in, chars_in_member, chars_in, hex_in, names, terminals, members, hexes, heads}
 use Rattle.plain.specs.Static.{undefined, duplicate, beyond, banned, backwards, unclassed, unassignable, runs_back, no_class}

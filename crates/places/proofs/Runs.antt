@@ -15,7 +15,7 @@ use Rattle.syntax.proofs.Shorter.{of-character}
 use Rattle.places.specs.Spots.{Spot}
 use Rattle.places.specs.Spots.{spots_member, spots_members, spots_set, spots_terminal, spots_alts, spots_alt, spots_terms, spots_term, spots_factor, spots_rule, spots_rules, spots_prolog, spots}
 use Rattle.places.specs.Laws.{left}
-use Rattle.places.specs.Scan.{between, sign, opens, lefts}
+use Rattle.places.specs.Scan.{between, word, sign, opens, lefts}
 use Rattle.places.proofs.Quiet.{loud, stirs, Calm, Stop, calm-nil, calm-s, calm-word, calm-quote, rs-calm, calm-dot, dot-calm}
 use Rattle.places.proofs.Quiet.{past-dot, stop-ch, bar-stops, defines-stops, past-s, past-mark, past-tmark}
 use Rattle.places.proofs.Quiet.{put, past-name, past-class, past-string, past-chars, past-set, past-group, fresh, past_first}

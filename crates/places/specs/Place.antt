@@ -1,7 +1,7 @@
 -- The places that refusals 5 to 10 carry.
 use Rattle.std.specs.Prelude.{Bool, true, false, not, ◌≡◌, List, [], ◌∷◌, ℕ, ◌+◌, ltb, eqb, length}
 use Rattle.text.specs.Lists.{Text, any, same, pick, concat_map}
-use Rattle.tree.specs.Tree.{Member, chars, range, class, Grammar}
+use Rattle.tree.specs.Tree.{Chars, Member, chars, range, class, Grammar}
 use Rattle.syntax.specs.Syntax.{Ixml}
 use Rattle.plain.specs.Written.{hex_in, heads}
 use Rattle.plain.specs.Static.{unassignable, runs_back, no_class}

@@ -1,5 +1,5 @@
 -- The spots of a grammar text by one scan, a character at a time: each name, class, string, hex number and opening bracket.
-use Rattle.std.specs.Prelude.{Bool, false, ◌||◌, List, [], ◌∷◌, ◌++◌, ℕ, zero, suc, eqb, length}
+use Rattle.std.specs.Prelude.{Bool, true, false, ◌||◌, List, [], ◌∷◌, ◌++◌, ℕ, zero, suc, eqb, length}
 use Rattle.text.specs.Lists.{Text, chars, pick, among}
 use Rattle.syntax.specs.Syntax.{quote, namestart, namefollower}
 

@@ -1,7 +1,7 @@
 -- The places computed: the parts of the tokens beside the spots that the scan finds.
 use Rattle.std.specs.Prelude.{Bool, true, false, List, [], ◌∷◌, ℕ, suc, ◌-◌, length, get_or}
 use Rattle.text.specs.Lists.{Text, concat_map}
-use Rattle.tree.specs.Tree.{string, hex, chars, range, class, Grammar}
+use Rattle.tree.specs.Tree.{Chars, string, hex, Member, chars, range, class, Grammar}
 use Rattle.tree.specs.Tokens.{Token, name, quoted, coded, include, exclude, member-quoted, member-coded, member-range, member-class, set-end, insert-quoted, insert-coded}
 use Rattle.tree.specs.Tokens.{open-group, close-group, next-alternative, to-option, to-repeat0, to-repeat1, to-repeat0sep, to-repeat1sep, rule-head, rule_end, version-is, grammar_tokens}
 use Rattle.plain.specs.Written.{heads}

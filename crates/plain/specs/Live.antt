@@ -1,5 +1,5 @@
 -- Terminals that derive some text of known characters, computed.
-use Rattle.std.specs.Prelude.{Bool, true, not, ◌+◌, ltb}
+use Rattle.std.specs.Prelude.{Bool, true, not, List, ℕ, ◌+◌, ltb}
 use Rattle.text.specs.Lists.{any, all}
 use Rattle.text.specs.Utf8.{alphabet, known}
 use Rattle.text.specs.Ranks.{rank_in, some_known}

@@ -1,8 +1,8 @@
 -- Plain rules: the alternatives of each symbol, and the grammar's size.
-use Rattle.std.specs.Prelude.{Bool, true, false, not, ◌&&◌, List, [], ◌∷◌, ◌++◌, ℕ, ◌+◌, leb, length}
+use Rattle.std.specs.Prelude.{Bool, true, false, not, ◌&&◌, ◌||◌, List, [], ◌∷◌, ◌++◌, ℕ, ◌+◌, leb, eqb, length}
 use Rattle.text.specs.Lists.{Text, pick, any, concat_map, same, begins, among}
 use Rattle.category.specs.Category.{in_class}
-use Rattle.tree.specs.Tree.{Mark, unmarked, included, attribute, deleted, Member, chars, range, class, Terminal, literal, inclusion, exclusion, insertion, codes}
+use Rattle.tree.specs.Tree.{Mark, unmarked, included, attribute, deleted, Chars, Member, chars, range, class, Terminal, literal, inclusion, exclusion, insertion, codes}
 use Rattle.tree.specs.Tree.{Symbol, terminal, nonterminal, group, option, repeat0, repeat1, repeat0sep, repeat1sep, rest, Alternative, nil, cons, Body, one, also, Rule, Grammar, rules}
 use Rattle.plain.specs.Written.{written}
 use Rattle.plain.specs.Static.{code_of}

@@ -1,5 +1,5 @@
 -- The static rules, each judged over the whole text.
-use Rattle.std.specs.Prelude.{Bool, false, not, ◌||◌, ℕ, ◌%◌, ltb, leb, get_or}
+use Rattle.std.specs.Prelude.{Bool, true, false, not, ◌&&◌, ◌||◌, List, [], ◌∷◌, ℕ, ◌%◌, ltb, leb, get_or}
 use Rattle.text.specs.Lists.{Text, any, same, repeats, span, inside}
 use Rattle.text.specs.Lists as words
 use Rattle.category.specs.Category.{is_class}

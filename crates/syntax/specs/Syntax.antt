@@ -1,6 +1,6 @@
 -- The complete grammar of ixml, a relation for each of its rules: `X t u v` says that the text t begins with an X, that v is
 -- its tree and u what follows. The comment at each relation is the rule. Callees stand first, so 000's order runs from below.
-use Rattle.std.specs.Prelude.{Bool, true, not, ◌&&◌, ◌||◌, ◌≡◌, List, [], ◌∷◌, ℕ, suc, ◌+◌, ◌*◌, ◌-◌, leb, eqb}
+use Rattle.std.specs.Prelude.{Bool, true, false, not, ◌&&◌, ◌||◌, ◌≡◌, List, [], ◌∷◌, ℕ, suc, ◌+◌, ◌*◌, ◌-◌, leb, eqb}
 use Rattle.text.specs.Limits.{levels}
 use Rattle.text.specs.Lists.{Text, chars, pick, among}
 use Rattle.category.specs.Category.{in_class}

@@ -1,7 +1,7 @@
 -- Worked cases of the layout: a grammar's text, and its tidy text.
 use Rattle.std.specs.Prelude.{◌≡◌, List, [], ◌∷◌}
 use Prim.Native.String.{String}
-use Rattle.text.specs.Lists.{chars}
+use Rattle.text.specs.Lists.{Text, chars}
 use Rattle.tree.specs.Tree.{Grammar}
 use Rattle.syntax.specs.Syntax.{Ixml}
 use Rattle.tidy.specs.Tidy.{tidy_text}

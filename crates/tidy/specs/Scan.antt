@@ -1,10 +1,11 @@
 -- The tidy text by one scan over the grammar's tokens, which stand with their operators behind them: what each token adds.
 use Rattle.std.specs.Prelude.{Bool, true, false, List, [], ◌∷◌, ◌++◌, ℕ, zero, suc}
 use Rattle.text.specs.Lists.{Text, chars, pick}
-use Rattle.tree.specs.Tree.{string, hex, range, version}
+use Rattle.tree.specs.Tree.{string, hex, range, class, literal, insertion, terminal, version}
+use Rattle.tree.specs.Tree as tree
 use Rattle.tree.specs.Tokens.{Token, name, quoted, coded, include, exclude, member-quoted, member-coded, member-range, member-class, set-end, insert-quoted, insert-coded}
 use Rattle.tree.specs.Tokens.{open-group, close-group, next-alternative, to-option, to-repeat0, to-repeat1, to-repeat0sep, to-repeat1sep, rule-head, rule_end, version-is}
-use Rattle.tidy.specs.Tidy.{chars_text, mark_text, member_text, prolog_text}
+use Rattle.tidy.specs.Tidy.{quoted_text, chars_text, mark_text, member_text, prolog_text}
 
 -- kinds of tokens: the first of a factor that opens a set or bracket, another first one, a member, the end of a set or bracket, what
 -- stands before a first part and is no factor, any other

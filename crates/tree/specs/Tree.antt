@@ -1,5 +1,5 @@
 -- The syntax tree of a grammar text: what the text says, without spacing and comments.
-use Rattle.std.specs.Prelude.{List, [], ◌∷◌, ℕ}
+use Rattle.std.specs.Prelude.{Bool, List, [], ◌∷◌, ℕ}
 use Rattle.text.specs.Lists.{Text}
 
 -- none, `^`, `@`, `-`

@@ -1,5 +1,5 @@
 -- The bytes of a document: "no added spacing, no declaration, single quotes, UTF-8, `<a/>` when nothing lies inside".
-use Rattle.std.specs.Prelude.{Bool, true, false, ◌&&◌, List, [], ◌∷◌, ◌++◌, ℕ, eqb}
+use Rattle.std.specs.Prelude.{Bool, true, false, ◌&&◌, ◌||◌, List, [], ◌∷◌, ◌++◌, ℕ, eqb}
 use Rattle.text.specs.Lists.{Text, chars, pick, concat_map}
 use Rattle.text.specs.Utf8.{utf8s}
 use Rattle.xml.specs.Document.{Xml, none, char, attr, elem}

@@ -1,9 +1,9 @@
 -- What a derivation writes, as a tree of XML, and what forbids to write it.
-use Rattle.std.specs.Prelude.{Bool, true, false, not, ◌||◌, List, [], ◌∷◌, ◌++◌, ℕ, ◌-◌, take, drop}
+use Rattle.std.specs.Prelude.{Bool, true, false, not, ◌&&◌, ◌||◌, List, [], ◌∷◌, ◌++◌, ℕ, ◌-◌, take, drop}
 use Rattle.text.specs.Lists.{Text, chars, any, same, repeats}
 use Rattle.tree.specs.Tree.{Mark, unmarked, included, attribute, deleted, Terminal, literal, inclusion, exclusion, insertion, codes}
 use Rattle.tree.specs.Tree.{Symbol, Grammar, rules}
-use Rattle.plain.specs.Written.{atom, named, made, kind}
+use Rattle.plain.specs.Written.{Kind, atom, named, made, kind}
 use Rattle.plain.specs.Plain.{rule_mark, over}
 use Rattle.derive.specs.Derive.{Row, end, leaf, node, alternative, root}
 use Rattle.xml.specs.Names.{xml_char, xml_name}

@@ -1,6 +1,6 @@
 -- "XML 1.0, fifth edition, decides on names and characters": its productions 2, 4, 4a and 5.
-use Rattle.std.specs.Prelude.{Bool, false, ◌&&◌, ◌||◌, [], ◌∷◌, ℕ}
-use Rattle.text.specs.Lists.{Text, any, all, span, inside}
+use Rattle.std.specs.Prelude.{Bool, true, false, ◌&&◌, ◌||◌, List, [], ◌∷◌, ◌++◌, ℕ}
+use Rattle.text.specs.Lists.{Text, any, all, Span, span, inside}
 
 -- Char
 unfoldable pub xml_char : ℕ → Bool

@@ -1,5 +1,5 @@
 -- How XML reads text and attribute values back.
-use Rattle.std.specs.Prelude.{Bool, not, [], ◌∷◌, ◌++◌, ℕ, T, eqb}
+use Rattle.std.specs.Prelude.{Bool, not, List, [], ◌∷◌, ◌++◌, ℕ, T, eqb}
 use Rattle.text.specs.Lists.{Text, chars, pick, among}
 
 -- What stands between `&` and `;`, and the character that it names: the five names that XML knows, and the numbers that are written here.
