@@ -16,7 +16,7 @@ use Rattle.chart.specs.Uses.{LastUse, Uses}
 use Rattle.reach.specs.Flags.{home_of}
 use Rattle.reach.specs.Work.{Seen, Listed, l-here, l-next}
 use Rattle.std.specs.Prelude.{Option, None, Some}
-use Rattle.core.specs.Option.{is_some}
+use Rattle.std.specs.Option.{is_some}
 use Rattle.std.proofs.lemmas.Bool.{false≢true}
 use mir.Val.{bool_byte}
 use Rattle.reach.specs.Lists.{use_key, after_key, end_key, key_of, rule_number, Shape, HomesFrom, Keying, Opened, Members, Keyed, PutKey}
