@@ -7,6 +7,7 @@ ghost use Rattle.outcome.specs.Calls.{Checked, ReadAs, ConvertedAs, JudgedAs, Ti
 ghost use Rattle.resume.specs.Resume.{StartedAs, RoundedAs, EndedAs};
 
 use exported::{Answer, Refusal};
+use opening::Opened;
 use resume::Progress;
 use text::limits;
 
@@ -82,16 +83,14 @@ pub fn ixml_judge(
     ensures { JudgedAs list.now (job grammar.now «record».now (length scratch.old)
         (length second.now)) res.old result res.new }
 {
-    let mut table = [0u32; limits::GRAMMAR_TABLE];
-    let mut text = [0u32; limits::RECORD_CHARACTERS];
+    let mut opened = Opened::new();
     let begun = opening::begin_list(
         grammar,
         record,
         list.len(),
         scratch.len(),
         second.len(),
-        &mut table,
-        &mut text,
+        &mut opened,
     );
     let start = match begun {
         Ok(start) => start,
@@ -99,7 +98,7 @@ pub fn ixml_judge(
     };
     let rules = start.rules;
     let chars = start.chars.0;
-    outcome::conclude_list(&table, rules, list, &text[..chars], scratch, res)
+    outcome::conclude_list(&opened.table, rules, list, &opened.text[..chars], scratch, res)
 }
 
 // Tidies a grammar.
@@ -151,21 +150,11 @@ pub fn ixml_finish_read(
     ensures { EndedAs Reads (job grammar.now «record».now (length main.now) (length second.now)) main.now state.now
         res.old result res.new }
 {
-    let mut table = [0u32; limits::GRAMMAR_TABLE];
-    let mut text = [0u32; limits::RECORD_CHARACTERS];
+    let mut opened = Opened::new();
     let mut parse = [0u32; limits::READING_NUMBERS];
-    let begun = resume::resume(
-        state,
-        grammar,
-        record,
-        main.len(),
-        second.len(),
-        &mut table,
-        &mut text,
-    );
-    let ended = ending::end_read(begun, state, &table, &text, main, &mut parse);
-    let parsed = ended.parse;
-    let answer = outcome::give_numbers(parsed, &parse, res);
+    let begun = resume::resume(state, grammar, record, main.len(), second.len(), &mut opened);
+    let ended = ending::end_read(begun, state, &opened, main, &mut parse);
+    let answer = outcome::give_numbers(ended.parse, &parse, res);
     Progress {
         answer,
         rounds: ended.rounds,
@@ -184,21 +173,11 @@ pub fn ixml_finish_convert(
     ensures { EndedAs Converts (job grammar.now «record».now (length main.now) (length second.now)) main.now state.now
         res.old result res.new }
 {
-    let mut table = [0u32; limits::GRAMMAR_TABLE];
-    let mut text = [0u32; limits::RECORD_CHARACTERS];
+    let mut opened = Opened::new();
     let mut parse = [0u32; limits::READING_NUMBERS];
-    let begun = resume::resume(
-        state,
-        grammar,
-        record,
-        main.len(),
-        second.len(),
-        &mut table,
-        &mut text,
-    );
-    let ended = ending::end_read(begun, state, &table, &text, main, &mut parse);
-    let parsed = ended.parse;
-    let answer = outcome::give_xml(parsed, &table, &text, &parse, res);
+    let begun = resume::resume(state, grammar, record, main.len(), second.len(), &mut opened);
+    let ended = ending::end_read(begun, state, &opened, main, &mut parse);
+    let answer = outcome::give_xml(ended.parse, &opened.table, &opened.text, &parse, res);
     Progress {
         answer,
         rounds: ended.rounds,

@@ -4,8 +4,8 @@ use mathlib.Core.Logic.{inl, inr}
 use mathlib.Core.Path.{◌≡◌, refl, sym, ap, subst, ◌∙◌}
 use Prim.Native.Nat.{ℕ, ◌≤◌}
 use native.Mathlib.Omega.{arith}
-use lib.ListN.{length, take}
-use Rattle.text.specs.Limits.{grammar_table, reading_numbers}
+use lib.ListN.{take}
+use Rattle.text.specs.Limits.{reading_numbers}
 use Rattle.text.specs.Lists.{Text}
 use Rattle.text.specs.Stages.{plainly}
 use Rattle.text.specs.declared.Diagnostic.{Diagnostic}
@@ -27,9 +27,9 @@ use Rattle.ending.specs.Ending.{refused_with, EndsWith, early, altered, as-uncut
 
 module _ (j : Job) (S T new : List ℕ) where
   -- what the end is given of a read that is gone on with
-  pub prepared : (main parse : ℕ) (b : Result Start Diagnostic) → Resumes j S T new b → j.main_table ≡ main → length T ≡ grammar_table → reading_numbers ≤ parse → Prepared b T new main parse
-  prepared main parse (Ok s) w m l r = record { job = j; started = w.started; lent = m; long = l; room = r }
-  prepared main parse (Err d) w m l r = tt
+  pub prepared : (main parse : ℕ) (b : Result Start Diagnostic) → Resumes j S T new b → j.main_table ≡ main → reading_numbers ≤ parse → Prepared b T new main parse
+  prepared main parse (Ok s) w m r = record { job = j; started = w.started; lent = m; room = r }
+  prepared main parse (Err d) w m r = tt
 
   abbrev last : List Line
   last = line 26 (FinishedBy S → ⊥) ∷ []

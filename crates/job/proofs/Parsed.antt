@@ -1,31 +1,23 @@
 -- From the stages of a job to what they come to together.
 use mathlib.Core.Bool.{false}
-use mathlib.Core.Path.{◌≡◌}
 use mathlib.Core.Logic.{⊎_elim}
 use mathlib.Core.List.{List, ◌∷◌}
-use Prim.Native.Nat.{ℕ, ◌≤◌}
+use Prim.Native.Nat.{ℕ}
 use native.Mathlib.Omega.{arith}
 use lib.Dec.{ltb}
-use Rattle.std.specs.Prelude.{Result, Ok, Err}
+use Rattle.std.specs.Prelude.{Err}
 use lib.ListN.{length}
-use Rattle.text.specs.Limits.{grammar_table, reading_numbers}
+use Rattle.text.specs.Limits.{reading_numbers}
 use Rattle.derive.specs.Derive.{left_parse}
 use Rattle.derive.specs.Pick.{chosen_of}
 use borrow.Author.Tests.{ne_eqb}
 use Rattle.text.specs.declared.Diagnostic.{Diagnostic}
 use Rattle.answer.specs.Answer.{Job}
 use Rattle.answer.specs.Compute.{test, none_test, on_reading}
-use Rattle.opening.specs.declared.Start.{Start}
 use Rattle.opening.specs.Stages.{Begins}
-use Rattle.job.specs.Found.{Prepared}
 use Rattle.job.specs.Parses.{NotChosen}
 
 module _ (j : Job) (T new : List ℕ) where
-  -- what reading is given of a job that is begun
-  pub prepared : (main parse : ℕ) (b : Result Start Diagnostic) → Begins j T new b → j.main_table ≡ main → length T ≡ grammar_table → reading_numbers ≤ parse → Prepared b T new main parse
-  prepared main parse (Ok s) w m l r = record { job = j; started = w; lent = m; long = l; room = r }
-  prepared main parse (Err d) w m l r = tt
-
   -- a stage before 16 refuses
   pub ended : (k : Diagnostic) → Begins j T new (Err k) → NotChosen j (record { why = k; mismatch = false })
   ended k s = record {

@@ -1,6 +1,6 @@
 -- What reading a record is given, once none of 1 to 15 applies, nor 24; and why there is no reading.
-use Rattle.std.specs.Prelude.{◌≡◌, Result, Ok, Err, List, ℕ, ◌≤◌, length}
-use Rattle.text.specs.Limits.{grammar_table, reading_numbers}
+use Rattle.std.specs.Prelude.{◌≡◌, Result, Ok, Err, List, ℕ, ◌≤◌}
+use Rattle.text.specs.Limits.{reading_numbers}
 use Rattle.text.specs.Stages.{plainly}
 use Rattle.text.specs.declared.CharPlace.{CharPlace}
 use Rattle.text.specs.declared.Diagnostic.{Diagnostic}
@@ -15,7 +15,6 @@ pub record Readable (T new : List ℕ) (main parse : ℕ) (s : Start) : Type 0 w
   pub job : Job
   pub started : Started job T new s
   pub lent : job.main_table ≡ main
-  pub long : length T ≡ grammar_table
   pub room : reading_numbers ≤ parse
 
 abbrev pub Prepared : Result Start Diagnostic → List ℕ → List ℕ → ℕ → ℕ → Type 0

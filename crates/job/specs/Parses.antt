@@ -1,6 +1,6 @@
 -- What all the stages together answer: the left parse of the chosen reading, or the first refusal.
 use Rattle.std.specs.Prelude.{Result, Ok, Err, ◌&&◌, ◌≡◌, List, ℕ, ◌≤◌, eqb, length, take}
-use Rattle.text.specs.Limits.{grammar_table, record_chars, reading_numbers}
+use Rattle.text.specs.Limits.{reading_numbers}
 use Rattle.text.specs.Stages.{StageAnswer, answered, refused, Settles}
 use Rattle.tree.specs.Tree.{Grammar}
 use Rattle.tree.specs.Tokens.{grammar_tokens}
@@ -24,12 +24,6 @@ use Rattle.job.specs.Found.{first_test, why_not}
 abbrev pub parsed_of : Result Found Failure → Start → Result LeftParse Refusal
 parsed_of (Ok f) s = Ok (record { root = s.rules.root; count = f.count; chars = s.chars; ambiguous = f.ambiguous; mismatch = s.rules.mismatch })
 parsed_of (Err e) s = Err (record { why = why_not e; mismatch = s.rules.mismatch })
-
--- the lengths of the lent buffers
-pub record Lent (T new P : List ℕ) : Type 0 where
-  pub table : length T ≡ grammar_table
-  pub text : length new ≡ record_chars
-  pub room : reading_numbers ≤ length P
 
 -- the left parse of the chosen reading stands in `P`, the grammar's tokens and plain rules in `T`, the record's characters in `new`
 pub record IsChosen (j : Job) (T new P : List ℕ) (p : LeftParse) : Type 0 where

@@ -1,13 +1,14 @@
 // The stages of a job together, from its bytes to the chosen reading. The first stage that refuses ends it.
 #![tactic(auto)]
 
-ghost use Rattle.std.specs.Prelude.{◌≡◌, length};
+ghost use Rattle.std.specs.Prelude.{◌≡◌, ◌≤◌, length};
+ghost use Rattle.text.specs.Limits.{reading_numbers};
 ghost use Rattle.answer.specs.Answer.{job};
 ghost use Rattle.job.specs.Found.{why_not};
-ghost use Rattle.job.specs.Parses.{parsed_of, Lent, Parses};
+ghost use Rattle.job.specs.Parses.{parsed_of, Parses};
 
 use exported::Refusal;
-use opening::Start;
+use opening::{Opened, Start};
 use parser::Failure;
 use reading::Found;
 use text::{BytePlace, CharPlace, Diagnostic, Places, refusals};
@@ -69,28 +70,26 @@ pub struct Lending {
     pub plain: bool,
 }
 
-// All stages: 1 to 16, 24 and 29. The table takes the grammar's tokens and plain rules, `text` the record's characters, `parse` the
-// left parse of the chosen reading.
+// All stages: 1 to 16, 24 and 29. `parse` takes the left parse of the chosen reading.
 pub fn parse_record(
     grammar: &[u8],
     record: &[u8],
     main: &mut [u32],
     lending: Lending,
-    table: &mut [u32],
-    text: &mut [u32],
+    opened: &mut Opened,
     parse: &mut [u32],
 ) -> Result<LeftParse, Refusal>
-    requires { Lent table.old text.old parse.old }
-    ensures { Parses (job grammar.now «record».now (length main.old) lending.second) table.new text.new parse.new result }
+    requires { reading_numbers ≤ length parse.old }
+    ensures { Parses (job grammar.now «record».now (length main.old) lending.second) opened.new.table opened.new.text parse.new result }
 {
-    let start = opening::begin(grammar, record, main.len(), lending.second, table, text)?;
+    let start = opening::begin(grammar, record, main.len(), lending.second, opened)?;
     let n = start.chars.0;
     let chosen = parser::choose_by(
         lending.plain,
-        table,
+        &opened.table,
         start.rules.size,
         start.rules.root,
-        &text[..n],
+        &opened.text[..n],
         main,
         parse,
     );

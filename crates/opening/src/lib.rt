@@ -2,7 +2,7 @@
 // that refuses ends it.
 #![tactic(auto)]
 
-ghost use Rattle.std.specs.Prelude.{◌≡◌, ◌||◌, ◌*◌, ◌<◌, ltb, length};
+ghost use Rattle.std.specs.Prelude.{◌≡◌, ◌||◌, ◌*◌, ◌<◌, ltb, length, replicate};
 ghost use Rattle.text.specs.Limits.{grammar_table, record_chars};
 ghost use Rattle.answer.specs.Answer.{job};
 ghost use Rattle.opening.specs.Stages.{Takes, Opens, Small, need_of, lending, Begins, BeginsBy};
@@ -35,18 +35,30 @@ pub struct Start {
     pub chars: CharPlace,
 }
 
+// What these stages fill: the grammar's tokens and plain rules, and the record's characters.
+#[derive(Drop)]
+pub struct Opened {
+    pub table: [u32; limits::GRAMMAR_TABLE],
+    pub text: [u32; limits::RECORD_CHARACTERS],
+}
+
+impl Opened {
+    pub fn new() -> Opened
+        ensures { (result.table ≡ replicate grammar_table 0) × (result.text ≡ replicate record_chars 0) }
+    {
+        Opened {
+            table: [0; limits::GRAMMAR_TABLE],
+            text: [0; limits::RECORD_CHARACTERS],
+        }
+    }
+}
+
 // 1 to 14, and 24.
-pub fn open_job(
-    grammar: &[u8],
-    record: &[u8],
-    table: &mut [u32],
-    text: &mut [u32],
-) -> Result<Start, Diagnostic>
-    requires { (length table.old ≡ grammar_table) × (length text.old ≡ record_chars) }
-    ensures { Opens grammar.now «record».now table.new text.new result }
+pub fn open_job(grammar: &[u8], record: &[u8], opened: &mut Opened) -> Result<Start, Diagnostic>
+    ensures { Opens grammar.now «record».now opened.new.table opened.new.text result }
 {
-    let rules = accept::accept_grammar(grammar, table)?;
-    let chars = take_record(record, text)?;
+    let rules = accept::accept_grammar(grammar, &mut opened.table)?;
+    let chars = take_record(record, &mut opened.text)?;
     Ok(Start { rules, chars })
 }
 
@@ -77,13 +89,11 @@ pub fn begin(
     record: &[u8],
     main: usize,
     second: usize,
-    table: &mut [u32],
-    text: &mut [u32],
+    opened: &mut Opened,
 ) -> Result<Start, Diagnostic>
-    requires { (length table.old ≡ grammar_table) × (length text.old ≡ record_chars) }
-    ensures { Begins (job grammar.now «record».now main second) table.new text.new result }
+    ensures { Begins (job grammar.now «record».now main second) opened.new.table opened.new.text result }
 {
-    let start = open_job(grammar, record, table, text)?;
+    let start = open_job(grammar, record, opened)?;
     lend_main(start, main, second)
 }
 
@@ -94,13 +104,11 @@ pub fn begin_list(
     numbers: usize,
     scratch: usize,
     second: usize,
-    table: &mut [u32],
-    text: &mut [u32],
+    opened: &mut Opened,
 ) -> Result<Start, Diagnostic>
-    requires numbers_bound { numbers < 4611686018427387904 }
-    requires table_len { (length table.old ≡ grammar_table) × (length text.old ≡ record_chars) }
-    ensures { BeginsBy (λ g r. 2 * numbers) (job grammar.now «record».now scratch second) table.new text.new result }
+    requires { numbers < 4611686018427387904 }
+    ensures { BeginsBy (λ g r. 2 * numbers) (job grammar.now «record».now scratch second) opened.new.table opened.new.text result }
 {
-    let start = open_job(grammar, record, table, text)?;
+    let start = open_job(grammar, record, opened)?;
     lend(start, scratch, NOTE_COLUMNS * numbers, second)
 }

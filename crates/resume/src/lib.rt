@@ -2,14 +2,13 @@
 #![tactic(auto)]
 
 ghost use Rattle.std.specs.Prelude.{◌≡◌, length};
-ghost use Rattle.text.specs.Limits.{grammar_table, record_chars};
 ghost use Rattle.answer.specs.Answer.{job};
 ghost use Rattle.state.specs.State.{state_length};
 ghost use Rattle.resume.specs.Resume.{refusing};
 ghost use Rattle.resume.specs.Stages.{Resumes};
 
 use exported::{Answer, Refusal};
-use opening::Start;
+use opening::{Opened, Start};
 use text::Diagnostic;
 
 // A state, or a table, that is not of this read.
@@ -38,16 +37,15 @@ pub fn resume(
     record: &[u8],
     main: usize,
     second: usize,
-    table: &mut [u32],
-    text: &mut [u32],
+    opened: &mut Opened,
 ) -> Result<Start, Diagnostic>
-    requires { (length state.now ≡ state_length) × (length table.old ≡ grammar_table) × (length text.old ≡ record_chars) }
-    ensures { Resumes (job grammar.now «record».now main second) state.now table.new text.new result }
+    requires { length state.now ≡ state_length }
+    ensures { Resumes (job grammar.now «record».now main second) state.now opened.new.table opened.new.text result }
 {
     if !state::keeps(state, grammar, record) {
         return Err(text::plain(OTHER_STATE));
     }
-    let Ok(start) = opening::open_job(grammar, record, table, text) else {
+    let Ok(start) = opening::open_job(grammar, record, opened) else {
         return Err(text::plain(OTHER_STATE));
     };
     opening::lend_main(start, main, second)

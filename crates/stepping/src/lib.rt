@@ -6,8 +6,8 @@ ghost use Rattle.answer.specs.Answer.{job};
 ghost use Rattle.state.specs.State.{state_length};
 ghost use Rattle.resume.specs.Resume.{StartedAs, RoundedAs};
 
+use opening::Opened;
 use resume::Progress;
-use text::limits;
 
 // Starts a read: the table is cleared, the state keeps grammar and record. Local are 66,336 bytes.
 pub fn start(
@@ -20,9 +20,8 @@ pub fn start(
     requires { length state.old ≡ state_length }
     ensures { StartedAs (job grammar.now «record».now (length main.old) second) main.old result main.new state.new }
 {
-    let mut table = [0u32; limits::GRAMMAR_TABLE];
-    let mut text = [0u32; limits::RECORD_CHARACTERS];
-    let start = match opening::begin(grammar, record, main.len(), second, &mut table, &mut text) {
+    let mut opened = Opened::new();
+    let start = match opening::begin(grammar, record, main.len(), second, &mut opened) {
         Ok(start) => start,
         Err(why) => {
             state::wipe(state);
@@ -50,16 +49,14 @@ pub fn round(
     ensures { RoundedAs (job grammar.now «record».now (length main.old) second) main.old state.old result
         main.new state.new }
 {
-    let mut table = [0u32; limits::GRAMMAR_TABLE];
-    let mut text = [0u32; limits::RECORD_CHARACTERS];
+    let mut opened = Opened::new();
     let begun = resume::resume(
         state,
         grammar,
         record,
         main.len(),
         second,
-        &mut table,
-        &mut text,
+        &mut opened,
     );
     let start = match begun {
         Ok(start) => start,
@@ -73,10 +70,10 @@ pub fn round(
     }
     let n = start.chars.0;
     let last = advance::round(
-        &table,
+        &opened.table,
         start.rules.size,
         start.rules.root,
-        &text[..n],
+        &opened.text[..n],
         rounds,
         main,
     );

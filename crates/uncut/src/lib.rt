@@ -7,6 +7,7 @@ ghost use Rattle.outcome.specs.Calls.{ReadAs, ConvertedAs};
 
 use exported::Answer;
 use job::Lending;
+use opening::Opened;
 use text::limits;
 
 // Reads a record, by the plain engine or the quick one.
@@ -20,16 +21,14 @@ pub fn read(
 ) -> Answer
     ensures { ReadAs (job grammar.now «record».now (length main.old) second) res.old result res.new }
 {
-    let mut table = [0u32; limits::GRAMMAR_TABLE];
-    let mut text = [0u32; limits::RECORD_CHARACTERS];
+    let mut opened = Opened::new();
     let mut parse = [0u32; limits::READING_NUMBERS];
     let parsed = job::parse_record(
         grammar,
         record,
         main,
         Lending { second, plain },
-        &mut table,
-        &mut text,
+        &mut opened,
         &mut parse,
     );
     outcome::give_numbers(parsed, &parse, res)
@@ -46,8 +45,7 @@ pub fn convert(
     ensures { ConvertedAs (job grammar.now «record».now (length main.old)
         second) res.old result res.new }
 {
-    let mut table = [0u32; limits::GRAMMAR_TABLE];
-    let mut text = [0u32; limits::RECORD_CHARACTERS];
+    let mut opened = Opened::new();
     let mut parse = [0u32; limits::READING_NUMBERS];
     let parsed = job::parse_record(
         grammar,
@@ -57,9 +55,8 @@ pub fn convert(
             second,
             plain: false,
         },
-        &mut table,
-        &mut text,
+        &mut opened,
         &mut parse,
     );
-    outcome::give_xml(parsed, &table, &text, &parse, res)
+    outcome::give_xml(parsed, &opened.table, &opened.text, &parse, res)
 }

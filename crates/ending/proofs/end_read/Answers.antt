@@ -3,6 +3,7 @@ use Rattle.opening.proofs.Texts.{got-part}
 use Rattle.job.proofs.Readings.{choosable}
 use Rattle.tells.proofs.Tells.{not_so}
 use Rattle.ending.proofs.Ended.{not-resumed, not_yet, other-table, parsed, resumed-at, refused-at, readable}
+use borrow.Author.Rules.{rules}
 use Rattle.ending.proofs.end_read.Goals as goal
 
 pub returns-in-Err : goal.returns-in-Err
@@ -19,13 +20,13 @@ returns-then-not-finished c =
     λ j w. not_yet j _ _ _ _ _ _ _ (resumed-at c.in-Ok.is w) (not_so c.finished.ensures c.if-not-finished.true)
     _ (c.wide-rounds.ensures ∙ c.rounds.ensures) _ c.plain.ensures c.refused-then-not-finished.ensures
 
-pub slice_bounds-finish-end : goal.slice_bounds-finish-end
-slice_bounds-finish-end c = got-part (readable c.in-Ok.is c.requires.0).started.input
+pub slice_bounds-finish-end-2 : goal.slice_bounds-finish-end-2
+slice_bounds-finish-end-2 c = got-part (readable c.in-Ok.is c.requires.0).started.input
 
 pub finish-finished-requires : goal.finish-finished-requires
 finish-finished-requires c =
     let ready = readable c.in-Ok.is c.requires.0 in
-    choosable _ _ _ _ ready.started _ _ ready.lent ready.long ready.room
+    choosable _ _ _ _ ready.started _ _ ready.lent (search rules) ready.room
 
 pub returns-in_default : goal.returns-in_default
 returns-in_default c =

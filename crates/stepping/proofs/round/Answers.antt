@@ -11,12 +11,12 @@ use Rattle.stepping.proofs.round.Goals as goal
 
 pub resume-begun-requires : goal.resume-begun-requires
 resume-begun-requires c =
-    (c.requires, search rules, search rules)
+    c.requires
 
 pub returns-in-Err : goal.returns-in-Err
 returns-in-Err c =
     let j = job c.args.grammar.now c.args.record.now (length c.args.main.now) c.args.second in
-    rounded-refused j c.resume-begun.new.table c.resume-begun.new.text _ _ c.in-Err.why _ c.in-Err.ensures c.refuse.ensures
+    rounded-refused j c.resume-begun.new.opened.table c.resume-begun.new.opened.text _ _ c.in-Err.why _ c.in-Err.ensures c.refuse.ensures
 
 pub rounds-done-requires : goal.rounds-done-requires
 rounds-done-requires c =
@@ -32,12 +32,6 @@ returns-then-finished c =
     let w = c.in-Ok.ensures in
     rounded-over j _ _ _ _ _ w _ c.answered-answer.ensures _ (c.wide-rounds.ensures ∙ c.rounds-done.ensures) (c.finished.ensures.yes c.if-finished.true)
 
-pub slice_bounds-text-end : goal.slice_bounds-text-end
-slice_bounds-text-end c =
-    let j = job c.args.grammar.now c.args.record.now (length c.args.main.now) c.args.second in
-    let w = c.in-Ok.ensures in
-    omega (arith, w.started.input.count, w.started.input.short, c.resume-begun.auto.text)
-
 pub slice_bounds-round-end-2 : goal.slice_bounds-round-end-2
 slice_bounds-round-end-2 c =
     let j = job c.args.grammar.now c.args.record.now (length c.args.main.now) c.args.second in
@@ -46,7 +40,7 @@ slice_bounds-round-end-2 c =
 pub round-last-requires : goal.round-last-requires
 round-last-requires c =
     let j = job c.args.grammar.now c.args.record.now (length c.args.main.now) c.args.second in
-    readable j c.resume-begun.new.table c.resume-begun.new.text c.args.main.now _ _
+    readable j c.resume-begun.new.opened.table c.resume-begun.new.opened.text c.args.main.now _ _
     c.in-Ok.ensures refl (search rules)
 
 pub overflow_add-done : goal.overflow_add-done
