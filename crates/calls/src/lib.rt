@@ -7,7 +7,7 @@ ghost use Rattle.outcome.specs.Calls.{Checked, ReadAs, ConvertedAs, JudgedAs, Ti
 ghost use Rattle.resume.specs.Resume.{StartedAs, RoundedAs, EndedAs};
 
 use exported::{Answer, Refusal};
-use opening::Opened;
+use opening::Workspace;
 use resume::Progress;
 use text::limits;
 
@@ -83,14 +83,14 @@ pub fn ixml_judge(
     ensures { JudgedAs list.now (job grammar.now «record».now (length scratch.old)
         (length second.now)) res.old result res.new }
 {
-    let mut opened = Opened::new();
+    let mut space = Workspace::new();
     let begun = opening::begin_list(
         grammar,
         record,
         list.len(),
         scratch.len(),
         second.len(),
-        &mut opened,
+        &mut space,
     );
     let start = match begun {
         Ok(start) => start,
@@ -98,7 +98,7 @@ pub fn ixml_judge(
     };
     let rules = start.rules;
     let chars = start.chars.0;
-    outcome::conclude_list(&opened.table, rules, list, &opened.text[..chars], scratch, res)
+    outcome::conclude_list(&space.table, rules, list, &space.text[..chars], scratch, res)
 }
 
 // Tidies a grammar.
@@ -150,10 +150,10 @@ pub fn ixml_finish_read(
     ensures { EndedAs Reads (job grammar.now «record».now (length main.now) (length second.now)) main.now state.now
         res.old result res.new }
 {
-    let mut opened = Opened::new();
+    let mut space = Workspace::new();
     let mut parse = [0u32; limits::READING_NUMBERS];
-    let begun = resume::resume(state, grammar, record, main.len(), second.len(), &mut opened);
-    let ended = ending::end_read(begun, state, &opened, main, &mut parse);
+    let begun = resume::resume(state, grammar, record, main.len(), second.len(), &mut space);
+    let ended = ending::end_read(begun, state, &space, main, &mut parse);
     let answer = outcome::give_numbers(ended.parse, &parse, res);
     Progress {
         answer,
@@ -173,11 +173,11 @@ pub fn ixml_finish_convert(
     ensures { EndedAs Converts (job grammar.now «record».now (length main.now) (length second.now)) main.now state.now
         res.old result res.new }
 {
-    let mut opened = Opened::new();
+    let mut space = Workspace::new();
     let mut parse = [0u32; limits::READING_NUMBERS];
-    let begun = resume::resume(state, grammar, record, main.len(), second.len(), &mut opened);
-    let ended = ending::end_read(begun, state, &opened, main, &mut parse);
-    let answer = outcome::give_xml(ended.parse, &opened.table, &opened.text, &parse, res);
+    let begun = resume::resume(state, grammar, record, main.len(), second.len(), &mut space);
+    let ended = ending::end_read(begun, state, &space, main, &mut parse);
+    let answer = outcome::give_xml(ended.parse, &space.table, &space.text, &parse, res);
     Progress {
         answer,
         rounds: ended.rounds,

@@ -10,7 +10,7 @@ ghost use Rattle.ending.specs.Ending.{refused_with, EndsWith};
 
 use exported::Refusal;
 use job::LeftParse;
-use opening::{Opened, Start};
+use opening::{Start, Workspace};
 use text::Diagnostic;
 
 // A read that is not finished yet.
@@ -36,13 +36,13 @@ fn refused(why: Diagnostic, rounds: usize) -> Ending
 pub fn end_read(
     begun: Result<Start, Diagnostic>,
     state: &[u32],
-    opened: &Opened,
+    space: &Workspace,
     main: &[u32],
     parse: &mut [u32],
 ) -> Ending
-    requires { Prepared begun opened.now.table opened.now.text (length main.now) (length parse.old) × (length state.now ≡ state_length) }
-    ensures { (j : Job) → Resumes j state.now opened.now.table opened.now.text begun
-        → EndsWith j opened.now.table opened.now.text main.now state.now parse.new result }
+    requires { Prepared begun space.now.table space.now.text (length main.now) (length parse.old) × (length state.now ≡ state_length) }
+    ensures { (j : Job) → Resumes j state.now space.now.table space.now.text begun
+        → EndsWith j space.now.table space.now.text main.now state.now parse.new result }
 {
     let start = match begun {
         Ok(start) => start,
@@ -54,10 +54,10 @@ pub fn end_read(
     }
     let n = start.chars.0;
     let finished = finish::finish(
-        &opened.table,
+        &space.table,
         start.rules.size,
         start.rules.root,
-        &opened.text[..n],
+        &space.text[..n],
         main,
         parse,
     );

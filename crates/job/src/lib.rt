@@ -8,7 +8,7 @@ ghost use Rattle.job.specs.Found.{why_not};
 ghost use Rattle.job.specs.Parses.{parsed_of, Parses};
 
 use exported::Refusal;
-use opening::{Opened, Start};
+use opening::{Start, Workspace};
 use parser::Failure;
 use reading::Found;
 use text::{BytePlace, CharPlace, Diagnostic, Places, refusals};
@@ -76,20 +76,20 @@ pub fn parse_record(
     record: &[u8],
     main: &mut [u32],
     lending: Lending,
-    opened: &mut Opened,
+    space: &mut Workspace,
     parse: &mut [u32],
 ) -> Result<LeftParse, Refusal>
     requires { reading_numbers ≤ length parse.old }
-    ensures { Parses (job grammar.now «record».now (length main.old) lending.second) opened.new.table opened.new.text parse.new result }
+    ensures { Parses (job grammar.now «record».now (length main.old) lending.second) space.new.table space.new.text parse.new result }
 {
-    let start = opening::begin(grammar, record, main.len(), lending.second, opened)?;
+    let start = opening::begin(grammar, record, main.len(), lending.second, space)?;
     let n = start.chars.0;
     let chosen = parser::choose_by(
         lending.plain,
-        &opened.table,
+        &space.table,
         start.rules.size,
         start.rules.root,
-        &opened.text[..n],
+        &space.text[..n],
         main,
         parse,
     );

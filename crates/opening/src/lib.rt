@@ -37,16 +37,16 @@ pub struct Start {
 
 // What these stages fill: the grammar's tokens and plain rules, and the record's characters.
 #[derive(Drop)]
-pub struct Opened {
+pub struct Workspace {
     pub table: [u32; limits::GRAMMAR_TABLE],
     pub text: [u32; limits::RECORD_CHARACTERS],
 }
 
-impl Opened {
-    pub fn new() -> Opened
+impl Workspace {
+    pub fn new() -> Workspace
         ensures { (result.table ≡ replicate grammar_table 0) × (result.text ≡ replicate record_chars 0) }
     {
-        Opened {
+        Workspace {
             table: [0; limits::GRAMMAR_TABLE],
             text: [0; limits::RECORD_CHARACTERS],
         }
@@ -54,11 +54,11 @@ impl Opened {
 }
 
 // 1 to 14, and 24.
-pub fn open_job(grammar: &[u8], record: &[u8], opened: &mut Opened) -> Result<Start, Diagnostic>
-    ensures { Opens grammar.now «record».now opened.new.table opened.new.text result }
+pub fn open_job(grammar: &[u8], record: &[u8], space: &mut Workspace) -> Result<Start, Diagnostic>
+    ensures { Opens grammar.now «record».now space.new.table space.new.text result }
 {
-    let rules = accept::accept_grammar(grammar, &mut opened.table)?;
-    let chars = take_record(record, &mut opened.text)?;
+    let rules = accept::accept_grammar(grammar, &mut space.table)?;
+    let chars = take_record(record, &mut space.text)?;
     Ok(Start { rules, chars })
 }
 
@@ -89,11 +89,11 @@ pub fn begin(
     record: &[u8],
     main: usize,
     second: usize,
-    opened: &mut Opened,
+    space: &mut Workspace,
 ) -> Result<Start, Diagnostic>
-    ensures { Begins (job grammar.now «record».now main second) opened.new.table opened.new.text result }
+    ensures { Begins (job grammar.now «record».now main second) space.new.table space.new.text result }
 {
-    let start = open_job(grammar, record, opened)?;
+    let start = open_job(grammar, record, space)?;
     lend_main(start, main, second)
 }
 
@@ -104,11 +104,11 @@ pub fn begin_list(
     numbers: usize,
     scratch: usize,
     second: usize,
-    opened: &mut Opened,
+    space: &mut Workspace,
 ) -> Result<Start, Diagnostic>
     requires { numbers < 4611686018427387904 }
-    ensures { BeginsBy (λ g r. 2 * numbers) (job grammar.now «record».now scratch second) opened.new.table opened.new.text result }
+    ensures { BeginsBy (λ g r. 2 * numbers) (job grammar.now «record».now scratch second) space.new.table space.new.text result }
 {
-    let start = open_job(grammar, record, opened)?;
+    let start = open_job(grammar, record, space)?;
     lend(start, scratch, NOTE_COLUMNS * numbers, second)
 }

@@ -8,7 +8,7 @@ ghost use Rattle.resume.specs.Resume.{refusing};
 ghost use Rattle.resume.specs.Stages.{Resumes};
 
 use exported::{Answer, Refusal};
-use opening::{Opened, Start};
+use opening::{Start, Workspace};
 use text::Diagnostic;
 
 // A state, or a table, that is not of this read.
@@ -37,15 +37,15 @@ pub fn resume(
     record: &[u8],
     main: usize,
     second: usize,
-    opened: &mut Opened,
+    space: &mut Workspace,
 ) -> Result<Start, Diagnostic>
     requires { length state.now ≡ state_length }
-    ensures { Resumes (job grammar.now «record».now main second) state.now opened.new.table opened.new.text result }
+    ensures { Resumes (job grammar.now «record».now main second) state.now space.new.table space.new.text result }
 {
     if !state::keeps(state, grammar, record) {
         return Err(text::plain(OTHER_STATE));
     }
-    let Ok(start) = opening::open_job(grammar, record, opened) else {
+    let Ok(start) = opening::open_job(grammar, record, space) else {
         return Err(text::plain(OTHER_STATE));
     };
     opening::lend_main(start, main, second)

@@ -6,7 +6,7 @@ ghost use Rattle.answer.specs.Answer.{job};
 ghost use Rattle.state.specs.State.{state_length};
 ghost use Rattle.resume.specs.Resume.{StartedAs, RoundedAs};
 
-use opening::Opened;
+use opening::Workspace;
 use resume::Progress;
 
 // Starts a read: the table is cleared, the state keeps grammar and record. Local are 66,336 bytes.
@@ -20,8 +20,8 @@ pub fn start(
     requires { length state.old ≡ state_length }
     ensures { StartedAs (job grammar.now «record».now (length main.old) second) main.old result main.new state.new }
 {
-    let mut opened = Opened::new();
-    let start = match opening::begin(grammar, record, main.len(), second, &mut opened) {
+    let mut space = Workspace::new();
+    let start = match opening::begin(grammar, record, main.len(), second, &mut space) {
         Ok(start) => start,
         Err(why) => {
             state::wipe(state);
@@ -49,14 +49,14 @@ pub fn round(
     ensures { RoundedAs (job grammar.now «record».now (length main.old) second) main.old state.old result
         main.new state.new }
 {
-    let mut opened = Opened::new();
+    let mut space = Workspace::new();
     let begun = resume::resume(
         state,
         grammar,
         record,
         main.len(),
         second,
-        &mut opened,
+        &mut space,
     );
     let start = match begun {
         Ok(start) => start,
@@ -70,10 +70,10 @@ pub fn round(
     }
     let n = start.chars.0;
     let last = advance::round(
-        &opened.table,
+        &space.table,
         start.rules.size,
         start.rules.root,
-        &opened.text[..n],
+        &space.text[..n],
         rounds,
         main,
     );

@@ -7,7 +7,7 @@ ghost use Rattle.outcome.specs.Calls.{ReadAs, ConvertedAs};
 
 use exported::Answer;
 use job::Lending;
-use opening::Opened;
+use opening::Workspace;
 use text::limits;
 
 // Reads a record, by the plain engine or the quick one.
@@ -21,14 +21,14 @@ pub fn read(
 ) -> Answer
     ensures { ReadAs (job grammar.now «record».now (length main.old) second) res.old result res.new }
 {
-    let mut opened = Opened::new();
+    let mut space = Workspace::new();
     let mut parse = [0u32; limits::READING_NUMBERS];
     let parsed = job::parse_record(
         grammar,
         record,
         main,
         Lending { second, plain },
-        &mut opened,
+        &mut space,
         &mut parse,
     );
     outcome::give_numbers(parsed, &parse, res)
@@ -45,7 +45,7 @@ pub fn convert(
     ensures { ConvertedAs (job grammar.now «record».now (length main.old)
         second) res.old result res.new }
 {
-    let mut opened = Opened::new();
+    let mut space = Workspace::new();
     let mut parse = [0u32; limits::READING_NUMBERS];
     let parsed = job::parse_record(
         grammar,
@@ -55,8 +55,8 @@ pub fn convert(
             second,
             plain: false,
         },
-        &mut opened,
+        &mut space,
         &mut parse,
     );
-    outcome::give_xml(parsed, &opened.table, &opened.text, &parse, res)
+    outcome::give_xml(parsed, &space.table, &space.text, &parse, res)
 }

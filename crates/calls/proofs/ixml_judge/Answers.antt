@@ -12,7 +12,7 @@ pub returns-in-Err : goal.returns-in-Err
 returns-in-Err c =
     let a = c.args in
     let j = job a.grammar.now a.record.now (length a.scratch.now) (length a.second.now) in
-    judge-ended a.list.now j _ c.begin_list-begun.new.opened.table c.begin_list-begun.new.opened.text c.in-Err.why _ c.in-Err.ensures (rw c.from.ensures at c.refuse.ensures)
+    judge-ended a.list.now j _ c.begin_list-begun.new.space.table c.begin_list-begun.new.space.text c.in-Err.why _ c.in-Err.ensures (rw c.from.ensures at c.refuse.ensures)
 
 pub slice_bounds-conclude_list-end-2 : goal.slice_bounds-conclude_list-end-2
 slice_bounds-conclude_list-end-2 c = got-part c.in-Ok.ensures.input
@@ -21,7 +21,7 @@ pub conclude_list-requires : goal.conclude_list-requires
 conclude_list-requires c =
     let a = c.args in
     let j = job a.grammar.now a.record.now (length a.scratch.now) (length a.second.now) in
-    judgeable a.list.now j [] c.begin_list-begun.new.opened.table c.begin_list-begun.new.opened.text c.in-Ok.start c.in-Ok.ensures (search rules) _ refl (omega (arith, c.well_formed))
+    judgeable a.list.now j [] c.begin_list-begun.new.space.table c.begin_list-begun.new.space.text c.in-Ok.start c.in-Ok.ensures (search rules) _ refl (omega (arith, c.well_formed))
 
 pub returns : goal.returns
 returns c =

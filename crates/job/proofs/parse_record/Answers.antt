@@ -11,7 +11,7 @@ pub returns-in_err-start : goal.returns-in_err-start
 returns-in_err-start c =
     let j = job c.args.grammar.now c.args.record.now (length c.args.main.now) c.args.lending.second in
     let p = err_from_is_err_and c.from_residual.result c.from_residual.ensures.1 in
-    rw (p.1, p.2) (ended j c.begin.new.opened.table c.begin.new.opened.text c.in_err-start.field-0.0 c.in_err-start.ensures)
+    rw (p.1, p.2) (ended j c.begin.new.space.table c.begin.new.space.text c.in_err-start.field-0.0 c.in_err-start.ensures)
 
 pub returns : goal.returns
 returns c =

@@ -10,7 +10,7 @@ keeps-requires c = c.requires
 pub returns-then-not-keeps : goal.returns-then-not-keeps
 returns-then-not-keeps c =
     let j = job c.args.grammar.now c.args.record.now c.args.main c.args.second in
-    rw c.plain.ensures (not-kept j c.args.state.now c.args.opened.now.table c.args.opened.now.text (not_so c.keeps.ensures c.if-not-keeps.true))
+    rw c.plain.ensures (not-kept j c.args.state.now c.args.space.now.table c.args.space.now.text (not_so c.keeps.ensures c.if-not-keeps.true))
 
 pub lend_main-requires : goal.lend_main-requires
 lend_main-requires c = small _ c.in-Ok.ensures
@@ -23,4 +23,4 @@ returns c =
 pub returns-in_default : goal.returns-in_default
 returns-in_default c =
     let j = job c.args.grammar.now c.args.record.now c.args.main c.args.second in
-    rw c.plain-in_default.ensures (not_opened j c.args.state.now c.open_job.new.opened.table c.open_job.new.opened.text c.in_default.field-0 c.in_default.ensures)
+    rw c.plain-in_default.ensures (not_opened j c.args.state.now c.open_job.new.space.table c.open_job.new.space.text c.in_default.field-0 c.in_default.ensures)

@@ -16,7 +16,7 @@ resume-begun-requires c =
 pub returns-in-Err : goal.returns-in-Err
 returns-in-Err c =
     let j = job c.args.grammar.now c.args.record.now (length c.args.main.now) c.args.second in
-    rounded-refused j c.resume-begun.new.opened.table c.resume-begun.new.opened.text _ _ c.in-Err.why _ c.in-Err.ensures c.refuse.ensures
+    rounded-refused j c.resume-begun.new.space.table c.resume-begun.new.space.text _ _ c.in-Err.why _ c.in-Err.ensures c.refuse.ensures
 
 pub rounds-done-requires : goal.rounds-done-requires
 rounds-done-requires c =
@@ -40,7 +40,7 @@ slice_bounds-round-end-2 c =
 pub round-last-requires : goal.round-last-requires
 round-last-requires c =
     let j = job c.args.grammar.now c.args.record.now (length c.args.main.now) c.args.second in
-    readable j c.resume-begun.new.opened.table c.resume-begun.new.opened.text c.args.main.now _ _
+    readable j c.resume-begun.new.space.table c.resume-begun.new.space.text c.args.main.now _ _
     c.in-Ok.ensures refl (search rules)
 
 pub overflow_add-done : goal.overflow_add-done

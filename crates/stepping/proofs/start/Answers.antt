@@ -8,7 +8,7 @@ use Rattle.stepping.proofs.start.Goals as goal
 pub returns-in-Err : goal.returns-in-Err
 returns-in-Err c =
     let j = job c.args.grammar.now c.args.record.now (length c.args.main.now) c.args.second in
-    started-refused j c.begin.new.opened.table c.begin.new.opened.text _ _ c.in-Err.why _ c.in-Err.ensures c.refuse.ensures c.wipe.ensures
+    started-refused j c.begin.new.space.table c.begin.new.space.text _ _ c.in-Err.why _ c.in-Err.ensures c.refuse.ensures c.wipe.ensures
 
 pub need-need-requires : goal.need-need-requires
 need-need-requires c =
