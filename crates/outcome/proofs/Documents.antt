@@ -21,7 +21,8 @@ use Rattle.derive.specs.Pick.{found}
 use Rattle.xml.specs.Document.{Xml as Document, document, mark_of, twice, misnamed, unwritable, is_attribute, not_one, namespaced}
 use Rattle.xml.specs.Bytes.{bytes}
 use Rattle.answer.specs.Answer.{Job, Shown, as_xml}
-use Rattle.answer.specs.Compute.{fault_in, value, places_at, job_values, Outcome, outcome, Test, first_of, Finder, Marker, document_tests_of, long_test_by, found_result, result_with, tree_of, mismatch}
+use Rattle.answer.specs.Compute.{fault_in, value, places_at, job_values, Outcome, outcome, Test, first_of, Finder, Marker}
+use Rattle.answer.specs.Compute.{document_tests_of, long_test_by, found_result, result_with, tree_of, mismatch}
 use Rattle.answer.proofs.Noted.{value-skip, placeless}
 use Rattle.exported.specs.declared.Refusal.{Refusal}
 use Rattle.dynamic_errors.specs.Judgment.{topmost, judgment_of}

@@ -7,11 +7,13 @@ use Rattle.uncut.proofs.convert.Goals as goal
 pub give_xml-requires : goal.give_xml-requires
 give_xml-requires c =
     let args = c.args in
+    let p = c.parse_record-parsed in
     let j = job args.grammar.now args.record.now (length args.main.now) args.second in
-    named j c.parse_record-parsed.new.space.table c.parse_record-parsed.new.space.text c.parse_record-parsed.new.parse c.parse_record-parsed.result c.parse_record-parsed.ensures (search rules)
+    named j p.new.space.table p.new.space.text p.new.parse p.result p.ensures (search rules)
 
 pub returns : goal.returns
 returns c =
     let args = c.args in
+    let p = c.parse_record-parsed in
     let j = job args.grammar.now args.record.now (length args.main.now) args.second in
-    convert-given j _ c.parse_record-parsed.new.space.table c.parse_record-parsed.new.space.text c.parse_record-parsed.new.parse c.parse_record-parsed.result c.parse_record-parsed.ensures _ _ c.give_xml.ensures
+    convert-given j _ p.new.space.table p.new.space.text p.new.parse p.result p.ensures _ _ c.give_xml.ensures
