@@ -98,7 +98,14 @@ pub fn ixml_judge(
     };
     let rules = start.rules;
     let chars = start.chars.0;
-    outcome::conclude_list(&space.table, rules, list, &space.text[..chars], scratch, res)
+    outcome::conclude_list(
+        &space.table,
+        rules,
+        list,
+        &space.text[..chars],
+        scratch,
+        res,
+    )
 }
 
 // Tidies a grammar.

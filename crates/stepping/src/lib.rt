@@ -50,14 +50,7 @@ pub fn round(
         main.new state.new }
 {
     let mut space = Workspace::new();
-    let begun = resume::resume(
-        state,
-        grammar,
-        record,
-        main.len(),
-        second,
-        &mut space,
-    );
+    let begun = resume::resume(state, grammar, record, main.len(), second, &mut space);
     let start = match begun {
         Ok(start) => start,
         Err(why) => return resume::refuse(why, 0),

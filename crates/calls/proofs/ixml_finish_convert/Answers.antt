@@ -8,9 +8,11 @@ use Rattle.calls.proofs.ixml_finish_convert.Goals as goal
 
 pub end_read-ended-requires : goal.end_read-ended-requires
 end_read-ended-requires c =
-    let j = job c.args.grammar.now c.args.record.now (length c.args.main.now) (length c.args.second.now) in
-    (prepared j c.args.state.now c.resume-begun.new.space.table c.resume-begun.new.space.text _ _ c.resume-begun.result c.resume-begun.ensures
-    refl (search rules), search rules)
+    let j = job c.args.grammar.now c.args.record.now (length c.args.main.now) (length c.args.second.now) in (
+      prepared j c.args.state.now c.resume-begun.new.space.table c.resume-begun.new.space.text _ _ c.resume-begun.result c.resume-begun.ensures
+          refl (search rules),
+      search rules,
+    )
 
 pub give_xml-answer-requires : goal.give_xml-answer-requires
 give_xml-answer-requires c =
