@@ -2,6 +2,8 @@
 use Rattle.std.proofs.Common.{◌≡◌, ℕ, ◌+◌, ◌-◌, ◌≤◌, List, ◌++◌, length, take, slice_range, arith, sym, ap, ◌∙◌, subst, drop_at, length-take-le}
 use Rattle.std.specs.declared.option.Option.{Option}
 use Rattle.std.specs.Io.KnownBytes.{Consumes}
+use Rattle.std.specs.Prelude.{Some, Ok}
+use Rattle.cli.specs.Output.{Chunked, Fetched}
 use Rattle.std.proofs.KnownBytes.{Consumes-trans}
 use borrow.Rule.Slice.PartMut.{put_mid, post_of}
 use lib.Seq.{take_at, take-add, take-append-le}
@@ -28,3 +30,12 @@ pub read_more : (before mid after : Option (List ℕ)) (old new : List ℕ) (at 
     → Consumes before mid (take at old) → Consumes mid after (slice_range new at next)
     → Consumes before after (take next new)
 read_more before mid after old new at next h kept first second = subst (Consumes before after) (take_split at next old new h kept) (Consumes-trans before mid after _ _ first second)
+
+-- the same of what a read answers
+pub one_more : {E : Type 0} (before mid after : Option (List ℕ)) (old new : List ℕ) (at next : ℕ) (t : Option ℕ) → t ≡ Some next
+    → Chunked {E = E} (Ok t) at old new → Fetched {E = E} (Ok t) at new mid after → Consumes before mid (take at old)
+    → (next ≤ length new) × Consumes before after (take next new)
+one_more {E = E} before mid after old new at next t q h f r =
+    let c = subst (λ (u : Option ℕ). Chunked {E = E} (Ok u) at old new) q h in
+    let g = subst (λ (u : Option ℕ). Fetched {E = E} (Ok u) at new mid after) q f in
+    (c.onwards.1, read_more before mid after old new at next (omega (arith, c.onwards.0)) c.kept r g)

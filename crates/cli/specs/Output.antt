@@ -1,11 +1,29 @@
 -- What the program makes of two files: what it sees of each, and the bytes that it writes.
-use Rattle.std.specs.Prelude.{Bool, false, ◌≡◌, List, ◌++◌, ℕ, ◌+◌, ◌≤◌, ◌<◌, eqb, length, take, replicate, Option, None, Some}
-use Rattle.std.specs.Io.KnownBytes.{Appends}
+use Rattle.std.specs.Prelude.{Bool, false, ◌≡◌, List, ◌++◌, ℕ, ◌+◌, ◌≤◌, ◌<◌, eqb, length, take, slice_range, replicate, Option, None, Some, Result, Ok, Err}
+use Rattle.std.specs.Io.KnownBytes.{Consumes, Keeps, IsAtEnd, Appends}
 use Rattle.text.specs.Limits.{file_bytes, program_bytes}
 use Rattle.text.specs.Lists.{Text, chars, pick}
 use Rattle.answer.specs.Answer.{Answer}
 use Rattle.answer.specs.Compute.{Outcome, convert_of}
 use Rattle.answer.specs.Program.{File, unreadable, bytes, decimal, fail_state, fail_document, Writes, shows, program_job}
+
+-- a read at a place of a buffer moves on within it, or ends
+abbrev pub Onwards : {E : Type 0} → Result (Option ℕ) E → ℕ → ℕ → Type 0
+Onwards (Ok (Some next)) at m = (at < next) × (next ≤ m)
+Onwards (Ok None) at m = Unit {0}
+Onwards (Err e) at m = Unit {0}
+
+-- what was in the buffer before that place is kept
+pub record Chunked {E : Type 0} (t : Result (Option ℕ) E) (at : ℕ) (old new : List ℕ) : Type 0 where
+  pub onwards : Onwards t at (length new)
+  pub kept : take at new ≡ take at old
+
+-- what a read at a place consumed of a reader's bytes, where these are known: what it put there; at the end of the file none are left, and a
+-- read that failed consumed none
+abbrev pub Fetched : {E : Type 0} → Result (Option ℕ) E → ℕ → List ℕ → Option (List ℕ) → Option (List ℕ) → Type 0
+Fetched (Ok (Some next)) at new before after = Consumes before after (slice_range new at next)
+Fetched (Ok None) at new before after = Keeps before after × (at < length new → IsAtEnd after)
+Fetched (Err e) at new before after = Keeps before after
 
 -- a text put after the first `at` bytes of a buffer, up to place r
 pub record Put (text : List ℕ) (at : ℕ) (old new : List ℕ) (r : ℕ) : Type 0 where

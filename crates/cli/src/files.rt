@@ -1,5 +1,6 @@
 // The files that arguments name, and the first bytes of one.
 ghost use Rattle.std.specs.Prelude.{◌≡◌, ◌≤◌, IfOk, IfSome, length, take};
+ghost use Rattle.cli.specs.Output.{Chunked, Fetched};
 
 use std::env::FillError;
 use std::io::{ErrorKind, Read};
@@ -58,6 +59,18 @@ impl<H: Env + Files> Read for NamedFile<'_, H> {
     }
 }
 
+// Reads once, into the buffer from a place on; what stands before it is kept. Where what was read ends, or none at the end of the file.
+fn read_some<R: Read>(reader: &mut R, buf: &mut [u8], at: usize) -> io::Result<Option<usize>>
+    requires { at ≤ length buf.old }
+    ensures chunked { Chunked result at buf.old buf.new }
+    ensures fetched { Fetched result at buf.new (R.remaining reader.old) (R.remaining reader.new) }
+{
+    match reader.read(&mut buf[at..])? {
+        0 => Ok(None),
+        n => Ok(Some(at + n)),
+    }
+}
+
 // Reads until the buffer is full or the file ends; how many bytes there were.
 fn fill<R: Read>(reader: &mut R, buf: &mut [u8]) -> io::Result<usize>
     ensures bound { IfOk result (λ n. n ≤ length buf.new) }
@@ -65,11 +78,10 @@ fn fill<R: Read>(reader: &mut R, buf: &mut [u8]) -> io::Result<usize>
 {
     let mut done = 0;
     while done < buf.len() {
-        let n = reader.read(&mut buf[done..])?;
-        if n == 0 {
+        let Some(next) = read_some(reader, buf, done)? else {
             return Ok(done);
-        }
-        done += n;
+        };
+        done = next;
     }
     Ok(done)
 }

@@ -7,7 +7,7 @@ ghost use Rattle.std.specs.Prelude.{◌≡◌, ◌+◌, ◌<◌, ◌≤◌, leng
 ghost use Rattle.text.specs.Faults.{marked as begun, after_mark};
 ghost use Rattle.decode.specs.Scan.{test_of, Scans};
 ghost use Rattle.decode.specs.Whole.{Decodes};
-ghost use Rattle.decode.specs.Refused.{why_of};
+ghost use Rattle.decode.specs.Refused.{why_of, why_decoded};
 
 use crate::sequence::{NEVER, follows, lead_of, with_byte};
 use text::Diagnostic;
@@ -169,4 +169,19 @@ pub fn decode_grammar(bytes: &[u8], out: &mut [u32]) -> Result<CharPlace, Decode
     ensures { Decodes bytes.now (after_mark bytes.now) out.old result out.new }
 {
     decode_from(bytes, after_mark(bytes), out)
+}
+
+// The refusal of a text that is not decoded, by the numbers for what is not UTF-8 and for a character outside the alphabet. One that is has
+// none.
+pub fn why_refused(
+    decoded: Result<CharPlace, DecodeError>,
+    malformed: u32,
+    outside: u32,
+) -> Diagnostic
+    ensures { result ≡ why_decoded malformed outside decoded }
+{
+    match decoded {
+        Ok(_) => text::plain(text::refusals::ANSWERED),
+        Err(e) => e.diagnostic(malformed, outside),
+    }
 }

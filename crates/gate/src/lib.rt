@@ -77,6 +77,19 @@ pub enum GateRefusal {
     OutOfRange,
 }
 
+impl GateRefusal {
+    // The number of the refusal.
+    pub fn number(self) -> u32
+        ensures { result ≡ refusal_number self }
+    {
+        match self {
+            GateRefusal::UnsoundGate => UNSOUND_GATE,
+            GateRefusal::NoNumber => NO_NUMBER,
+            GateRefusal::OutOfRange => OUT_OF_RANGE,
+        }
+    }
+}
+
 // A ruling as it is exported: 0 and a verdict by its number, or a refusal and no verdict.
 #[repr(C)]
 #[derive(Clone, Copy)]
@@ -236,16 +249,6 @@ fn number_of(verdict: Verdict) -> u32
     }
 }
 
-fn number_of_refusal(refusal: GateRefusal) -> u32
-    ensures { result ≡ refusal_number refusal }
-{
-    match refusal {
-        GateRefusal::UnsoundGate => UNSOUND_GATE,
-        GateRefusal::NoNumber => NO_NUMBER,
-        GateRefusal::OutOfRange => OUT_OF_RANGE,
-    }
-}
-
 fn shown(ruling: Result<Verdict, GateRefusal>) -> GateAnswer
     ensures { result ≡ shows ruling }
 {
@@ -255,7 +258,7 @@ fn shown(ruling: Result<Verdict, GateRefusal>) -> GateAnswer
             verdict: number_of(verdict),
         },
         Err(refusal) => GateAnswer {
-            number: number_of_refusal(refusal),
+            number: refusal.number(),
             verdict: NO_VERDICT,
         },
     }

@@ -8,7 +8,7 @@ mod strings;
 ghost use Rattle.std.specs.Prelude.{◌≡◌, ◌-◌, ◌≤◌, length};
 ghost use Rattle.syntax.specs.Lexical.{read-string, quoted};
 ghost use Rattle.spacing.specs.Answers.{Room, headed};
-ghost use Rattle.lexical.specs.Answers.{Space, After-chars, Headable, Tokenable, Chars-token, After-name, After-chars-token, After-mark};
+ghost use Rattle.lexical.specs.Answers.{Space, After-chars, Headable, Tokenable, Chars-token, Tokenable-if, Chars-token-if, After-name, After-chars-token, After-mark};
 
 use crate::numbers::hex;
 use crate::strings::string;
@@ -50,14 +50,8 @@ pub fn head(out: &mut [u32], at: Cell, k: u32, end: Cell)
     out[j + 1] = (b - (j + HEAD)) as u32;
 }
 
-// A token for characters; where they end in the text, and it in the table.
-pub fn chars_token(
-    c: Characters,
-    quoted: u32,
-    coded: u32,
-    out: &mut [u32],
-    at: Cell,
-) -> (CharPlace, Cell)
+// Writes a token for characters; where they end in the text, and it in the table.
+fn put_chars(c: Characters, quoted: u32, coded: u32, out: &mut [u32], at: Cell) -> (CharPlace, Cell)
     requires { Tokenable c out.old at.0 }
     ensures { Chars-token c quoted coded out.old at.0 result out.new }
 {
@@ -75,6 +69,21 @@ pub fn chars_token(
     }
 }
 
+// A token for characters, if there are some.
+pub fn chars_token(
+    c: Option<Characters>,
+    quoted: u32,
+    coded: u32,
+    out: &mut [u32],
+    at: Cell,
+) -> Option<(CharPlace, Cell)>
+    requires { Tokenable-if c out.old at.0 }
+    ensures { Chars-token-if c quoted coded out.old at.0 result out.new }
+{
+    let c = c?;
+    Some(put_chars(c, quoted, coded, out, at))
+}
+
 // Reads characters as a token: a string of the kind `quoted`, a hex number of the kind `coded`.
 pub fn read_chars(
     text: &[u32],
@@ -89,7 +98,7 @@ pub fn read_chars(
 {
     let j = at.0;
     let c = chars(text, p, out, Cell(j + HEAD))?;
-    Some(chars_token(c, quoted, coded, out, at))
+    Some(put_chars(c, quoted, coded, out, at))
 }
 
 // Reads a string as a token of a kind.

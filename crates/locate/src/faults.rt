@@ -62,7 +62,7 @@ fn at_fault(
 {
     match rule {
         StaticError::RepeatedRule => repeats(table, k, index, before),
-        _ => static_errors::breaks(table, k, index, n, rule, 0),
+        _ => static_errors::breaks(table, k, index, n, rule.number(), 0),
     }
 }
 

@@ -67,6 +67,19 @@ need_of s = table_need s.rules.size s.chars.0
 abbrev pub Small : Start → Type 0
 Small s = (s.rules.size ≤ most_size) × (s.chars.0 ≤ record_chars)
 
+-- the same of what opening answers: a refusal stays, and needs no numbers
+abbrev pub lending_of : Result Start Diagnostic → Bool → Result Start Diagnostic
+lending_of (Ok s) b = lending s b
+lending_of (Err d) b = Err d
+
+abbrev pub need_opened : Result Start Diagnostic → ℕ
+need_opened (Ok s) = need_of s
+need_opened (Err d) = 0
+
+abbrev pub Fitting : Result Start Diagnostic → Type 0
+Fitting (Ok s) = Small s
+Fitting (Err d) = Unit
+
 abbrev pub NotBegun : Need → Job → Diagnostic → Type 0
 NotBegun need j = Stopped (λ ts. first_of (grammar_tests j.grammar (need_tests need j ts))) j
 

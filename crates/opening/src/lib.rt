@@ -5,7 +5,7 @@
 ghost use Rattle.std.specs.Prelude.{◌≡◌, ◌||◌, ◌*◌, ◌<◌, ltb, length, replicate};
 ghost use Rattle.text.specs.Limits.{grammar_table, record_chars};
 ghost use Rattle.answer.specs.Answer.{job};
-ghost use Rattle.opening.specs.Stages.{Takes, Opens, Small, need_of, lending, Begins, BeginsBy};
+ghost use Rattle.opening.specs.Stages.{Takes, Opens, Small, need_of, lending, Fitting, need_opened, lending_of, Begins, BeginsBy};
 
 use accept::Rules;
 use text::{CharPlace, Diagnostic, limits, refusals};
@@ -62,10 +62,29 @@ pub fn open_job(grammar: &[u8], record: &[u8], space: &mut Workspace) -> Result<
     Ok(Start { rules, chars })
 }
 
-// 15: the first table is shorter than its need, or the second too short.
-fn lend(start: Start, first: usize, need: usize, second: usize) -> Result<Start, Diagnostic>
-    ensures { result ≡ lending start (ltb first need || ltb second grammar_table) }
+// The numbers that the main table needs, of a job that is opened.
+pub fn need_of(opened: Result<Start, Diagnostic>) -> usize
+    requires { Fitting opened }
+    ensures { result ≡ need_opened opened }
 {
+    let Ok(start) = opened else {
+        return 0;
+    };
+    let rules = start.rules;
+    let chars = start.chars;
+    room::need(rules.size, chars.0)
+}
+
+// 15: the first table is shorter than its need, or the second too short. A refusal stays.
+pub fn lend(
+    opened: Result<Start, Diagnostic>,
+    first: usize,
+    need: usize,
+    second: usize,
+) -> Result<Start, Diagnostic>
+    ensures { result ≡ lending_of opened (ltb first need || ltb second grammar_table) }
+{
+    let start = opened?;
     if room::too_short(first, need, second) {
         return Err(text::plain(refusals::TABLE_TOO_SHORT));
     }
@@ -77,10 +96,8 @@ pub fn lend_main(start: Start, main: usize, second: usize) -> Result<Start, Diag
     requires { Small start }
     ensures { result ≡ lending start (ltb main (need_of start) || ltb second grammar_table) }
 {
-    let rules = start.rules;
-    let chars = start.chars;
-    let need = room::need(rules.size, chars.0);
-    lend(start, main, need, second)
+    let need = need_of(Ok(start));
+    lend(Ok(start), main, need, second)
 }
 
 // 1 to 15, and 24, of a job that is read. The lent tables are known by their lengths.
@@ -110,5 +127,5 @@ pub fn begin_list(
     ensures { BeginsBy (λ g r. 2 * numbers) (job grammar.now «record».now scratch second) space.new.table space.new.text result }
 {
     let start = open_job(grammar, record, space)?;
-    lend(start, scratch, NOTE_COLUMNS * numbers, second)
+    lend(Ok(start), scratch, NOTE_COLUMNS * numbers, second)
 }

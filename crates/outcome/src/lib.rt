@@ -2,7 +2,7 @@
 #![tactic(auto)]
 
 ghost use Rattle.std.specs.Prelude.{◌≡◌};
-ghost use Rattle.outcome.specs.Outcome.{answer_of};
+ghost use Rattle.outcome.specs.Outcome.{answer_by, answer_of};
 ghost use Rattle.outcome.specs.Given.{Counted, GivesNumbers, Named, GivesXml, Tokened, tidied_of, GivesTidy};
 ghost use Rattle.outcome.specs.Judging.{Judgeable, Concluded};
 
@@ -14,16 +14,30 @@ use markup::StateWords;
 use text::{Diagnostic, refusals};
 use tidy_text::TidyError;
 
-// The answer to XML that is written, or refused.
-pub fn answer_to(converted: Result<usize, ConvertError>, ambiguous: bool, mismatch: bool) -> Answer
-    ensures { result ≡ answer_of converted ambiguous mismatch }
+// The answer to XML that is written, or refused with a number.
+pub fn answer_to(converted: Result<usize, u32>, ambiguous: bool, mismatch: bool) -> Answer
+    ensures { result ≡ answer_by converted ambiguous mismatch }
 {
     match converted {
         Ok(length) => answered(length, ambiguous, mismatch),
-        Err(error) => refuse(Refusal {
-            why: text::plain(error.number()),
+        Err(number) => refuse(Refusal {
+            why: text::plain(number),
             mismatch,
         }),
+    }
+}
+
+// The same of converting's own refusals.
+fn answer_to_converted(
+    converted: Result<usize, ConvertError>,
+    ambiguous: bool,
+    mismatch: bool,
+) -> Answer
+    ensures { result ≡ answer_of converted ambiguous mismatch }
+{
+    match converted {
+        Ok(length) => answer_to(Ok(length), ambiguous, mismatch),
+        Err(error) => answer_to(Err(error.number()), ambiguous, mismatch),
     }
 }
 
@@ -72,7 +86,7 @@ pub fn give_xml(
         found.mismatch,
         res,
     );
-    answer_to(converted, found.ambiguous, found.mismatch)
+    answer_to_converted(converted, found.ambiguous, found.mismatch)
 }
 
 // A list that names no derivation of the record.
@@ -96,7 +110,7 @@ pub fn conclude_list(
             mismatch: rules.mismatch,
         };
         let converted = convert::conclude(table, rules.root, list, record, due, scratch, res);
-        return answer_to(converted, false, rules.mismatch);
+        return answer_to_converted(converted, false, rules.mismatch);
     }
     refuse(Refusal::from(text::plain(NOT_A_DERIVATION)))
 }

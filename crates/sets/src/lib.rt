@@ -84,7 +84,7 @@ fn chars_member(text: &[u32], p: CharPlace, out: &mut [u32], at: Cell) -> Option
         let (_, e) = range_head(c, out, at)?;
         return range_rest(text, w, out, e);
     }
-    let (_, b) = chars_token(c, MEMBER_QUOTED, MEMBER_CODED, out, at);
+    let (_, b) = chars_token(Some(c), MEMBER_QUOTED, MEMBER_CODED, out, at)?;
     Some((w, b))
 }
 

@@ -197,10 +197,9 @@ fn wake_all(
         let dot = text::wide(column[WAKES + k]);
         let y = cell(s.n.0, dot, s.i.0, s.j.0);
         let height = main[y];
-        if height == NONE {
-            continue;
+        if height != NONE {
+            wake(code, marks, notes, main, queue, Offer { dot, height }, s);
         }
-        wake(code, marks, notes, main, queue, Offer { dot, height }, s);
     }
 }
 

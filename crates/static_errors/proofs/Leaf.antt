@@ -1,7 +1,7 @@
 -- One token at a place of a table, and what its form makes of it.
 use mathlib.Core.Path.{◌≡◌, refl, sym, ap, ◌∙◌}
 use mathlib.Core.Bool.{Bool, true, false, not, ◌||◌}
-use mathlib.Core.List.{List, []}
+use mathlib.Core.List.{List, [], ◌∷◌}
 use Prim.Native.Nat.{ℕ, ◌+◌, ◌≤◌}
 use native.Mathlib.Omega.{arith}
 use native.Mathlib.Decide.{ℕ_discrete}
@@ -118,3 +118,12 @@ either_left a b e = rw e
 
 pub either-right : (a b : Bool) → a ≡ false → b ≡ a || b
 either-right a b e = rw e
+
+-- all numbers but 7 ask for surrogates and noncharacters
+unassigned : (r : ℕ) → (r ≡ 7 → ⊥) → (vs : List ℕ) → any (bad_code r) vs ≡ any (bad_code 8) vs
+unfolding bad_code
+unassigned r n [] = refl
+unassigned r n (v ∷ vs) = rw (ne_eqb r 7 n, unassigned r n vs) refl
+
+pub no_hex : (r : ℕ) → (r ≡ 7 → ⊥) → (p : Part) → bad_codes r p ≡ bad_codes 8 p
+no_hex r n p = unassigned r n (codes_in p)

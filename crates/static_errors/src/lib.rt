@@ -167,27 +167,34 @@ fn breaks_any(table: &[u32], k: usize, index: &[u32], n: usize, guess: usize) ->
     }
 }
 
-// The token at k breaks the rule; 6 is judged by the list alone. `guess` is a place of the list at which a name is looked for first.
-pub fn breaks(
-    table: &[u32],
-    k: usize,
-    index: &[u32],
-    n: usize,
-    rule: StaticError,
-    guess: usize,
-) -> bool
+// The number that stands for any of them.
+const ANY: u32 = 0;
+
+// The token at k breaks the rule of that number, or any; 6 is judged by the list alone. `guess` is a place of the list at which a name is
+// looked for first.
+pub fn breaks(table: &[u32], k: usize, index: &[u32], n: usize, rule: u32, guess: usize) -> bool
     requires { Looking table.now k index.now n }
-    ensures { result ≡ failing (rule_number rule) (names_at table.now (take n index.now)) (part_at table.now k) }
+    ensures { result ≡ failing rule (names_at table.now (take n index.now)) (part_at table.now k) }
 {
-    match rule {
-        StaticError::UndefinedName => lacks(table, k, index, n, guess),
-        StaticError::BackwardRange => runs_back(table, k),
-        StaticError::UnknownClass => no_class(table, k),
-        _ => bad_codes(table, k, rule),
+    if rule == refusals::UNDEFINED_NAME {
+        return lacks(table, k, index, n, guess);
     }
+    if rule == refusals::BACKWARD_RANGE {
+        return runs_back(table, k);
+    }
+    if rule == refusals::UNKNOWN_CLASS {
+        return no_class(table, k);
+    }
+    if rule == ANY {
+        return breaks_any(table, k, index, n, guess);
+    }
+    if rule == refusals::HEX_TOO_LARGE {
+        return bad_codes(table, k, StaticError::HexTooLarge);
+    }
+    bad_codes(table, k, StaticError::HexNoCharacter)
 }
 
-// The same, or any of these rules where none is given.
+// The same of a rule, or of any where none is given.
 fn breaks_asked(
     table: &[u32],
     k: usize,
@@ -200,7 +207,7 @@ fn breaks_asked(
     ensures { result ≡ failing (asked_number rule) (names_at table.now (take n index.now)) (part_at table.now k) }
 {
     match rule {
-        Some(rule) => breaks(table, k, index, n, rule, guess),
+        Some(rule) => breaks(table, k, index, n, rule.number(), guess),
         None => breaks_any(table, k, index, n, guess),
     }
 }

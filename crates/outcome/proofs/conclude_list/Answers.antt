@@ -11,7 +11,7 @@ conclude-converted-requires c =
 
 pub returns-then-judge_list : goal.returns-then-judge_list
 returns-then-judge_list c =
-    concluded-list c.requires c.judge_list.ensures c.if-judge_list.true c.conclude-converted.ensures c.answer_to.ensures
+    concluded-list c.requires c.judge_list.ensures c.if-judge_list.true c.conclude-converted.ensures c.answer_to_converted.ensures
 
 pub returns : goal.returns
 returns c =

@@ -69,4 +69,4 @@ returns c =
     let pre = c.requires in
     chars-member args.text.now args.p.0 _ _ pre.0 pre.1 _ c.chars.auto.out _ c.in_ok-c.ensures _
     c.in_ok-w.ensures (not-ch c.peek.ensures 0x2d c.if-peek-eq-HYPHEN.false) _ _
-    c.chars_token.ensures
+    c.in_ok-b.ensures

@@ -1,29 +1,49 @@
-use borrow.Author.Tests.{ne_eqb}
-use Rattle.static_errors.specs.declared.StaticError.TheVariants.{UndefinedName, BackwardRange, UnknownClass}
-use Rattle.static_errors.specs.Held.{rule_number}
-use Rattle.static_errors.specs.Parts.{failing}
-use Rattle.static_errors.proofs.Rulings.{rule_one, some-rule}
+use borrow.Author.Tests.{eq-eqb, ne_eqb}
+use Rattle.static_errors.specs.Parts.{part_at, failing}
+use Rattle.static_errors.proofs.Leaf as law
 use Rattle.static_errors.proofs.breaks.Goals as goal
 
-pub returns-in-UndefinedName : goal.returns-in-UndefinedName
+pub returns-then-rule-eq-UNDEFINED_NAME : goal.returns-then-rule-eq-UNDEFINED_NAME
 unfolding failing
-returns-in-UndefinedName c = rw c.in-UndefinedName.is c.lacks.ensures
+returns-then-rule-eq-UNDEFINED_NAME c = rw (eq-eqb _ 5 c.if-rule-eq-UNDEFINED_NAME.true) c.lacks.ensures
 
-pub returns-in-BackwardRange : goal.returns-in-BackwardRange
+pub returns-then-rule-eq-BACKWARD_RANGE : goal.returns-then-rule-eq-BACKWARD_RANGE
 unfolding failing
-returns-in-BackwardRange c = rw c.in-BackwardRange.is c.runs_back.ensures
+returns-then-rule-eq-BACKWARD_RANGE c = rw (ne_eqb _ 5 c.if-rule-eq-UNDEFINED_NAME.false, eq-eqb _ 9 c.if-rule-eq-BACKWARD_RANGE.true) c.runs_back.ensures
 
-pub returns-in-UnknownClass : goal.returns-in-UnknownClass
+pub returns-then-rule-eq-UNKNOWN_CLASS : goal.returns-then-rule-eq-UNKNOWN_CLASS
 unfolding failing
-returns-in-UnknownClass c = rw c.in-UnknownClass.is c.no_class.ensures
+returns-then-rule-eq-UNKNOWN_CLASS c =
+    rw (ne_eqb _ 5 c.if-rule-eq-UNDEFINED_NAME.false, ne_eqb _ 9 c.if-rule-eq-BACKWARD_RANGE.false, eq-eqb _ 10 c.if-rule-eq-UNKNOWN_CLASS.true) c.no_class.ensures
 
-pub returns-in_default : goal.returns-in_default
+pub returns-then-rule-eq-ANY : goal.returns-then-rule-eq-ANY
 unfolding failing
-returns-in_default c =
-    let r = c.args.rule in
+returns-then-rule-eq-ANY c =
     rw (
-      ne_eqb (rule_number r) 5 (λ z. c.in_default.not-UndefinedName (rule_one r UndefinedName z)),
-      ne_eqb (rule_number r) 9 (λ z. c.in_default.not-BackwardRange (rule_one r BackwardRange z)),
-      ne_eqb (rule_number r) 10 (λ z. c.in_default.not-UnknownClass (rule_one r UnknownClass z)),
-      ne_eqb (rule_number r) 0 (some-rule r),
+      ne_eqb _ 5 c.if-rule-eq-UNDEFINED_NAME.false,
+      ne_eqb _ 9 c.if-rule-eq-BACKWARD_RANGE.false,
+      ne_eqb _ 10 c.if-rule-eq-UNKNOWN_CLASS.false,
+      eq-eqb _ 0 c.if-rule-eq-ANY.true,
+    ) c.breaks_any.ensures
+
+pub returns-then-rule-eq-HEX_TOO_LARGE : goal.returns-then-rule-eq-HEX_TOO_LARGE
+unfolding failing
+returns-then-rule-eq-HEX_TOO_LARGE c =
+    rw (
+      ne_eqb _ 5 c.if-rule-eq-UNDEFINED_NAME.false,
+      ne_eqb _ 9 c.if-rule-eq-BACKWARD_RANGE.false,
+      ne_eqb _ 10 c.if-rule-eq-UNKNOWN_CLASS.false,
+      ne_eqb _ 0 c.if-rule-eq-ANY.false,
+      c.if-rule-eq-HEX_TOO_LARGE.true,
     ) c.bad_codes.ensures
+
+pub returns : goal.returns
+unfolding failing
+returns c =
+    rw (
+      ne_eqb _ 5 c.if-rule-eq-UNDEFINED_NAME.false,
+      ne_eqb _ 9 c.if-rule-eq-BACKWARD_RANGE.false,
+      ne_eqb _ 10 c.if-rule-eq-UNKNOWN_CLASS.false,
+      ne_eqb _ 0 c.if-rule-eq-ANY.false,
+      law.no_hex c.args.rule c.if-rule-eq-HEX_TOO_LARGE.false (part_at c.args.table.now c.args.k),
+    ) c.bad_codes-2.ensures

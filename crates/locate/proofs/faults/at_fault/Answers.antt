@@ -13,4 +13,4 @@ returns-in-RepeatedRule c = at-6 _ _ _ _ c.repeats.result (ap rule_number c.in-R
 
 pub returns-in_default : goal.returns-in_default
 returns-in_default c =
-    at_other _ _ _ _ c.breaks.result (λ z. c.in_default.not-RepeatedRule (rule_one c.args.rule RepeatedRule z)) c.breaks.ensures
+    at_other _ _ _ _ c.breaks.result (λ z. c.in_default.not-RepeatedRule (rule_one c.args.rule RepeatedRule z)) (rw (← c.number.ensures) c.breaks.ensures)
