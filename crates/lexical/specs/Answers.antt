@@ -86,7 +86,7 @@ abbrev pub Chars-token : Characters → ℕ → ℕ → List ℕ → ℕ → Cha
 Chars-token (Quoted q e) a b o at r o' = Written r.0 r.1 q.0 e.0 o' (headed o at a e.0)
 Chars-token (Coded q v) a b o at r o' = Written r.0 r.1 q.0 (at + 2) o' (set (set o at b) (at + 1) v)
 
--- The same where there may be no characters.
+-- The same where there may be no characters: then there is no token, and no cell is written.
 abbrev pub Tokenable-if : Option Characters → List ℕ → ℕ → Type 0
 Tokenable-if (Some c) o at = Tokenable c o at
 Tokenable-if None o at = Unit {0}
@@ -94,7 +94,7 @@ Tokenable-if None o at = Unit {0}
 abbrev pub Chars-token-if : Option Characters → ℕ → ℕ → List ℕ → ℕ → Step → List ℕ → Type 0
 Chars-token-if (Some c) a b o at (Some r) o' = Chars-token c a b o at r o'
 Chars-token-if (Some c) a b o at None o' = ⊥
-Chars-token-if None a b o at r o' = r ≡ None
+Chars-token-if None a b o at r o' = (r ≡ None) × (o' ≡ o)
 
 -- A name or a string as a token of the kind k.
 abbrev pub counted_code : ℕ → Text → List ℕ

@@ -170,8 +170,8 @@ fn breaks_any(table: &[u32], k: usize, index: &[u32], n: usize, guess: usize) ->
 // The number that stands for any of them.
 const ANY: u32 = 0;
 
-// The token at k breaks the rule of that number, or any; 6 is judged by the list alone. `guess` is a place of the list at which a name is
-// looked for first.
+// The token at k breaks the rule of that number, or any. 6 is no rule of a token: it and all numbers that no rule has are taken for 8.
+// `guess` is a place of the list at which a name is looked for first.
 pub fn breaks(table: &[u32], k: usize, index: &[u32], n: usize, rule: u32, guess: usize) -> bool
     requires { Looking table.now k index.now n }
     ensures { result ≡ failing rule (names_at table.now (take n index.now)) (part_at table.now k) }
